@@ -175,7 +175,7 @@ module _ {P E : Type 0} (m : AbstractMachine P E) (c : Chain) (h : List (Event P
     swap_others j q Rest nj ne f = (ne, f)
     swap_others j q (Cleared x) nj ne f =
         let apart : x ≢ r = λ s. nj (ready_one f.ready (ap c.owner s ∙ was.ready)) in
-        ready_with f ((ne, f.settled)) (put_other c.owner r Shared x apart ∙ f.ready) f.null f.full
+        ready_with f (ne, f.settled) (put_other c.owner r Shared x apart ∙ f.ready) f.null f.full
     swap_others j q (Swapped x old) nj ne f =
         let within = at_within c.rooms (suc f.at) x f.room_at in
         let ranks = rank_more c.rooms (r ∷ []) (suc f.at) (omega arith) in record {
@@ -287,7 +287,7 @@ module _ {P E : Type 0} (m : AbstractMachine P E) (c : Chain) (h : List (Event P
         let apart : f.at ≢ link.at = λ s.
         let mine = subst (λ n. IsPendingAt p.name (rank c.rooms (suc n)) h) (sym s) link.pending in
         ne (pending_one h q p.name (rank c.rooms (suc f.at)) f.pending mine) in
-        open_with f (stays_none o (not_old f.at o f.old_at apart) f.null) ((ne, f.pending))
+        open_with f (stays_none o (not_old f.at o f.old_at apart) f.null) (ne, f.pending)
     link_others j q (Holding t) ne f = link_keeper j q t f
     link_others j q StubNull ne f =
         record { keeps = link_keeper j q 0 f.keeps; looked = f.looked; blocked = λ s. inr (f.blocked s) }

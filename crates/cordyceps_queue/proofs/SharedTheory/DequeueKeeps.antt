@@ -36,7 +36,10 @@ use Rattle.cordyceps_queue.proofs.CoreTheory.OtherParties.{joined_put, names_put
 use Rattle.cordyceps_queue.proofs.CoreTheory.ProducerSteps.{spare_shared, ready_shared, shared_pooled}
 use Rattle.cordyceps_queue.proofs.CoreTheory.ChainShrinks.{at_down, real_first, tail_full, tail_away, second}
 use Rattle.cordyceps_queue.proofs.SharedTheory.SeatNames.{few_rooms}
-use Rattle.cordyceps_queue.proofs.SharedTheory.WordsAsMachine.{links_same, next_low, none_cleared, keeps_rule, rooms_of, empties, empties_same, readies, readies_same, linkeds_low, linkeds_same, chain_near, LeavesPool, Becomes, Comes as Keeping}
+use Rattle.cordyceps_queue.proofs.SharedTheory.WordsAsMachine.{links_same, next_low, none_cleared, keeps_rule, rooms_of}
+use Rattle.cordyceps_queue.proofs.SharedTheory.WordsAsMachine.{empties, empties_same, readies, readies_same}
+use Rattle.cordyceps_queue.proofs.SharedTheory.WordsAsMachine.{linkeds_low, linkeds_same, chain_near, LeavesPool}
+use Rattle.cordyceps_queue.proofs.SharedTheory.WordsAsMachine.{PlainStep, Becomes, Comes as Keeping}
 use Rattle.cordyceps_queue.proofs.SharedTheory.EnqueueKeeps.{m, past, here, view_after, views_put, wide_words}
 
 -- the order of the free rooms of a party with the right does not matter
@@ -263,7 +266,8 @@ module _ {E : Type 0} (s : TableState E) (k : PlainHolds s) (id : ℕ) (v : View
 
   -- what a step comes to
   abbrev pub Comes : ℕ → ℕ → (ℕ → SeatState E → Type 0) → Type 0
-  Comes i new then = (w : View E) × (a : Act (Option E)) × Valid s.homes [] a × Becomes s k v w (stepped s i new id [] w a) × then (get_or s.words i 0) (w, carried_after [] a)
+  Comes i new then =
+      (c : PlainStep s k id i new (v, [])) × then (get_or s.words i 0) (c.view, carried_after [] c.act)
 
   -- with the tail's link a room: the element is handed out
   pub hands : (before : List (Event Name E)) (under : Under actor (name v) before) (M : Meets n k.chain (reverse before ++ out_events)) (t r i : ℕ) (has : tail_of v.stage ≡ Some t) (nothing : (a b : ℕ) → Owes v.stage a b → ⊥) (is_real : t ≢ 0) (linked : n.next t ≡ Some r) (slots : ℕ) → length s.homes ≡ slots
@@ -275,10 +279,12 @@ module _ {E : Type 0} (s : TableState E) (k : PlainHolds s) (id : ℕ) (v : View
       let near_t = chain_near s k 0 t first in
       let near_r = chain_near s k 1 r (second n k.chain (reverse before ++ out_events) M t r first linked) in
       let o = out_kept before under M t r has nothing is_real linked e f.3 i in (
-        out_view before under M t r has nothing is_real linked e f.3,
-        takes t (Some e),
-        k.full 0 t first is_real ∙ ap (λ x. some (some x)) f.3,
-        o.0,
+        record {
+          view = out_view before under M t r has nothing is_real linked e f.3;
+          act = takes t (Some e);
+          valid = k.full 0 t first is_real ∙ ap (λ x. some (some x)) f.3;
+          becomes = o.0;
+        },
         record {
           element = e;
           stage = refl;
@@ -303,8 +309,16 @@ module _ {E : Type 0} (s : TableState E) (k : PlainHolds s) (id : ℕ) (v : View
         record { keeps = keeping n k.chain h M id (party v) there t has; is_real = is_real; looked = looked },
         (λ far. was_now (name v) h looked (open_blocks n k.chain h M id (party v) there t has nothing open_link far)),
       ) in
-      let r = reads before under (Null t) k.chain met same_rooms (λ q is. cc) (none_cleared v.stage (λ q e. none_some (sym (ap tail_of e) ∙ has))) refl (λ x pooled. pooled) i in
-      (sees before v.free v.end v.back v.to (Null t), keeps, tt, r.0, stood before (Null t) r.1)
+      let r = reads before under (Null t) k.chain met same_rooms (λ q is. cc)
+      (none_cleared v.stage (λ q e. none_some (sym (ap tail_of e) ∙ has))) refl (λ x pooled. pooled) i in (
+        record {
+          view = sees before v.free v.end v.back v.to (Null t);
+          act = keeps;
+          valid = tt;
+          becomes = r.0;
+        },
+        stood before (Null t) r.1,
+      )
 
   -- the read of a tail's link that is no stub
   abbrev pub ReadsTail : List (Event Name E) → ℕ → ℕ → ℕ → SeatState E → Type 0
@@ -316,7 +330,7 @@ module _ {E : Type 0} (s : TableState E) (k : PlainHolds s) (id : ℕ) (v : View
   reading before under M t i has nothing is_real looked is slots deep zero e =
       let here_is : word.next s.words t ≡ get_or s.words i 0 = ap (λ q. get_or s.words q 0) (sum is) in
       let c = nulls before under M t i has nothing is_real looked (ap link_of (here_is ∙ e)) in
-      (c.0, c.1, c.2, c.3, ((λ _. c.4), λ r f. absurd (zero_suc (sym e ∙ f))))
+      (c.0, ((λ _. c.1), λ r f. absurd (zero_suc (sym e ∙ f))))
     where
       sum : i ≡ LINKS + t → LINKS + t ≡ i
       sum a = omega arith
@@ -324,13 +338,10 @@ module _ {E : Type 0} (s : TableState E) (k : PlainHolds s) (id : ℕ) (v : View
       let here_is : word.next s.words t ≡ get_or s.words i 0 = ap (λ q. get_or s.words q 0) (sum is) in
       let c = hands before under M t r i has nothing is_real (ap link_of (here_is ∙ e)) slots deep in (
         c.0,
-        c.1,
-        c.2,
-        c.3,
         (
           (λ f. absurd (suc_zero (sym e ∙ f))),
           λ r' f. subst
-              (λ q. HandsOut before slots t q (v, []) (c.0, carried_after [] c.1)) (suc_inj (sym e ∙ f)) c.4,
+              (λ q. HandsOut before slots t q (v, []) (c.0.view, carried_after [] c.0.act)) (suc_inj (sym e ∙ f)) c.1,
         ),
       )
     where

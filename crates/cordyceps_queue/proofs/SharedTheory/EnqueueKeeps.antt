@@ -228,10 +228,13 @@ module _ {E : Type 0} where
       let near : r < slots = let l = at_length s.homes r (some None) there in omega arith in
       let linked = was_linked s k id me.0 at named r rs e idle bare free in
       let w = clear_view s k id me.0 at named r rs e idle bare free in (
-        w,
-        takes r None,
-        there,
-        subst (λ (q : ℕ). Becomes s k me.0 w record { words = set s.words q 0; homes = set s.homes r none; views = set s.views id w }) same c.0,
+        record {
+          view = w;
+          act = takes r None;
+          valid = there;
+          becomes = subst (λ (q : ℕ). Becomes s k me.0 w
+              record { words = set s.words q 0; homes = set s.homes r none; views = set s.views id w }) same c.0;
+        },
         λ r' rs' e' free' item'.
             let p : r ∷ rs ≡ r' ∷ rs' = sym free ∙ free' in
             let q : e ≡ e' = some_inj (sym chosen ∙ item') in
@@ -254,10 +257,17 @@ module _ {E : Type 0} where
       let inside : r < length s.homes = omega arith in
       let c = swap_kept s k id me.0 at named r e ready item inside in
       let w = swap_view s k id me.0 at named r e ready item inside in (
-        w,
-        gives,
-        tt,
-        subst (λ z. Becomes s k me.0 w record { words = set s.words HEAD r; homes = homes_after s.homes z gives; views = set s.views id w }) (sym hand) c.0,
+        record {
+          view = w;
+          act = gives;
+          valid = tt;
+          becomes = subst (λ z. Becomes s k me.0 w record {
+            words = set s.words HEAD r;
+            homes = homes_after s.homes z
+                gives;
+            views = set s.views id w;
+          }) (sym hand) c.0;
+        },
         λ r' e' cs' ready' item' hand'.
             let p : Cleared r ≡ Cleared r' = sym ready ∙ ready' in
             let q : e ≡ e' = some_inj (sym item ∙ item') in
@@ -281,10 +291,14 @@ module _ {E : Type 0} where
       let w = link_view s k id me.0 at named r old waits inside in
       let same : LINKS + old ≡ i = omega arith in
       let same_n : suc r ≡ n = omega arith in (
-        w,
-        keeps,
-        tt,
-        subst (λ (q : ℕ × ℕ). Becomes s k me.0 w record { words = set s.words q.0 q.1; homes = s.homes; views = set s.views id w }) (λ j. (same j, same_n j)) c.0,
+        record {
+          view = w;
+          act = keeps;
+          valid = tt;
+          becomes = subst (λ (q : ℕ × ℕ). Becomes s k me.0 w
+              record { words = set s.words q.0 q.1; homes = s.homes; views = set s.views id w })
+              (λ j. (same j, same_n j)) c.0;
+        },
         λ _ _ _. record { stage = refl; free = refl; back = refl; hand = refl; sees = c.1; end = refl },
       )
 

@@ -51,8 +51,16 @@ module _ {E : Type 0} (s : TableState E) (k : PlainHolds s) (id : ℕ) (v : View
     takes_bare slots deep zero e =
         let x : Event Name E = Event.Busy (name v) in
         let met = subst (λ q. Meets q k.chain (x ∷ gone_by)) (sym (unmoved e)) (busy_keeps core k.chain gone_by k.meets id (party v) is_there rest e) in
-        let r = rights s k id v at named bare (x ∷ []) (refl, tt) Rest k.chain 0 met (same_rooms s k id v at named bare) (λ q is. cc) (ap cleared_count rest) refl (λ x pooled. pooled) in
-        (sees s k id v at named bare (x ∷ []) v.free v.end v.back v.to Rest, keeps, tt, r.0, λ _. ((λ _. stood s k id v at named bare (x ∷ []) Rest r.1), λ t f. absurd (zero_suc (sym e ∙ f))))
+        let r = rights s k id v at named bare (x ∷ []) (refl, tt) Rest k.chain 0 met (same_rooms s k id v at named bare)
+        (λ q is. cc) (ap cleared_count rest) refl (λ x pooled. pooled) in (
+          record {
+            view = sees s k id v at named bare (x ∷ []) v.free v.end v.back v.to Rest;
+            act = keeps;
+            valid = tt;
+            becomes = r.0;
+          },
+          λ _. ((λ _. stood s k id v at named bare (x ∷ []) Rest r.1), λ t f. absurd (zero_suc (sym e ∙ f))),
+        )
     takes_bare slots deep (suc t) e =
         let x : Event Name E = Event.Take (name v) in
         let r = rights s k id v at named bare (x ∷ []) (refl, tt) (Holding t) (chain_after_take core k.chain gone_by k.meets id (party v) is_there t rest e) 0
@@ -60,10 +68,12 @@ module _ {E : Type 0} (s : TableState E) (k : PlainHolds s) (id : ℕ) (v : View
         let first = free_right core.right core.party k.chain.rooms gone_by k.chain.keeper t e k.meets.right in
         let near = chain_near s k 0 t first.2 in
         let w = sees s k id v at named bare (x ∷ []) v.free v.end v.back v.to (Holding t) in (
-          w,
-          keeps,
-          tt,
-          r.0,
+          record {
+            view = w;
+            act = keeps;
+            valid = tt;
+            becomes = r.0;
+          },
           λ _. (
             (λ f. absurd (suc_zero (sym e ∙ f))),
             λ t' f. subst
@@ -90,8 +100,20 @@ module _ {E : Type 0} (s : TableState E) (k : PlainHolds s) (id : ℕ) (v : View
         let r = rights s k id v at named bare (x ∷ []) (refl, tt) Rest (chain_after_give core k.chain gone_by k.meets id (party v) is_there t holding) (suc t)
         (give_keeps core k.chain gone_by k.meets id (party v) is_there t holding) (same_rooms s k id v at named bare) (λ q is. cc) (ap cleared_count holding) refl (λ x pooled. pooled) in
         let same : suc t ≡ n' = omega arith in
-        let w = sees s k id v at named bare (x ∷ []) v.free v.end v.back v.to Rest in
-        (w, keeps, tt, subst (λ q. Becomes s k v w record { words = set s.words RIGHT q; homes = s.homes; views = set s.views id w }) same r.0, stood s k id v at named bare (x ∷ []) Rest r.1)
+        let w = sees s k id v at named bare (x ∷ []) v.free v.end v.back v.to Rest in (
+          record {
+            view = w;
+            act = keeps;
+            valid = tt;
+            becomes = subst (λ q. Becomes s k v w record {
+              words = set s.words RIGHT q;
+              homes = s.homes;
+              views = set
+                  s.views id w;
+            }) same r.0;
+          },
+          stood s k id v at named bare (x ∷ []) Rest r.1,
+        )
 
     looks_bare : t ≢ 0 → (i : ℕ) → i ≡ LINKS + t → (slots : ℕ) → length s.homes ≡ slots → Comes s k id v at named bare i (get_or s.words i 0) (ReadsTail s k id v at named bare (Event.Look (name v) ∷ []) slots t)
     looks_bare is_real i is slots deep = reading s k id v at named bare (Event.Look (name v) ∷ []) (refl, tt) looked_on t i has nothing is_real (inl refl) is slots deep (get_or s.words i 0) refl
@@ -115,24 +137,29 @@ module _ {E : Type 0} (slots id : ℕ) (me : SeatState E) (hand : me.1 ≡ carry
   takes_right rest = returning slots id RIGHT me (λ _. 0) (play.after_take (step slots RIGHT 0 0 none) me) hand near named may
       (λ s k deep at.
       let c = takes_bare s k id (view_returned me.0) at named refl rest slots deep (word.right s.words) refl in
-      let z : SeatState E = (c.0, carried_after [] c.1) in
-      (c.0, c.1, c.2, c.3, λ stage. let t = c.4 stage in ((λ e. moved_on me z (Event.Busy (name me.0) ∷ []) Rest (t.0 e)), λ u e. let h = t.1 u e in (moved_on me z (Event.Take (name me.0) ∷ []) (Holding u) h.0, h.1))))
+      let z : SeatState E = (c.0.view, carried_after [] c.0.act) in (
+        c.0,
+        λ stage. let t = c.1 stage in (
+          (λ e. moved_on me z (Event.Busy (name me.0) ∷ []) Rest (t.0 e)),
+          λ u e.
+              let h = t.1 u e in (moved_on me z (Event.Take (name me.0) ∷ []) (Holding u) h.0, h.1),
+        ),
+      ))
 
   pub gives_right : (t n' : ℕ) → n' ≡ t + 1 → me.0.stage ≡ Holding t → PlainAllows slots id me RIGHT (λ _. n') (λ _. play.after_give (step slots RIGHT n' 0 none) me n')
   gives_right t n' is holding = returning slots id RIGHT me (λ _. n') (λ _. play.after_give (step slots RIGHT n' 0 none) me n') hand near named may
-      (λ s k deep at. let c = gives_bare s k id (view_returned me.0) at named refl t holding n' is in (c.0, c.1, c.2, c.3, λ _ _. moved_on me (c.0, carried_after [] c.1) (Event.Free (name me.0) ∷ []) Rest c.4))
+      (λ s k deep at. let c = gives_bare s k id (view_returned me.0) at named refl t holding n' is in
+      (c.0, λ _ _. moved_on me (c.0.view, carried_after [] c.0.act) (Event.Free (name me.0) ∷ []) Rest c.1))
 
   pub looks : (t i : ℕ) → i ≡ LINKS + t → me.0.stage ≡ Holding t → t ≢ 0 → PlainAllows slots id me i (λ x. x) (play.after_look (step slots i 0 0 none) me)
   looks t i is holding is_real = returning slots id i me (λ x. x) (play.after_look (step slots i 0 0 none) me) hand near named may
       (λ s k deep at.
       let c = looks_bare s k id (view_returned me.0) at named refl t holding is_real i is slots deep in (
         c.0,
-        c.1,
-        c.2,
-        c.3,
         λ u stage ne.
-            let z : SeatState E = (c.0, carried_after [] c.1) in
-            let t = subst (λ q. ReadsTail s k id (view_returned me.0) at named refl (Event.Look (name me.0) ∷ []) slots q (get_or s.words i 0) z) (same_tail holding stage) c.4 in
+            let z : SeatState E = (c.0.view, carried_after [] c.0.act) in
+            let t = subst (λ q. ReadsTail s k id (view_returned me.0) at named refl
+            (Event.Look (name me.0) ∷ []) slots q (get_or s.words i 0) z) (same_tail holding stage) c.1 in
             ((λ e. moved_on me z (Event.Look (name me.0) ∷ []) (Null u) (t.0 e)), λ r e. handed_on me z (Event.Look (name me.0) ∷ []) slots u r (t.1 r e)),
       ))
 
@@ -141,11 +168,9 @@ module _ {E : Type 0} (slots id : ℕ) (me : SeatState E) (hand : me.1 ≡ carry
       (λ s k deep at.
       let c = reads_bare s k id (view_returned me.0) at named refl t at_second i is slots deep in (
         c.0,
-        c.1,
-        c.2,
-        c.3,
         λ u stage.
-            let z : SeatState E = (c.0, carried_after [] c.1) in
-            let t = subst (λ q. ReadsTail s k id (view_returned me.0) at named refl [] slots q (get_or s.words i 0) z) (same_second at_second stage) c.4 in
+            let z : SeatState E = (c.0.view, carried_after [] c.0.act) in
+            let t = subst (λ q. ReadsTail s k id (view_returned me.0) at named refl [] slots q (get_or s.words i 0) z)
+            (same_second at_second stage) c.1 in
             ((λ e. moved_on me z [] (Null u) (t.0 e)), λ r e. handed_on me z [] slots u r (t.1 r e)),
       ))

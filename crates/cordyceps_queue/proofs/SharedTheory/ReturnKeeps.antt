@@ -159,17 +159,29 @@ module _ {E : Type 0} where
       let homes = s.homes in
       let back = settles s k id v at named (λ j x a. let l = near j x a in omega arith) may in
       let r = inner (table_returned s id v) back.now (given_length bs homes ∙ deep) (set_here s.views id (view_returned v) (at_length s.views id v at)) in
-      let a = table.chain (give_all bs) r.1 in
+      let a = table.chain (give_all bs) r.0.act in
       let n = f (get_or s.words i 0) in
       let h = sym (give_homes bs homes) in
       let c = sym (give_carried bs) in (
-        r.0,
-        a,
-        subst (λ z. Valid homes z a) (sym hand) (give_valid bs homes, subst (λ (z : Homes E × Hand E). Valid z.0 z.1 r.1) (λ j. (h j, c j)) r.2),
-        subst (λ z. Becomes s k v r.0 record { words = set s.words i n; homes = homes_after homes z a; views = set s.views id r.0 }) (sym hand)
-            (subst (λ (z : Homes E × Hand E × List (View E)). Becomes s k v r.0 record { words = set s.words i n; homes = homes_after z.0 z.1 r.1; views = z.2 }) (λ j. (h j, c j, set_twice s.views id (view_returned v) r.0 j))
-            (becomes_returned s k id v r.0 (stepped (table_returned s id v) i n id [] r.0 r.1) back r.3)),
-        subst (λ z. then (get_or s.words i 0) (r.0, carried_after z a)) (sym hand) (subst (λ z. then (get_or s.words i 0) (r.0, carried_after z r.1)) c r.4),
+        record {
+          view = r.0.view;
+          act = a;
+          valid = subst (λ z. Valid homes z a) (sym hand) (
+            give_valid bs homes,
+            subst (λ (z : Homes E × Hand E). Valid z.0 z.1 r.0.act)
+                (λ j. (h j, c j)) r.0.valid,
+          );
+          becomes = subst (λ z. Becomes s k v r.0.view
+              record { words = set s.words i n; homes = homes_after homes z a; views = set s.views id r.0.view })
+              (sym hand)
+              (subst (λ (z : Homes E × Hand E × List (View E)). Becomes s k v r.0.view
+              record { words = set s.words i n; homes = homes_after z.0 z.1 r.0.act; views = z.2 })
+              (λ j. (h j, c j, set_twice s.views id (view_returned v) r.0.view j))
+              (becomes_returned s k id v r.0.view (stepped (table_returned s id v) i n id [] r.0.view r.0.act) back
+              r.0.becomes));
+        },
+        subst (λ z. then (get_or s.words i 0) (r.0.view, carried_after z a)) (sym hand)
+            (subst (λ z. then (get_or s.words i 0) (r.0.view, carried_after z r.0.act)) c r.1),
       )
 
   -- what a step comes to from there is what it comes to from here

@@ -54,8 +54,17 @@ module _ {E : Type 0} (s : TableState E) (k : PlainHolds s) (id : ℕ) (v : View
       → Comes s k id v at named bare i (get_or s.words i 0) (λ _ z. MovesTo [] (Holding t) (v, []) z × Blocked z.0)
   fails t i has nothing was =
       let met = stage_keeps core k.chain past k.meets id (party v) is_there t has (Holding t) refl (λ a b o. absurd (nothing a b o)) (keeping core k.chain past k.meets id (party v) is_there t has) in
-      let r = reads s k id v at named bare [] tt (Holding t) k.chain met (same_rooms s k id v at named bare) (λ q is. cc) (none_cleared v.stage (λ q e. none_some (sym (ap tail_of e) ∙ has))) refl (λ x pooled. pooled) i in
-      (view [] (Holding t), keeps, tt, r.0, (stood s k id v at named bare [] (Holding t) r.1, blocked s k id v at named bare [] (Holding t) was))
+      let r = reads s k id v at named bare [] tt (Holding t) k.chain met (same_rooms s k id v at named bare)
+      (λ q is. cc) (none_cleared v.stage (λ q e. none_some (sym (ap tail_of e) ∙ has))) refl
+      (λ x pooled. pooled) i in (
+        record {
+          view = view [] (Holding t);
+          act = keeps;
+          valid = tt;
+          becomes = r.0;
+        },
+        (stood s k id v at named bare [] (Holding t) r.1, blocked s k id v at named bare [] (Holding t) was),
+      )
 
   -- ---- the first read, of the stub's link
   module _ (holding : v.stage ≡ Holding 0) where
@@ -83,8 +92,17 @@ module _ {E : Type 0} (s : TableState E) (k : PlainHolds s) (id : ℕ) (v : View
               in
               inl (inl refl, at_open);
         } in
-        let r = reads s k id v at named bare (look ∷ []) (refl, tt) StubNull k.chain met (same_rooms s k id v at named bare) (λ q is. cc) (ap cleared_count holding) refl (λ x pooled. pooled) LINKS in
-        (view (look ∷ []) StubNull, keeps, tt, r.0, λ _. ((λ _. stood s k id v at named bare (look ∷ []) StubNull r.1), λ r' f. absurd (zero_suc (sym e ∙ f))))
+        let r = reads s k id v at named bare (look ∷ []) (refl, tt) StubNull k.chain met
+        (same_rooms s k id v at named bare) (λ q is. cc) (ap cleared_count holding) refl
+        (λ x pooled. pooled) LINKS in (
+          record {
+            view = view (look ∷ []) StubNull;
+            act = keeps;
+            valid = tt;
+            becomes = r.0;
+          },
+          λ _. ((λ _. stood s k id v at named bare (look ∷ []) StubNull r.1), λ r' f. absurd (zero_suc (sym e ∙ f))),
+        )
     looks_stub_bare slots deep (suc r) e =
         let linked : core.next 0 ≡ Some r = ap link_of e in
         let met = pass_keeps core k.chain (look ∷ past) looked id (party v) is_there r holding linked (inl refl) in
@@ -93,10 +111,12 @@ module _ {E : Type 0} (s : TableState E) (k : PlainHolds s) (id : ℕ) (v : View
         let near = chain_near s k 1 r at_second in
         let ne : r ≢ 0 = λ z. zero_suc (k.meets.once 0 1 0 tail_at (subst (ItemAt k.chain.rooms 1) z at_second)) in
         let w = view (look ∷ []) (Second r) in (
-          w,
-          keeps,
-          tt,
-          o.0,
+          record {
+            view = w;
+            act = keeps;
+            valid = tt;
+            becomes = o.0;
+          },
           λ _. (
             (λ f. absurd (suc_zero (sym e ∙ f))),
             λ r' f.
@@ -116,12 +136,21 @@ module _ {E : Type 0} (s : TableState E) (k : PlainHolds s) (id : ℕ) (v : View
         let held = record (party v) { stage = Holding 0 } in
         let back : Meets (set_stage core id (party v) (Holding 0)) k.chain past = stage_keeps core k.chain past k.meets id (party v) is_there 0 has (Holding 0) refl (λ a b o. absurd (subst (λ l. Owes l a b) at_null o)) mine in
         let met = tell_keeps (set_stage core id (party v) (Holding 0)) k.chain past back id held (put_same core.party id (Some held)) 0 refl x refl (mine.held_by, none_held core k.chain past k.meets id (party v) is_there 0 has refl e) refl refl (λ q s. s) (λ q n w. w) in
-        let r = reads s k id v at named bare (x ∷ []) (refl, tt) (Holding 0) k.chain met (same_rooms s k id v at named bare) (λ q is. cc) (ap cleared_count at_null) refl (λ x pooled. pooled) HEAD in
-        (view (x ∷ []) (Holding 0), keeps, tt, r.0, λ _. ((λ _. stood s k id v at named bare (x ∷ []) (Holding 0) r.1), λ ne. absurd (ne e)))
+        let r = reads s k id v at named bare (x ∷ []) (refl, tt) (Holding 0) k.chain met
+        (same_rooms s k id v at named bare) (λ q is. cc) (ap cleared_count at_null) refl
+        (λ x pooled. pooled) HEAD in (
+          record {
+            view = view (x ∷ []) (Holding 0);
+            act = keeps;
+            valid = tt;
+            becomes = r.0;
+          },
+          λ _. ((λ _. stood s k id v at named bare (x ∷ []) (Holding 0) r.1), λ ne. absurd (ne e)),
+        )
     heads_stub_bare slots (no ne) =
         let c = fails 0 HEAD (ap tail_of at_null) (λ a b o. subst (λ l. Owes l a b) at_null o)
         ((fits_at StubNull at_null).blocked ne) in
-        (c.0, c.1, c.2, c.3, λ _. ((λ e. absurd (ne e)), λ _. c.4))
+        (c.0, λ _. ((λ e. absurd (ne e)), λ _. c.1))
 
   module _ (t : ℕ) (at_null : v.stage ≡ Null t) where
     -- what the read of head tells
@@ -135,11 +164,19 @@ module _ {E : Type 0} (s : TableState E) (k : PlainHolds s) (id : ℕ) (v : View
         let f = fits_at (Null t) at_null in
         let met = stage_keeps core k.chain past k.meets id (party v) is_there t (ap tail_of at_null) (PutClear t) refl (λ a b o. absurd (subst (λ l. Owes l a b) at_null o))
         (f.0, stub_out core k.chain past k.meets id (party v) is_there t (ap tail_of at_null) f.0.is_real e) in
-        let r = reads s k id v at named bare [] tt (PutClear t) k.chain met (same_rooms s k id v at named bare) (λ q is. cc) (ap cleared_count at_null) refl (λ x pooled. pooled) HEAD in
-        (view [] (PutClear t), keeps, tt, r.0, ((λ _. stood s k id v at named bare [] (PutClear t) r.1), λ ne. absurd (ne e)))
+        let r = reads s k id v at named bare [] tt (PutClear t) k.chain met (same_rooms s k id v at named bare)
+        (λ q is. cc) (ap cleared_count at_null) refl (λ x pooled. pooled) HEAD in (
+          record {
+            view = view [] (PutClear t);
+            act = keeps;
+            valid = tt;
+            becomes = r.0;
+          },
+          ((λ _. stood s k id v at named bare [] (PutClear t) r.1), λ ne. absurd (ne e)),
+        )
     heads_bare (no ne) =
         let c = fails t HEAD (ap tail_of at_null) (λ a b o. subst (λ l. Owes l a b) at_null o) ((fits_at (Null t) at_null).1 ne) in
-        (c.0, c.1, c.2, c.3, ((λ e. absurd (ne e)), λ _. c.4))
+        (c.0, ((λ e. absurd (ne e)), λ _. c.1))
 
   -- ---- the stub is put in
   -- a step that changes one word and no slot
@@ -153,8 +190,17 @@ module _ {E : Type 0} (s : TableState E) (k : PlainHolds s) (id : ℕ) (v : View
       (λ _. MovesTo [] (PutSwap t) (v, []))
   clears_stub_bare t l =
       let r = stores (PutSwap t) k.chain (clear_stub core id (party v) t) LINKS 0 (linkeds s k id 0 0 (view [] (PutSwap t)) (own_links s k id 0 0 v at named (λ mine. spare_shared mine k.meets.stub)) (λ j ne mine. spare_shared mine k.meets.stub)) spelled (clear_stub_keeps core k.chain past k.meets id (party v) is_there t l) k.full (λ q is. cc) (λ j x jx. inr (j, jx))
-      (ap cleared_count l) refl (λ x pooled. pooled) (λ x pooled. next_beside_next s.words 0 x 0 (λ same. shared_pooled k.meets.stub (ap k.chain.owner (sym same) ∙ pooled))) in
-      (view [] (PutSwap t), keeps, tt, r.0, stood s k id v at named bare [] (PutSwap t) r.1)
+      (ap cleared_count l) refl (λ x pooled. pooled)
+      (λ x pooled. next_beside_next s.words 0 x 0
+      (λ same. shared_pooled k.meets.stub (ap k.chain.owner (sym same) ∙ pooled))) in (
+        record {
+          view = view [] (PutSwap t);
+          act = keeps;
+          valid = tt;
+          becomes = r.0;
+        },
+        stood s k id v at named bare [] (PutSwap t) r.1,
+      )
     where
       spelled : clear_stub core id (party v) t ≡ machine_of k.cell (set s.words LINKS 0) (set s.views id (view [] (PutSwap t)))
       spelled j = record {
@@ -172,8 +218,17 @@ module _ {E : Type 0} (s : TableState E) (k : PlainHolds s) (id : ℕ) (v : View
       let old = word.head s.words in
       let r = stores (PutLink t old) (chain_after_stub core k.chain past k.meets id (party v) is_there t l) (swap_head core id (party v) 0 (PutLink t old)) HEAD 0 (linkeds_low s k id HEAD 0 (view [] (PutLink t old)) (omega arith) (k.linked id v at named)) spelled
       (swap_stub_keeps core k.chain past k.meets id (party v) is_there t l) full (λ q is. cc) among
-      (ap cleared_count l) (ap (λ (z : List ℕ). length z) (real_more k.chain.rooms (0 ∷ []) ∙ append-nil (real k.chain.rooms))) (λ x pooled. pooled) (λ x pooled. next_low s.words HEAD 0 (omega arith) x) in
-      (view [] (PutLink t old), keeps, tt, r.0, stood s k id v at named bare [] (PutLink t old) r.1)
+      (ap cleared_count l) (ap (λ (z : List ℕ). length z)
+      (real_more k.chain.rooms (0 ∷ []) ∙ append-nil (real k.chain.rooms))) (λ x pooled. pooled)
+      (λ x pooled. next_low s.words HEAD 0 (omega arith) x) in (
+        record {
+          view = view [] (PutLink t old);
+          act = keeps;
+          valid = tt;
+          becomes = r.0;
+        },
+        stood s k id v at named bare [] (PutLink t old) r.1,
+      )
     where
       spelled : swap_head core id (party v) 0 (PutLink t (word.head s.words)) ≡ machine_of k.cell (set s.words HEAD 0) (set s.views id (view [] (PutLink t (word.head s.words))))
       spelled j = record {
@@ -197,8 +252,17 @@ module _ {E : Type 0} (s : TableState E) (k : PlainHolds s) (id : ℕ) (v : View
       let f = fits_at (PutLink t old) l in
       let shared = k.meets.shared f.at old f.old_at in
       let r = stores (PutRead t) k.chain (link_next core id (party v) old 0 (PutRead t)) (LINKS + old) 1 (linkeds s k id old 1 (view [] (PutRead t)) (own_links s k id old 1 v at named (λ mine. spare_shared mine shared)) (λ j ne mine. spare_shared mine shared)) spelled (link_stub_keeps core k.chain past k.meets id (party v) is_there t old l) k.full (λ q is. cc) (λ j x jx. inr (j, jx))
-      (ap cleared_count l) refl (λ x pooled. pooled) (λ x pooled. next_beside_next s.words old x 1 (λ same. shared_pooled shared (ap k.chain.owner (sym same) ∙ pooled))) in
-      (view [] (PutRead t), keeps, tt, r.0, stood s k id v at named bare [] (PutRead t) r.1)
+      (ap cleared_count l) refl (λ x pooled. pooled)
+      (λ x pooled. next_beside_next s.words old x 1
+      (λ same. shared_pooled shared (ap k.chain.owner (sym same) ∙ pooled))) in (
+        record {
+          view = view [] (PutRead t);
+          act = keeps;
+          valid = tt;
+          becomes = r.0;
+        },
+        stood s k id v at named bare [] (PutRead t) r.1,
+      )
     where
       spelled : link_next core id (party v) old 0 (PutRead t) ≡ machine_of k.cell (set s.words (LINKS + old) 1) (set s.views id (view [] (PutRead t)))
       spelled j = record {
@@ -224,7 +288,7 @@ module _ {E : Type 0} (s : TableState E) (k : PlainHolds s) (id : ℕ) (v : View
         let sum : LINKS + t ≡ i = omega arith in
         let open_link : core.next t ≡ None = ap link_of (ap (λ q. get_or s.words q 0) sum ∙ e) in
         let c = fails t i (ap tail_of at_put) nothing (was_now (name v) past f.0.looked (open_blocks core k.chain past k.meets id (party v) is_there t (ap tail_of at_put) nothing open_link f.1)) in
-        (c.0, c.1, c.2, c.3, ((λ _. c.4), λ r g. absurd (zero_suc (sym e ∙ g))))
+        (c.0, ((λ _. c.1), λ r g. absurd (zero_suc (sym e ∙ g))))
     rereads_bare slots deep i is (suc r) e =
         let f = fits_at (PutRead t) at_put in
         let sum : LINKS + t ≡ i = omega arith in
@@ -232,13 +296,10 @@ module _ {E : Type 0} (s : TableState E) (k : PlainHolds s) (id : ℕ) (v : View
         let c = hands s k id v at named bare [] tt k.meets t r i (ap tail_of at_put)
         (λ a b o. subst (λ l. Owes l a b) at_put o) f.0.is_real linked slots deep in (
           c.0,
-          c.1,
-          c.2,
-          c.3,
           (
             (λ g. absurd (suc_zero (sym e ∙ g))),
             λ r' g. subst
-                (λ q. HandsOut [] slots t q (v, []) (c.0, carried_after [] c.1)) (suc_inj (sym e ∙ g)) c.4,
+                (λ q. HandsOut [] slots t q (v, []) (c.0.view, carried_after [] c.0.act)) (suc_inj (sym e ∙ g)) c.1,
           ),
         )
 
@@ -262,13 +323,10 @@ module _ {E : Type 0} (slots id : ℕ) (me : SeatState E) (hand : me.1 ≡ carry
   looks_stub holding = returning slots id LINKS me (λ x. x) (play.after_look_stub (step slots LINKS 0 0 none) me) hand near named may
       (λ s k deep at.
       let c = looks_stub_bare s k id (view_returned me.0) at named refl holding slots deep (word.next s.words 0) refl in
-      let z : SeatState E = (c.0, carried_after [] c.1) in
+      let z : SeatState E = (c.0.view, carried_after [] c.0.act) in
       let es : List (Event Name E) = Event.Look (name me.0) ∷ [] in (
         c.0,
-        c.1,
-        c.2,
-        c.3,
-        λ stage. let t = c.4 stage in (
+        λ stage. let t = c.1 stage in (
           (λ e. moved_on me z es StubNull (t.0 e)),
           λ r e.
               let h = t.1 r e in
@@ -280,8 +338,14 @@ module _ {E : Type 0} (slots id : ℕ) (me : SeatState E) (hand : me.1 ≡ carry
   heads_stub at_null = returning slots id HEAD me (λ x. x) (play.after_head_stub (step slots HEAD 0 0 none) me) hand near named may
       (λ s k deep at.
       let c = heads_stub_bare s k id (view_returned me.0) at named refl at_null slots (ℕ_discrete (word.head s.words) 0) in
-      let z : SeatState E = (c.0, carried_after [] c.1) in
-      (c.0, c.1, c.2, c.3, λ stage. let t = c.4 stage in ((λ e. moved_on me z (Event.Empty (name me.0) ∷ []) (Holding 0) (t.0 e)), λ e. let h = t.1 e in (moved_on me z [] (Holding 0) h.0, h.1))))
+      let z : SeatState E = (c.0.view, carried_after [] c.0.act) in (
+        c.0,
+        λ stage. let t = c.1 stage in (
+          (λ e. moved_on me z (Event.Empty (name me.0) ∷ []) (Holding 0) (t.0 e)),
+          λ e.
+              let h = t.1 e in (moved_on me z [] (Holding 0) h.0, h.1),
+        ),
+      ))
 
   HeadFacts : ℕ → ℕ → SeatState E → Type 0
   HeadFacts t found z = (found ≡ t → MovesTo [] (PutClear t) me z)
@@ -297,12 +361,13 @@ module _ {E : Type 0} (slots id : ℕ) (me : SeatState E) (hand : me.1 ≡ carry
       (λ s k deep at.
       let c = heads_bare s k id (view_returned me.0) at named refl t at_null (ℕ_discrete (word.head s.words) t) in (
         c.0,
-        c.1,
-        c.2,
-        c.3,
         λ u stage.
-            let z : SeatState E = (c.0, carried_after [] c.1) in
-            subst (λ q. HeadFacts q (word.head s.words) z) (same_null at_null stage) ((λ e. moved_on me z [] (PutClear t) (c.4.0 e)), λ e. let h = c.4.1 e in (moved_on me z [] (Holding t) h.0, h.1)),
+            let z : SeatState E = (c.0.view, carried_after [] c.0.act) in
+            subst (λ q. HeadFacts q (word.head s.words) z) (same_null at_null stage) (
+              (λ e. moved_on me z [] (PutClear t) (c.1.0 e)),
+              λ e. let h = c.1.1 e in
+                  (moved_on me z [] (Holding t) h.0, h.1),
+            ),
       ))
 
   pub rereads : (t i : ℕ) → i ≡ LINKS + t → me.0.stage ≡ PutRead t → PlainAllows slots id me i (λ x. x) (play.after_reread (step slots i 0 0 none) me)
@@ -311,12 +376,13 @@ module _ {E : Type 0} (slots id : ℕ) (me : SeatState E) (hand : me.1 ≡ carry
       (λ s k deep at.
       let c = rereads_bare s k id (view_returned me.0) at named refl t at_put slots deep i is (get_or s.words i 0) refl in (
         c.0,
-        c.1,
-        c.2,
-        c.3,
         λ u stage.
-            let z : SeatState E = (c.0, carried_after [] c.1) in
-            subst (λ q. RereadFacts q (get_or s.words i 0) z) (same_put at_put stage) ((λ e. let h = c.4.0 e in (moved_on me z [] (Holding t) h.0, h.1)), λ r e. handed_on me z [] slots t r (c.4.1 r e)),
+            let z : SeatState E = (c.0.view, carried_after [] c.0.act) in
+            subst (λ q. RereadFacts q (get_or s.words i 0) z) (same_put at_put stage) (
+              (λ e. let h = c.1.0 e in (moved_on me z [] (Holding t) h.0, h.1)),
+              λ r e. handed_on me z [] slots t r
+                  (c.1.1 r e),
+            ),
       ))
 
   pub clears_stub : (t : ℕ) → me.0.stage ≡ PutClear t → PlainAllows slots id me LINKS (λ _. 0) (λ _. play.after_clear_stub (step slots LINKS 0 0 none) me 0)
@@ -324,11 +390,8 @@ module _ {E : Type 0} (slots id : ℕ) (me : SeatState E) (hand : me.1 ≡ carry
       (λ s k deep at.
       let c = clears_stub_bare s k id (view_returned me.0) at named refl t l in (
         c.0,
-        c.1,
-        c.2,
-        c.3,
-        λ u stage. subst (λ q. MovesTo [] (PutSwap q) me (c.0, carried_after [] c.1))
-            (same_clear l stage) (moved_on me (c.0, carried_after [] c.1) [] (PutSwap t) c.4),
+        λ u stage. subst (λ q. MovesTo [] (PutSwap q) me (c.0.view, carried_after [] c.0.act))
+            (same_clear l stage) (moved_on me (c.0.view, carried_after [] c.0.act) [] (PutSwap t) c.1),
       ))
 
   pub swaps_stub : (t : ℕ) → me.0.stage ≡ PutSwap t → PlainAllows slots id me HEAD (λ _. 0) (play.after_swap_stub (step slots HEAD 0 0 none) me)
@@ -337,13 +400,11 @@ module _ {E : Type 0} (slots id : ℕ) (me : SeatState E) (hand : me.1 ≡ carry
       let c = swaps_stub_bare s k id (view_returned me.0) at named refl t l in
       let h = head_near s k in (
         c.0,
-        c.1,
-        c.2,
-        c.3,
         λ u stage. (
           subst (λ q. MovesTo [] (PutLink q (word.head s.words)) me
-              (c.0, carried_after [] c.1)) (same_swap l stage) (moved_on me (c.0, carried_after [] c.1) []
-              (PutLink t (word.head s.words)) c.4),
+              (c.0.view, carried_after [] c.0.act)) (same_swap l stage)
+              (moved_on me (c.0.view, carried_after [] c.0.act) []
+              (PutLink t (word.head s.words)) c.1),
           omega arith,
         ),
       ))
@@ -353,10 +414,16 @@ module _ {E : Type 0} (slots id : ℕ) (me : SeatState E) (hand : me.1 ≡ carry
       (λ s k deep at.
       let c = links_stub_bare s k id (view_returned me.0) at named refl t old l (omega arith) in
       let sum : LINKS + old ≡ i = omega arith in (
-        c.0,
-        c.1,
-        c.2,
-        subst (λ (q : ℕ). Becomes s k (view_returned me.0) c.0 (stepped s q 1 id [] c.0 c.1)) sum c.3,
-        λ u o stage. subst (λ q. MovesTo [] (PutRead q) me (c.0, carried_after [] c.1)) (same_link l stage)
-            (moved_on me (c.0, carried_after [] c.1) [] (PutRead t) c.4),
+        record {
+          view = c.0.view;
+          act = c.0.act;
+          valid = c.0.valid;
+          becomes =
+              let step = c.0 in
+              let kept = λ (q : ℕ). Becomes s k (view_returned me.0) step.view
+              (stepped s q 1 id [] step.view step.act) in
+              subst kept sum step.becomes;
+        },
+        λ u o stage. subst (λ q. MovesTo [] (PutRead q) me (c.0.view, carried_after [] c.0.act)) (same_link l stage)
+            (moved_on me (c.0.view, carried_after [] c.0.act) [] (PutRead t) c.1),
       ))

@@ -83,20 +83,22 @@ module _ {E : Type 0} where
       let old = now_old (word.next s.words r) (word.next k.words r) f.0 f.1 f.2 in
       let owned : p.chain.owner r ≡ Spare id = (rooms_of q p id me.0 at named).own 0 r here in
       let b = clears slots id i me r rs item e is chosen idle bare free named q (with_use q p r c) deep at in
-      let w = b.0 in
-      let tells = b.4 r rs e free chosen in
+      let w = b.0.view in
+      let tells = b.1 r rs e free chosen in
       let stage : w.stage ≡ Cleared r = tells.stage in
-      let t = stepped q i 0 id me.1 w b.1 in
+      let t = stepped q i 0 id me.1 w b.0.act in
       let there : get_elem? t.views id ≡ some w = set_here s.views id w (at_length s.views id me.0 at) in
       let words_are : s.words ≡ set s.words i (get_or s.words i 0) = sym (set-get_or s.words i 0) in
       let index : LINKS + r ≡ i = sym is in
-      let spelt : SpellsWords (update (bit_of p.uses) r c) b.3.now.chain.rooms (set k.words (LINKS + r) 0) s.words (set s.views id w) =
-      spells_begun (bit_of p.uses) r c p.chain.rooms b.3.now.chain.rooms k.words s.words s.views id w old.1
+      let spelt : SpellsWords (update (bit_of p.uses) r c) b.0.becomes.now.chain.rooms
+      (set k.words (LINKS + r) 0) s.words (set s.views id w) =
+      spells_begun (bit_of p.uses) r c p.chain.rooms b.0.becomes.now.chain.rooms k.words s.words s.views id w old.1
       (λ j a. spare_not_in q p id r j owned a)
       (λ j x y a linked same. let o = next_in q p j x y a linked in spare_not_in q p id r o.0 owned (subst (ItemAt p.chain.rooms o.0) same o.1))
       (λ y right same. spare_not_in q p id r 0 owned (subst (ItemAt p.chain.rooms 0) same (right_in q p y right)))
       (p.meets.last.0, p.meets.last.2)
-      (subst (λ z. (j x : ℕ) → ItemAt b.3.now.chain.rooms j x → (x ≡ word.head (set k.words z 0)) ⊎ ((l : ℕ) × ItemAt p.chain.rooms l x)) is b.3.rooms)
+      (subst (λ z. (j x : ℕ) → ItemAt b.0.becomes.now.chain.rooms j x
+      → (x ≡ word.head (set k.words z 0)) ⊎ ((l : ℕ) × ItemAt p.chain.rooms l x)) is b.0.becomes.rooms)
       (λ j u ne there some_name. (
         (λ l a. ne (spare_one ((rooms_of q p j u there some_name).own l r a) owned)),
         (λ o. begun_not_spare q p j id u r there some_name o owned),
@@ -105,19 +107,24 @@ module _ {E : Type 0} where
           | inr z ↦ elim z [ inl ready ↦ ready_spare ready owned | inr stub ↦ spare_shared owned (ap p.chain.owner stub.0 ∙ p.meets.stub) ]
         ]),
       ))
-      (begun_mine q p r c s.words s.views id me.0 w t k.spells mine b.3 there (subst (λ z. Begun z r) (sym stage) refl) (λ x o. subst (λ z. Begun z x) stage o) old.0)
+      (begun_mine q p r c s.words s.views id me.0 w t k.spells mine b.0.becomes there
+      (subst (λ z. Begun z r) (sym stage) refl) (λ x o. subst (λ z. Begun z x) stage o) old.0)
       k.spells in
-      let spells : SpellsWords (bit_of b.3.now.uses) b.3.now.chain.rooms (set k.words i 0) (set s.words i (get_or s.words i 0)) (set s.views id w) =
-      subst (λ (z : List (ℕ × ℕ) × List ℕ × List ℕ). SpellsWords (bit_of z.0) b.3.now.chain.rooms z.1 z.2 (set s.views id w)) (λ j. (sym b.3.uses j, ap (λ n. set k.words n 0) index j, words_are j)) spelt in (
+      let spells : SpellsWords (bit_of b.0.becomes.now.uses) b.0.becomes.now.chain.rooms (set k.words i 0)
+      (set s.words i (get_or s.words i 0)) (set s.views id w) =
+      subst (λ (z : List (ℕ × ℕ) × List ℕ × List ℕ). SpellsWords (bit_of z.0) b.0.becomes.now.chain.rooms z.1 z.2
+      (set s.views id w)) (λ j. (sym b.0.becomes.uses j, ap (λ n. set k.words n 0) index j, words_are j)) spelt in (
         w,
-        b.1,
-        b.2,
+        b.0.act,
+        b.0.valid,
         record {
           words = set k.words i 0;
-          plain = b.3.now;
+          plain = b.0.becomes.now;
           spells = spells;
-          word_is = pool_word s.words (set s.words i (get_or s.words i 0)) p.pool b.3.now.pool (ap (λ ws. word.pool ws) (sym words_are)) b.3.pool k.word_is;
-          pooled = pool_links k.words s.words (set k.words i 0) (set s.words i (get_or s.words i 0)) p.pool b.3.now.pool b.3.pool
+          word_is = pool_word s.words (set s.words i (get_or s.words i 0)) p.pool b.0.becomes.now.pool
+              (ap (λ ws. word.pool ws) (sym words_are)) b.0.becomes.pool k.word_is;
+          pooled = pool_links k.words s.words (set k.words i 0)
+              (set s.words i (get_or s.words i 0)) p.pool b.0.becomes.now.pool b.0.becomes.pool
               (λ j x a. (
                 ap (λ ws. word.next ws x) (sym words_are),
                 ap (λ n. word.next (set k.words n 0) x) is ∙ next_beside_next k.words r x 0 (λ e. spare_pooled owned (ap p.chain.owner (sym e) ∙ p.pooled.own j x a)),
@@ -129,8 +136,10 @@ module _ {E : Type 0} where
           f.0,
           f.1,
           subst (λ n. IsLink (get_or s.words n 0) (word.next k.words r) f.0 f.1) index f.2,
-          (λ x xs g. ap (λ l. bit_of l x) b.3.bits ∙ (ap (λ n. bit_of ((r, c) ∷ p.uses) n) (sym (firsts x xs g)) ∙ put_same (bit_of p.uses) r c)),
-          subst (λ n. plain.after_clear item (step slots i 0 0 none) me n (w, carried_after me.1 b.1)) (ap (λ n. get_or k.words n 0) is) b.4,
+          (λ x xs g. ap (λ l. bit_of l x) b.0.becomes.bits
+              ∙ (ap (λ n. bit_of ((r, c) ∷ p.uses) n) (sym (firsts x xs g)) ∙ put_same (bit_of p.uses) r c)),
+          subst (λ n. plain.after_clear item (step slots i 0 0 none) me n (w, carried_after me.1 b.0.act))
+              (ap (λ n. get_or k.words n 0) is) b.1,
         ),
       )
     where
@@ -226,72 +235,83 @@ module _ {E : Type 0} (slots id : ℕ) (me : SeatState E) (hand : me.1 ≡ carry
   pub reads_look : (t i : ℕ) → i ≡ LINKS + t → me.0.stage ≡ Holding t → t ≢ 0 → Allows RuleHolds slots id me i (λ x. x) (play.after_look (step slots i 0 0 none) me)
   reads_look t i is holding is_real s k deep at fits =
       let b = looks slots id me hand near named may t i is holding is_real (plain_table s k) k.plain deep at in
-      let w = b.0 in
+      let w = b.0.view in
       let es : List (Event Name E) = Event.Look (name me.0) ∷ [] in
-      let told = b.4 t holding is_real in
-      let c : SeatState E = (w, carried_after me.1 b.1) in
-      let z = stepped (plain_table s k) i (get_or k.words i 0) id me.1 w b.1 in (
+      let told = b.1 t holding is_real in
+      let c : SeatState E = (w, carried_after me.1 b.0.act) in
+      let z = stepped (plain_table s k) i (get_or k.words i 0) id me.1 w b.0.act in (
         w,
-        b.1,
-        b.2,
-        load_kept s k id me.0 at named w i (homes_after s.homes me.1 b.1) b.3 (calm_reads es es (Null t) slots t (get_or k.words i 0) me c (λ x o. o) told.0 told.1),
+        b.0.act,
+        b.0.valid,
+        load_kept s k id me.0 at named w i (homes_after s.homes me.1 b.0.act) b.0.becomes
+            (calm_reads es es (Null t) slots t (get_or k.words i 0) me c (λ x o. o) told.0 told.1),
         (
-          bits_kept s k id me.0 at named w z b.3,
-          λ u stage ne. read_tells s k at t u i 0 w z c (λ n. plain.after_look (step slots i 0 0 none) me n c) refl is (tail_in s k id me.0 at named t (ap tail_of holding)) (subst (λ l. Knows l t) (sym holding) refl) (some_inj (ap tail_of (sym holding ∙ stage))) b.3 b.4,
+          bits_kept s k id me.0 at named w z b.0.becomes,
+          λ u stage ne. read_tells s k at t u i 0 w z c (λ n. plain.after_look (step slots i 0 0 none) me n c) refl is
+              (tail_in s k id me.0 at named t (ap tail_of holding)) (subst (λ l. Knows l t) (sym holding) refl)
+              (some_inj (ap tail_of (sym holding ∙ stage))) b.0.becomes b.1,
         ),
       )
 
   pub reads_second : (t i : ℕ) → i ≡ LINKS + t → me.0.stage ≡ Second t → Allows RuleHolds slots id me i (λ x. x) (play.after_read (step slots i 0 0 none) me)
   reads_second t i is holding s k deep at fits =
       let b = reads_after slots id me hand near named may t i is holding (plain_table s k) k.plain deep at in
-      let w = b.0 in
-      let told = b.4 t holding in
-      let c : SeatState E = (w, carried_after me.1 b.1) in
-      let z = stepped (plain_table s k) i (get_or k.words i 0) id me.1 w b.1 in (
+      let w = b.0.view in
+      let told = b.1 t holding in
+      let c : SeatState E = (w, carried_after me.1 b.0.act) in
+      let z = stepped (plain_table s k) i (get_or k.words i 0) id me.1 w b.0.act in (
         w,
-        b.1,
-        b.2,
-        load_kept s k id me.0 at named w i (homes_after s.homes me.1 b.1) b.3 (calm_reads [] [] (Null t) slots t (get_or k.words i 0) me c (λ x o. o) told.0 told.1),
+        b.0.act,
+        b.0.valid,
+        load_kept s k id me.0 at named w i (homes_after s.homes me.1 b.0.act) b.0.becomes
+            (calm_reads [] [] (Null t) slots t (get_or k.words i 0) me c (λ x o. o) told.0 told.1),
         (
-          bits_kept s k id me.0 at named w z b.3,
-          λ u stage. read_tells s k at t u i 0 w z c (λ n. plain.after_read (step slots i 0 0 none) me n c) refl is (tail_in s k id me.0 at named t (ap tail_of holding)) (subst (λ l. Knows l t) (sym holding) refl) (some_inj (ap tail_of (sym holding ∙ stage))) b.3 b.4,
+          bits_kept s k id me.0 at named w z b.0.becomes,
+          λ u stage. read_tells s k at t u i 0 w z c (λ n. plain.after_read (step slots i 0 0 none) me n c) refl is
+              (tail_in s k id me.0 at named t (ap tail_of holding)) (subst (λ l. Knows l t) (sym holding) refl)
+              (some_inj (ap tail_of (sym holding ∙ stage))) b.0.becomes b.1,
         ),
       )
 
   pub reads_again : (t i : ℕ) → i ≡ LINKS + t → me.0.stage ≡ PutRead t → Allows RuleHolds slots id me i (λ x. x) (play.after_reread (step slots i 0 0 none) me)
   reads_again t i is holding s k deep at fits =
       let b = rereads slots id me hand near named may t i is holding (plain_table s k) k.plain deep at in
-      let w = b.0 in
-      let told = b.4 t holding in
-      let c : SeatState E = (w, carried_after me.1 b.1) in
-      let z = stepped (plain_table s k) i (get_or k.words i 0) id me.1 w b.1 in (
+      let w = b.0.view in
+      let told = b.1 t holding in
+      let c : SeatState E = (w, carried_after me.1 b.0.act) in
+      let z = stepped (plain_table s k) i (get_or k.words i 0) id me.1 w b.0.act in (
         w,
-        b.1,
-        b.2,
-        load_kept s k id me.0 at named w i (homes_after s.homes me.1 b.1) b.3 (calm_reads [] [] (Holding t) slots t (get_or k.words i 0) me c (λ x o. o) (λ e. (told.0 e).0) told.1),
+        b.0.act,
+        b.0.valid,
+        load_kept s k id me.0 at named w i (homes_after s.homes me.1 b.0.act) b.0.becomes
+            (calm_reads [] [] (Holding t) slots t (get_or k.words i 0) me c (λ x o. o) (λ e. (told.0 e).0) told.1),
         (
-          bits_kept s k id me.0 at named w z b.3,
-          λ u stage. read_tells s k at t u i 0 w z c (λ n. plain.after_reread (step slots i 0 0 none) me n c) refl is (tail_in s k id me.0 at named t (ap tail_of holding)) (subst (λ l. Knows l t) (sym holding) refl) (some_inj (ap tail_of (sym holding ∙ stage))) b.3 b.4,
+          bits_kept s k id me.0 at named w z b.0.becomes,
+          λ u stage. read_tells s k at t u i 0 w z c (λ n. plain.after_reread (step slots i 0 0 none) me n c) refl is
+              (tail_in s k id me.0 at named t (ap tail_of holding)) (subst (λ l. Knows l t) (sym holding) refl)
+              (some_inj (ap tail_of (sym holding ∙ stage))) b.0.becomes b.1,
         ),
       )
 
   pub reads_stub : me.0.stage ≡ Holding 0 → Allows RuleHolds slots id me LINKS (λ x. x) (play.after_look_stub (step slots LINKS 0 0 none) me)
   reads_stub holding s k deep at fits =
       let b = looks_stub slots id me hand near named may holding (plain_table s k) k.plain deep at in
-      let w = b.0 in
+      let w = b.0.view in
       let es : List (Event Name E) = Event.Look (name me.0) ∷ [] in
-      let told = b.4 holding in
-      let c : SeatState E = (w, carried_after me.1 b.1) in
-      let z = stepped (plain_table s k) LINKS (get_or k.words LINKS 0) id me.1 w b.1 in (
+      let told = b.1 holding in
+      let c : SeatState E = (w, carried_after me.1 b.0.act) in
+      let z = stepped (plain_table s k) LINKS (get_or k.words LINKS 0) id me.1 w b.0.act in (
         w,
-        b.1,
-        b.2,
-        load_kept s k id me.0 at named w LINKS (homes_after s.homes me.1 b.1) b.3
+        b.0.act,
+        b.0.valid,
+        load_kept s k id me.0 at named w LINKS (homes_after s.homes me.1 b.0.act) b.0.becomes
             (calm_moves es es StubNull (λ r. Second r) (get_or k.words LINKS 0) me c (λ x o. o) (λ r x o. o) told.0
             (λ r e. (told.1 r e).moves)),
         (
-          bits_kept s k id me.0 at named w z b.3,
-          λ stage. read_tells s k at 0 0 LINKS 0 w z c (λ n. plain.after_look_stub (step slots LINKS 0 0 none) me n c) refl refl (tail_in s k id me.0 at named 0 (ap tail_of holding)) (subst (λ l. Knows l 0) (sym holding) refl) refl b.3 b.4,
+          bits_kept s k id me.0 at named w z b.0.becomes,
+          λ stage. read_tells s k at 0 0 LINKS 0 w z c (λ n. plain.after_look_stub (step slots LINKS 0 0 none) me n c)
+              refl refl (tail_in s k id me.0 at named 0 (ap tail_of holding))
+              (subst (λ l. Knows l 0) (sym holding) refl) refl b.0.becomes b.1,
         ),
       )
 
@@ -299,37 +319,45 @@ module _ {E : Type 0} (slots id : ℕ) (me : SeatState E) (hand : me.1 ≡ carry
   pub heads_of_stub : me.0.stage ≡ StubNull → Allows RuleHolds slots id me HEAD (λ x. x) (play.after_head_stub (step slots HEAD 0 0 none) me)
   heads_of_stub holding s k deep at fits =
       let b = heads_stub slots id me hand near named may holding (plain_table s k) k.plain deep at in
-      let w = b.0 in
-      let told = b.4 holding in
-      let c : SeatState E = (w, carried_after me.1 b.1) in
-      let z = stepped (plain_table s k) HEAD (get_or k.words HEAD 0) id me.1 w b.1 in (
+      let w = b.0.view in
+      let told = b.1 holding in
+      let c : SeatState E = (w, carried_after me.1 b.0.act) in
+      let z = stepped (plain_table s k) HEAD (get_or k.words HEAD 0) id me.1 w b.0.act in (
         w,
-        b.1,
-        b.2,
-        load_kept s k id me.0 at named w HEAD (homes_after s.homes me.1 b.1) b.3
+        b.0.act,
+        b.0.valid,
+        load_kept s k id me.0 at named w HEAD (homes_after s.homes me.1 b.0.act) b.0.becomes
             (elim (ℕ_discrete (word.head k.words) 0) [
               | yes e ↦ calm_at (told.0 e).stage (λ x o. o)
               | no ne ↦ calm_at
                   (told.1 ne).0.stage (λ x o. o)
             ]),
-        (bits_kept s k id me.0 at named w z b.3, head_tells s k w z c (λ n. plain.after_head_stub (step slots HEAD 0 0 none) me n c) refl b.3 b.4),
+        (
+          bits_kept s k id me.0 at named w z b.0.becomes,
+          head_tells s k w z c
+              (λ n. plain.after_head_stub (step slots HEAD 0 0 none) me n c) refl b.0.becomes b.1,
+        ),
       )
 
   pub heads_of : (t : ℕ) → me.0.stage ≡ Null t → Allows RuleHolds slots id me HEAD (λ x. x) (play.after_head (step slots HEAD 0 0 none) me)
   heads_of t holding s k deep at fits =
       let b = heads slots id me hand near named may t holding (plain_table s k) k.plain deep at in
-      let w = b.0 in
-      let told = b.4 t holding in
-      let c : SeatState E = (w, carried_after me.1 b.1) in
-      let z = stepped (plain_table s k) HEAD (get_or k.words HEAD 0) id me.1 w b.1 in (
+      let w = b.0.view in
+      let told = b.1 t holding in
+      let c : SeatState E = (w, carried_after me.1 b.0.act) in
+      let z = stepped (plain_table s k) HEAD (get_or k.words HEAD 0) id me.1 w b.0.act in (
         w,
-        b.1,
-        b.2,
-        load_kept s k id me.0 at named w HEAD (homes_after s.homes me.1 b.1) b.3
+        b.0.act,
+        b.0.valid,
+        load_kept s k id me.0 at named w HEAD (homes_after s.homes me.1 b.0.act) b.0.becomes
             (elim (ℕ_discrete (word.head k.words) t) [
               | yes e ↦ calm_at (told.0 e).stage (λ x o. o)
               | no ne ↦ calm_at
                   (told.1 ne).0.stage (λ x o. o)
             ]),
-        (bits_kept s k id me.0 at named w z b.3, head_tells s k w z c (λ n. plain.after_head (step slots HEAD 0 0 none) me n c) refl b.3 b.4),
+        (
+          bits_kept s k id me.0 at named w z b.0.becomes,
+          head_tells s k w z c
+              (λ n. plain.after_head (step slots HEAD 0 0 none) me n c) refl b.0.becomes b.1,
+        ),
       )

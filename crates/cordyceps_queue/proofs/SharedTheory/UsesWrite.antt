@@ -185,16 +185,20 @@ module _ {E : Type 0} where
       → Allows RuleHolds slots id me HEAD (λ _. n) (play.after_swap (step slots HEAD n 0 none) me)
   puts_in slots id n me r e cs is ready item hand near named s k deep at fits =
       let b = swaps slots id me r e cs ready item hand near named (plain_table s k) k.plain deep at in
-      let w = b.0 in
-      let told = b.4 r e cs ready item hand in
+      let w = b.0.view in
+      let told = b.1 r e cs ready item hand in
       let h = word.head k.words in
-      let z = stepped (plain_table s k) HEAD r id me.1 w b.1 in (
+      let z = stepped (plain_table s k) HEAD r id me.1 w b.0.act in (
         w,
-        b.1,
-        b.2,
-        head_kept s k id me.0 at named r n w (homes_after s.homes me.1 b.1) is (subst (λ l. Knows l r) (sym ready) refl)
-            (subst (λ l. Begun l r) (sym ready) refl) b.3 (calm_at told.stage (λ x o. o)),
-        (bits_kept s k id me.0 at named w z b.3, (h, bit_of k.plain.uses h, k.spells.head, k.spells.bits h, ap (λ l. bit_of l h) b.3.bits, b.4)),
+        b.0.act,
+        b.0.valid,
+        head_kept s k id me.0 at named r n w (homes_after s.homes me.1 b.0.act) is
+            (subst (λ l. Knows l r) (sym ready) refl)
+            (subst (λ l. Begun l r) (sym ready) refl) b.0.becomes (calm_at told.stage (λ x o. o)),
+        (
+          bits_kept s k id me.0 at named w z b.0.becomes,
+          (h, bit_of k.plain.uses h, k.spells.head, k.spells.bits h, ap (λ l. bit_of l h) b.0.becomes.bits, b.1),
+        ),
       )
 
   pub links_to : (slots id i n : ℕ) (me : SeatState E) (r old : ℕ) → i ≡ LINKS + old → n ≡ 4 * suc r + 2 * bit_of me.0.bits r + bit_of me.0.bits old → me.0.stage ≡ Swapped r old → old < slots → me.0.known.share ≢ []
@@ -202,10 +206,10 @@ module _ {E : Type 0} where
   links_to slots id i n me r old is is_n waits near named s k deep at fits =
       let q = plain_table s k in
       let b = links_on slots id i (suc r) me r old is (omega arith) waits near named q k.plain deep at in
-      let w = b.0 in
-      let told = b.4 r old waits in
+      let w = b.0.view in
+      let told = b.1 r old waits in
       let f = subst (AtStage (core q k.plain).head (core q k.plain).next k.plain.cell k.plain.chain.owner k.plain.chain.keeper k.plain.chain.rooms (reverse (events k.plain.history)) id (name me.0)) waits (at_stage_of q k.plain id me.0 at named) in
-      let homes = homes_after s.homes me.1 b.1 in
+      let homes = homes_after s.homes me.1 b.0.act in
       let kept : RuleHolds record { words = set s.words (LINKS + old) n; homes = homes; views = set s.views id w } =
       link_kept s k id me.0 at named r old n f.at w homes is_n (subst (λ l. Knows l r) (sym waits) (inl refl))
       (subst (λ l. Knows l old) (sym waits) (inr refl)) f.old_at (omega arith)
@@ -214,13 +218,13 @@ module _ {E : Type 0} where
         homes = homes;
         views = set s.views
             id w;
-      }) is b.3) (calm_at told.stage (λ x o. o))
+      }) is b.0.becomes) (calm_at told.stage (λ x o. o))
       (apart_same s k id me.0 at named w old f.at told.free told.back f.old_at) in (
         w,
-        b.1,
-        b.2,
+        b.0.act,
+        b.0.valid,
         subst (λ j. RuleHolds record { words = set s.words j n; homes = homes; views = set s.views id w }) (sym is) kept,
-        b.4,
+        b.1,
       )
 
 module _ {E : Type 0} (slots id : ℕ) (me : SeatState E) (hand : me.1 ≡ carry me.0.back) (near : Near slots me.0.back) (named : me.0.known.share ≢ []) (may : MayJoin (free_chain me.0) (back_chain me.0)) where
@@ -228,72 +232,79 @@ module _ {E : Type 0} (slots id : ℕ) (me : SeatState E) (hand : me.1 ≡ carry
   pub asks_right : me.0.stage ≡ Rest → Allows RuleHolds slots id me RIGHT (λ _. 0) (play.after_take (step slots RIGHT 0 0 none) me)
   asks_right rest s k deep at fits =
       let b = takes_right slots id me hand near named may rest (plain_table s k) k.plain deep at in
-      let w = b.0 in
-      let told = b.4 rest in
-      let c : SeatState E = (w, carried_after me.1 b.1) in
+      let w = b.0.view in
+      let told = b.1 rest in
+      let c : SeatState E = (w, carried_after me.1 b.0.act) in
       let busy : List (Event Name E) = Event.Busy (name me.0) ∷ [] in
       let took : List (Event Name E) = Event.Take (name me.0) ∷ [] in
       let r = spelt_right (bit_of k.plain.uses) (word.right k.words) (word.right s.words) k.spells.bits k.spells.right in (
         w,
-        b.1,
-        b.2,
-        right_kept s k id me.0 at named 0 0 w (homes_after s.homes me.1 b.1) refl b.3 (calm_moves busy took Rest (λ t. Holding t) (word.right k.words) me c (λ x o. o) (λ t x o. o) told.0 (λ t e. (told.1 t e).0)),
-        (word.right k.words, r.0, r.1, r.2, (λ t e. ap (λ l. bit_of l t) b.3.bits ∙ r.3 t e), b.4),
+        b.0.act,
+        b.0.valid,
+        right_kept s k id me.0 at named 0 0 w (homes_after s.homes me.1 b.0.act) refl b.0.becomes
+            (calm_moves busy took Rest (λ t. Holding t) (word.right k.words) me c (λ x o. o) (λ t x o. o) told.0
+            (λ t e. (told.1 t e).0)),
+        (word.right k.words, r.0, r.1, r.2, (λ t e. ap (λ l. bit_of l t) b.0.becomes.bits ∙ r.3 t e), b.1),
       )
 
   pub gives_back : (t n : ℕ) → n ≡ 2 * suc t + bit_of me.0.bits t → me.0.stage ≡ Holding t → Allows RuleHolds slots id me RIGHT (λ _. n) (λ _. play.after_give (step slots RIGHT n 0 none) me n)
   gives_back t n is holding s k deep at fits =
       let b = gives_right slots id me hand near named may t (suc t) (omega arith) holding (plain_table s k) k.plain deep at in
-      let w = b.0 in
-      let told = b.4 t holding in
+      let w = b.0.view in
+      let told = b.1 t holding in
       let own = mine s k id me.0 at named in (
         w,
-        b.1,
-        b.2,
-        right_kept s k id me.0 at named (suc t) n w (homes_after s.homes me.1 b.1)
-            (is ∙ ap (λ z. 2 * suc t + z) (own.knows t (subst (λ l. Knows l t) (sym holding) refl))) b.3
+        b.0.act,
+        b.0.valid,
+        right_kept s k id me.0 at named (suc t) n w (homes_after s.homes me.1 b.0.act)
+            (is ∙ ap (λ z. 2 * suc t + z) (own.knows t (subst (λ l. Knows l t) (sym holding) refl))) b.0.becomes
             (calm_at told.stage (λ x o. o)),
-        b.4,
+        b.1,
       )
 
   -- ---- the stub is put in
   pub stub_swapped : (t n : ℕ) → n ≡ 2 * 0 + bit_of me.0.bits 0 → me.0.stage ≡ PutSwap t → Allows RuleHolds slots id me HEAD (λ _. n) (play.after_swap_stub (step slots HEAD n 0 none) me)
   stub_swapped t n is waits s k deep at fits =
       let b = swaps_stub slots id me hand near named may t waits (plain_table s k) k.plain deep at in
-      let w = b.0 in
-      let told = b.4 t waits in
+      let w = b.0.view in
+      let told = b.1 t waits in
       let h = word.head k.words in
-      let z = stepped (plain_table s k) HEAD 0 id me.1 w b.1 in (
+      let z = stepped (plain_table s k) HEAD 0 id me.1 w b.0.act in (
         w,
-        b.1,
-        b.2,
-        head_kept s k id me.0 at named 0 n w (homes_after s.homes me.1 b.1) is
-            (subst (λ l. Knows l 0) (sym waits) (inr refl)) (subst (λ l. Begun l 0) (sym waits) refl) b.3
+        b.0.act,
+        b.0.valid,
+        head_kept s k id me.0 at named 0 n w (homes_after s.homes me.1 b.0.act) is
+            (subst (λ l. Knows l 0) (sym waits) (inr refl)) (subst (λ l. Begun l 0) (sym waits) refl) b.0.becomes
             (calm_at told.0.stage (λ x o. o)),
-        (bits_kept s k id me.0 at named w z b.3, (h, bit_of k.plain.uses h, k.spells.head, k.spells.bits h, ap (λ l. bit_of l h) b.3.bits, b.4)),
+        (
+          bits_kept s k id me.0 at named w z b.0.becomes,
+          (h, bit_of k.plain.uses h, k.spells.head, k.spells.bits h, ap (λ l. bit_of l h) b.0.becomes.bits, b.1),
+        ),
       )
 
   pub stub_linked : (t old i n : ℕ) → i ≡ LINKS + old → n ≡ 4 * 1 + 2 * bit_of me.0.bits 0 + bit_of me.0.bits old → old < slots → me.0.stage ≡ PutLink t old → Allows RuleHolds slots id me i (λ _. n) (λ _. play.after_link_stub (step slots i n 0 none) me n)
   stub_linked t old i n is is_n inside waits s k deep at fits =
       let q = plain_table s k in
       let b = links_stub slots id me hand near named may t old i is inside waits q k.plain deep at in
-      let w = b.0 in
-      let told = b.4 t old waits in
+      let w = b.0.view in
+      let told = b.1 t old waits in
       let f = subst (AtStage (core q k.plain).head (core q k.plain).next k.plain.cell k.plain.chain.owner k.plain.chain.keeper k.plain.chain.rooms (reverse (events k.plain.history)) id (name me.0)) waits (at_stage_of q k.plain id me.0 at named) in
-      let homes = homes_after s.homes me.1 b.1 in
-      let z = stepped q i 1 id me.1 w b.1 in
+      let homes = homes_after s.homes me.1 b.0.act in
+      let z = stepped q i 1 id me.1 w b.0.act in
       let kept : RuleHolds record { words = set s.words (LINKS + old) n; homes = homes; views = set s.views id w } =
       link_kept s k id me.0 at named 0 old n f.at w homes is_n (subst (λ l. Knows l 0) (sym waits) (inr (inl refl)))
       (subst (λ l. Knows l old) (sym waits) (inr (inr refl))) f.old_at (omega arith)
       (subst (λ j. Becomes q k.plain me.0 w record { words = set k.words j 1; homes = homes; views = set s.views id w })
-      is b.3) (calm_at told.stage (λ x o. o))
-      (λ j a. spare_not_in q k.plain id old f.at ((rooms_of q k.plain id me.0 at named).own j old
-      (subst (λ l. ItemAt l j old) (ap (λ l. w.free ++ l) told.back ∙ (append-nil w.free ∙ told.free)) a)) f.old_at) in (
+      is b.0.becomes) (calm_at told.stage (λ x o. o))
+      (λ j a.
+      let rooms = ap (λ l. w.free ++ l) told.back ∙ (append-nil w.free ∙ told.free) in
+      let mine = (rooms_of q k.plain id me.0 at named).own j old (subst (λ l. ItemAt l j old) rooms a) in
+      spare_not_in q k.plain id old f.at mine f.old_at) in (
         w,
-        b.1,
-        b.2,
+        b.0.act,
+        b.0.valid,
         subst (λ j. RuleHolds record { words = set s.words j n; homes = homes; views = set s.views id w }) (sym is) kept,
-        (bits_kept s k id me.0 at named w z b.3, b.4),
+        (bits_kept s k id me.0 at named w z b.0.becomes, b.1),
       )
 
   -- ---- a load of the stub's link, by which a use of its room begins
@@ -310,16 +321,17 @@ module _ {E : Type 0} (slots id : ℕ) (me : SeatState E) (hand : me.1 ≡ carry
       let kept : p.chain.keeper ≡ Some id = f.0.keeps.kept in
       let out : (j : ℕ) → ItemAt p.chain.rooms j 0 → ⊥ = f.1 in
       let b = clears_stub slots id me hand near named may t waits q (with_use q p 0 c) deep at in
-      let w = b.0 in
-      let told = b.4 t waits in
+      let w = b.0.view in
+      let told = b.1 t waits in
       let stage : w.stage ≡ PutSwap t = told.stage in
-      let z = stepped q LINKS 0 id me.1 w b.1 in
+      let z = stepped q LINKS 0 id me.1 w b.0.act in
       let there : get_elem? z.views id ≡ some w = set_here s.views id w (at_length s.views id me.0 at) in
-      let spelt : SpellsWords (update (bit_of p.uses) 0 c) b.3.now.chain.rooms (set k.words (LINKS + 0) 0) s.words (set s.views id w) =
-      spells_begun (bit_of p.uses) 0 c p.chain.rooms b.3.now.chain.rooms k.words s.words s.views id w old.1 out
+      let spelt : SpellsWords (update (bit_of p.uses) 0 c) b.0.becomes.now.chain.rooms
+      (set k.words (LINKS + 0) 0) s.words (set s.views id w) =
+      spells_begun (bit_of p.uses) 0 c p.chain.rooms b.0.becomes.now.chain.rooms k.words s.words s.views id w old.1 out
       (λ j x y a linked same. let o = next_in q p j x y a linked in out o.0 (subst (ItemAt p.chain.rooms o.0) same o.1))
       (λ y right same. out 0 (subst (ItemAt p.chain.rooms 0) same (right_in q p y right)))
-      (p.meets.last.0, p.meets.last.2) b.3.rooms
+      (p.meets.last.0, p.meets.last.2) b.0.becomes.rooms
       (λ j u ne there_too some_name. (
         (λ i a. spare_shared ((rooms_of q p j u there_too some_name).own i 0 a) p.meets.stub),
         (λ o. elim (begun_of q p j u 0 there_too some_name o).0 [
@@ -331,22 +343,28 @@ module _ {E : Type 0} (slots id : ℕ) (me : SeatState E) (hand : me.1 ≡ carry
           | inr y ↦ elim y [ inl ready ↦ ready_shared ready p.meets.stub | inr stub ↦ ne (some_inj (sym stub.1 ∙ kept)) ]
         ]),
       ))
-      (begun_mine q p 0 c s.words s.views id me.0 w z k.spells own b.3 there (subst (λ y. Begun y 0) (sym stage) refl) (λ x o. subst (λ y. Begun y x) stage o) old.0)
+      (begun_mine q p 0 c s.words s.views id me.0 w z k.spells own b.0.becomes there
+      (subst (λ y. Begun y 0) (sym stage) refl) (λ x o. subst (λ y. Begun y x) stage o) old.0)
       k.spells in
       let words_are : s.words ≡ set s.words LINKS (get_or s.words LINKS 0) = sym (set-get_or s.words LINKS 0) in (
         w,
-        b.1,
-        b.2,
+        b.0.act,
+        b.0.valid,
         record {
           words = set k.words LINKS 0;
-          plain = b.3.now;
-          spells = subst (λ (y : List (ℕ × ℕ) × List ℕ). SpellsWords (bit_of y.0) b.3.now.chain.rooms (set k.words LINKS 0) y.1 (set s.views id w)) (λ j. (sym b.3.uses j, words_are j)) spelt;
-          word_is = pool_word s.words (set s.words LINKS (get_or s.words LINKS 0)) p.pool b.3.now.pool (ap (λ ws. word.pool ws) (sym words_are)) b.3.pool k.word_is;
-          pooled = pool_links k.words s.words (set k.words LINKS 0) (set s.words LINKS (get_or s.words LINKS 0)) p.pool b.3.now.pool b.3.pool
+          plain = b.0.becomes.now;
+          spells = subst (λ (y : List (ℕ × ℕ) × List ℕ). SpellsWords (bit_of y.0) b.0.becomes.now.chain.rooms
+              (set k.words LINKS 0) y.1 (set s.views id w)) (λ j. (sym b.0.becomes.uses j, words_are j)) spelt;
+          word_is = pool_word s.words (set s.words LINKS (get_or s.words LINKS 0)) p.pool b.0.becomes.now.pool
+              (ap (λ ws. word.pool ws) (sym words_are)) b.0.becomes.pool k.word_is;
+          pooled = pool_links k.words s.words (set k.words LINKS 0) (set s.words LINKS (get_or s.words LINKS 0)) p.pool
+              b.0.becomes.now.pool b.0.becomes.pool
               (λ j x a. (ap (λ ws. word.next ws x) (sym words_are), next_beside_next k.words 0 x 0 (λ e. shared_pooled p.meets.stub (ap p.chain.owner (sym e) ∙ p.pooled.own j x a)))) k.pooled;
         },
         (
-          (λ r o. ap (λ y. bit_of y r) b.3.bits ∙ (put_other (bit_of p.uses) 0 c r (λ e. f.0.is_real (sym (subst (λ y. Knows y r) waits o) ∙ e)) ∙ sym (own.knows r o))),
-          (l.0, l.1, l.2, l.3, ap (λ y. bit_of y 0) b.3.bits ∙ put_same (bit_of p.uses) 0 c, b.4),
+          (λ r o. ap (λ y. bit_of y r) b.0.becomes.bits
+              ∙ (put_other (bit_of p.uses) 0 c r (λ e. f.0.is_real (sym (subst (λ y. Knows y r) waits o) ∙ e))
+              ∙ sym (own.knows r o))),
+          (l.0, l.1, l.2, l.3, ap (λ y. bit_of y 0) b.0.becomes.bits ∙ put_same (bit_of p.uses) 0 c, b.1),
         ),
       )

@@ -126,10 +126,18 @@ module _ {E : Type 0} where
     pub pool : now.pool ≡ k.pool
     pub rooms : now.chain.rooms ≡ k.chain.rooms
 
+  -- a step of a party by which the word i becomes n: its view after it, and the slots that it takes or gives back
+  pub record PlainStep (s : TableState E) (k : PlainHolds s) (id i n : ℕ) (me : SeatState E) : Type 0 where
+    pub view : View E
+    pub act : Act (Option E)
+    pub valid : Valid s.homes me.1 act
+    pub becomes : Becomes s k me.0 view (stepped s i n id me.1 view act)
+
   -- what the plain rule allows a party, whatever the table is when the word i becomes f of what it was
   abbrev pub PlainAllows : ℕ → ℕ → SeatState E → ℕ → (ℕ → ℕ) → (ℕ → SeatState E → Type 0) → Type 0
   PlainAllows slots id me i f then = (s : TableState E) (k : PlainHolds s) → length s.homes ≡ slots → get_elem? s.views id ≡ some me.0
-      → (w : View E) × (a : Act (Option E)) × Valid s.homes me.1 a × Becomes s k me.0 w (stepped s i (f (get_or s.words i 0)) id me.1 w a) × then (get_or s.words i 0) (w, carried_after me.1 a)
+      → (c : PlainStep s k id i (f (get_or s.words i 0)) me)
+      × then (get_or s.words i 0) (c.view, carried_after me.1 c.act)
 
   -- one view more or less is one party
   pub parties_put : (views : List (View E)) (id : ℕ) (w : View E) → id < length views → w.known.share ≢ [] → (λ k. party_of (get_elem? (set views id w) k)) ≡ update (λ k. party_of (get_elem? views k)) id (Some (party w))
