@@ -131,16 +131,16 @@ module _ {E : Type 0} where
               ))
               k.pooled;
         },
-        (
-          word.next k.words r,
-          f.0,
-          f.1,
-          subst (λ n. IsLink (get_or s.words n 0) (word.next k.words r) f.0 f.1) index f.2,
-          (λ x xs g. ap (λ l. bit_of l x) b.0.becomes.bits
-              ∙ (ap (λ n. bit_of ((r, c) ∷ p.uses) n) (sym (firsts x xs g)) ∙ put_same (bit_of p.uses) r c)),
-          subst (λ n. plain.after_clear item (step slots i 0 0 none) me n (w, carried_after me.1 b.0.act))
-              (ap (λ n. get_or k.words n 0) is) b.1,
-        ),
+        record {
+          next = word.next k.words r;
+          to = f.0;
+          bit = f.1;
+          link = subst (λ n. IsLink (get_or s.words n 0) (word.next k.words r) f.0 f.1) index f.2;
+          knows = λ x xs g. ap (λ l. bit_of l x) b.0.becomes.bits
+              ∙ (ap (λ n. bit_of ((r, c) ∷ p.uses) n) (sym (firsts x xs g)) ∙ put_same (bit_of p.uses) r c);
+          told = subst (λ n. plain.after_clear item (step slots i 0 0 none) me n (w, carried_after me.1 b.0.act))
+              (ap (λ n. get_or k.words n 0) is) b.1;
+        },
       )
     where
       firsts : (x : ℕ) (xs : List ℕ) → me.0.free ≡ x ∷ xs → r ≡ x
@@ -224,13 +224,28 @@ module _ {E : Type 0} (slots id : ℕ) (me : SeatState E) (hand : me.1 ≡ carry
       let r = link_read s k id me.0 at named t j a o in
       let there = ap (λ n. get_or s.words n 0) is in
       let there_plain = ap (λ n. get_or k.words n 0) is in
-      (get_or k.words i 0, r.0, subst (λ (n : ℕ × ℕ × ℕ). IsRead (bit_of me.0.bits n.0) n.1 n.2 r.0) (λ l. (same l, sym there l, sym there_plain l)) r.1, (λ y e. ap (λ (x : View E). bit_of x.bits y) is_w ∙ (ap (λ l. bit_of l y) b.bits ∙ r.2 y (sym there_plain ∙ e))), told)
+      record {
+        next = get_or k.words i 0;
+        to = r.0;
+        read = subst (λ (n : ℕ × ℕ × ℕ). IsRead (bit_of me.0.bits n.0) n.1 n.2 r.0)
+            (λ l. (same l, sym there l, sym there_plain l)) r.1;
+        knows = λ y e. ap (λ (x : View E). bit_of x.bits y) is_w
+            ∙ (ap (λ l. bit_of l y) b.bits ∙ r.2 y (sym there_plain ∙ e));
+        told = told;
+      }
 
   -- what a read of the head tells
   head_tells : (s : TableState E) (k : RuleHolds s) (w : View E) (z : TableState E) (c : SeatState E) (tells : ℕ → Type 0) → c.0 ≡ w → Becomes (plain_table s k) k.plain me.0 w z → tells (word.head k.words) → play.Finds (word.head s.words) c tells
   head_tells s k w z c tells is_w b told =
       let h = word.head k.words in
-      (h, bit_of k.plain.uses h, k.spells.head, k.spells.bits h, ap (λ (x : View E). bit_of x.bits h) is_w ∙ ap (λ l. bit_of l h) b.bits, told)
+      record {
+        room = h;
+        bit = bit_of k.plain.uses h;
+        found_is = k.spells.head;
+        is_bit = k.spells.bits h;
+        knows = ap (λ (x : View E). bit_of x.bits h) is_w ∙ ap (λ l. bit_of l h) b.bits;
+        told = told;
+      }
 
   pub reads_look : (t i : ℕ) → i ≡ LINKS + t → me.0.stage ≡ Holding t → t ≢ 0 → Allows RuleHolds slots id me i (λ x. x) (play.after_look (step slots i 0 0 none) me)
   reads_look t i is holding is_real s k deep at fits =

@@ -144,19 +144,23 @@ module _ {E : Type 0} where
   -- a word that leads to a use, decoded
   pub finds_use : (k : SeatState E) (found : ℕ) (u : RoomUse) (tells : ℕ → Type 0) → play.Finds found k tells → ((room bit : ℕ) → found ≡ 2 * room + bit → IsBit bit → (u.room ≡ room) × (u.bit ≡ bit)) → play.HasUse k u × tells u.room
   finds_use k found u tells f p =
-      let e = p f.0 f.1 f.2 f.3 in
-      ((ap (λ r. bit_of k.0.bits r) e.0 ∙ (f.4 ∙ sym e.1), subst IsBit (sym e.1) f.3), subst tells (sym e.0) f.5)
+      let e = p f.room f.bit f.found_is f.is_bit in (
+        (ap (λ r. bit_of k.0.bits r) e.0 ∙ (f.knows ∙ sym e.1), subst IsBit (sym e.1) f.is_bit),
+        subst tells (sym e.0) f.told,
+      )
 
   -- the head's word is the tail's, or it leads to another room
-  pub head_tells : (m k : SeatState E) (found word : ℕ) (u : RoomUse) (tells : ℕ → Type 0) → (f : play.Finds found k tells) → play.KeepsBits m k → Knows m.0.stage u.room → play.HasUse m u → word ≡ 2 * u.room + u.bit → (found ≡ word → f.0 ≡ u.room) × (found ≢ word → f.0 ≢ u.room)
+  pub head_tells : (m k : SeatState E) (found word : ℕ) (u : RoomUse) (tells : ℕ → Type 0)
+      → (f : play.Finds found k tells) → play.KeepsBits m k → Knows m.0.stage u.room → play.HasUse m u
+      → word ≡ 2 * u.room + u.bit → (found ≡ word → f.room ≡ u.room) × (found ≢ word → f.room ≢ u.room)
   head_tells m k found word u tells f keeps o h is =
-      let e = f.2 in
-      let b = f.3 in
+      let e = f.found_is in
+      let b = f.is_bit in
       let c = h.1 in
       let now : bit_of k.0.bits u.room ≡ u.bit = keeps u.room o ∙ h.0 in (
         (λ same. omega arith),
         (λ other same.
-            let bits : f.1 ≡ u.bit = sym f.4 ∙ (ap (λ r. bit_of k.0.bits r) same ∙ now) in
+            let bits : f.bit ≡ u.bit = sym f.knows ∙ (ap (λ r. bit_of k.0.bits r) same ∙ now) in
             other (omega arith)),
       )
 
@@ -165,15 +169,25 @@ module _ {E : Type 0} where
   stub_link m u old h i e = (λ j. 4 * suc (e j) + 2 * sym h.0 j + sym i.0 j) ∙ ap (λ r. 4 * 1 + 2 * bit_of m.0.bits r + bit_of m.0.bits old.room) e
 
   -- a link, read by the bit that the code has
-  pub reads_for : (m k : SeatState E) (u : RoomUse) (found : ℕ) (tells : ℕ → Type 0) → play.HasUse m u → play.Reads u.room m found k tells → (next to : ℕ) × IsRead u.bit found next to × ((r : RoomUse) → next ≡ suc r.room → r.bit ≡ to → play.HasUse k r) × tells next
+  pub record ReadBy (u : RoomUse) (found : ℕ) (k : SeatState E) (tells : ℕ → Type 0) : Type 0 where
+    pub next : ℕ
+    pub to : ℕ
+    pub read : IsRead u.bit found next to
+    pub knows : (r : RoomUse) → next ≡ suc r.room → r.bit ≡ to → play.HasUse k r
+    pub told : tells next
+
+  pub reads_for : (m k : SeatState E) (u : RoomUse) (found : ℕ) (tells : ℕ → Type 0) → play.HasUse m u
+      → play.Reads u.room m found k tells → ReadBy u found k tells
   reads_for m k u found tells h f =
-      let read : IsRead u.bit found f.0 f.1 = subst (λ b. IsRead b found f.0 f.1) h.0 f.2 in (
-        f.0,
-        f.1,
-        read,
-        (λ r e same. (f.3 r.room e ∙ sym same, subst IsBit (sym same) (subst (λ n. IsRead u.bit found n f.1) e read).1)),
-        f.4,
-      )
+      let read : IsRead u.bit found f.next f.to = subst (λ b. IsRead b found f.next f.to) h.0 f.read in record {
+        next = f.next;
+        to = f.to;
+        read = read;
+        knows = λ r e same.
+            let linked = subst (λ n. IsRead u.bit found n f.to) e read in
+            (f.knows r.room e ∙ sym same, subst IsBit (sym same) linked.1);
+        told = f.told;
+      }
 
   -- the word of the stub's use
   pub stub_bits : (m : SeatState E) (u : RoomUse) → play.HasUse m u → u.room ≡ 0 → 2 * u.room + u.bit ≡ 2 * 0 + bit_of m.0.bits 0
@@ -197,7 +211,14 @@ module _ {E : Type 0} where
             (subst (λ l. Begun l r) (sym ready) refl) b.0.becomes (calm_at told.stage (λ x o. o)),
         (
           bits_kept s k id me.0 at named w z b.0.becomes,
-          (h, bit_of k.plain.uses h, k.spells.head, k.spells.bits h, ap (λ l. bit_of l h) b.0.becomes.bits, b.1),
+          record {
+            room = h;
+            bit = bit_of k.plain.uses h;
+            found_is = k.spells.head;
+            is_bit = k.spells.bits h;
+            knows = ap (λ l. bit_of l h) b.0.becomes.bits;
+            told = b.1;
+          },
         ),
       )
 
@@ -244,7 +265,14 @@ module _ {E : Type 0} (slots id : ℕ) (me : SeatState E) (hand : me.1 ≡ carry
         right_kept s k id me.0 at named 0 0 w (homes_after s.homes me.1 b.0.act) refl b.0.becomes
             (calm_moves busy took Rest (λ t. Holding t) (word.right k.words) me c (λ x o. o) (λ t x o. o) told.0
             (λ t e. (told.1 t e).0)),
-        (word.right k.words, r.0, r.1, r.2, (λ t e. ap (λ l. bit_of l t) b.0.becomes.bits ∙ r.3 t e), b.1),
+        record {
+          right = word.right k.words;
+          bit = r.0;
+          found_is = r.1;
+          is_bit = r.2;
+          knows = λ t e. ap (λ l. bit_of l t) b.0.becomes.bits ∙ r.3 t e;
+          told = b.1;
+        },
       )
 
   pub gives_back : (t n : ℕ) → n ≡ 2 * suc t + bit_of me.0.bits t → me.0.stage ≡ Holding t → Allows RuleHolds slots id me RIGHT (λ _. n) (λ _. play.after_give (step slots RIGHT n 0 none) me n)
@@ -278,7 +306,14 @@ module _ {E : Type 0} (slots id : ℕ) (me : SeatState E) (hand : me.1 ≡ carry
             (calm_at told.0.stage (λ x o. o)),
         (
           bits_kept s k id me.0 at named w z b.0.becomes,
-          (h, bit_of k.plain.uses h, k.spells.head, k.spells.bits h, ap (λ l. bit_of l h) b.0.becomes.bits, b.1),
+          record {
+            room = h;
+            bit = bit_of k.plain.uses h;
+            found_is = k.spells.head;
+            is_bit = k.spells.bits h;
+            knows = ap (λ l. bit_of l h) b.0.becomes.bits;
+            told = b.1;
+          },
         ),
       )
 
@@ -365,6 +400,13 @@ module _ {E : Type 0} (slots id : ℕ) (me : SeatState E) (hand : me.1 ≡ carry
           (λ r o. ap (λ y. bit_of y r) b.0.becomes.bits
               ∙ (put_other (bit_of p.uses) 0 c r (λ e. f.0.is_real (sym (subst (λ y. Knows y r) waits o) ∙ e))
               ∙ sym (own.knows r o))),
-          (l.0, l.1, l.2, l.3, ap (λ y. bit_of y 0) b.0.becomes.bits ∙ put_same (bit_of p.uses) 0 c, b.1),
+          record {
+            next = l.0;
+            to = l.1;
+            bit = l.2;
+            link = l.3;
+            knows = ap (λ y. bit_of y 0) b.0.becomes.bits ∙ put_same (bit_of p.uses) 0 c;
+            told = b.1;
+          },
         ),
       )

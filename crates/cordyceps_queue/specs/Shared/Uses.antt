@@ -21,22 +21,33 @@ module _ {E : Type 0} where
   KeepsBits m k = (r : ℕ) → Knows (view m).stage r → bit_of (view k).bits r ≡ bit_of (view m).bits r
 
   -- a word that leads to a use of a room: the room, and the bit, which the party then knows
-  abbrev pub Finds : ℕ → SeatState E → (ℕ → Type 0) → Type 0
-  Finds found k tells =
-      (room bit : ℕ) × (found ≡ 2 * room + bit) × IsBit bit × (bit_of (view k).bits room ≡ bit) × tells room
+  pub record Finds (found : ℕ) (k : SeatState E) (tells : ℕ → Type 0) : Type 0 where
+    pub room : ℕ
+    pub bit : ℕ
+    pub found_is : found ≡ 2 * room + bit
+    pub is_bit : IsBit bit
+    pub knows : bit_of (view k).bits room ≡ bit
+    pub told : tells room
 
   -- a link that is read by a party that knows the bit of room t
-  abbrev pub Reads : ℕ → SeatState E → ℕ → SeatState E → (ℕ → Type 0) → Type 0
-  Reads t m found k tells =
-      (next to : ℕ) × IsRead (bit_of (view m).bits t) found next to × ((r : ℕ) → next ≡ suc r → bit_of (view k).bits r ≡ to)
-      × tells next
+  pub record Reads (t : ℕ) (m : SeatState E) (found : ℕ) (k : SeatState E) (tells : ℕ → Type 0) : Type 0 where
+    pub next : ℕ
+    pub to : ℕ
+    pub read : IsRead (bit_of (view m).bits t) found next to
+    pub knows : (r : ℕ) → next ≡ suc r → bit_of (view k).bits r ≡ to
+    pub told : tells next
 
-  -- a load of a free room's link
+  -- a load of a free room's link, by which a use of the room begins, whose bit the party then knows
+  pub record Begins (item : Option E) (st : TableStep E) (m : SeatState E) (found : ℕ) (k : SeatState E) : Type 0 where
+    pub next : ℕ
+    pub to : ℕ
+    pub bit : ℕ
+    pub link : IsLink found next to bit
+    pub knows : (r : ℕ) (rs : List ℕ) → (view m).free ≡ r ∷ rs → bit_of (view k).bits r ≡ 1 - bit
+    pub told : plain.after_clear item st m next k
+
   abbrev pub after_clear : Option E → TableStep E → SeatState E → ℕ → SeatState E → Type 0
-  after_clear item st m found k =
-      (next to bit : ℕ) × IsLink found next to bit
-      × ((r : ℕ) (rs : List ℕ) → (view m).free ≡ r ∷ rs → bit_of (view k).bits r ≡ 1 - bit)
-      × plain.after_clear item st m next k
+  after_clear item st m found k = Begins item st m found k
 
   abbrev pub after_swap : TableStep E → SeatState E → ℕ → SeatState E → Type 0
   after_swap st m found k = KeepsBits m k × Finds found k (λ old. plain.after_swap st m old k)
@@ -53,10 +64,16 @@ module _ {E : Type 0} where
       → (k ≡ m) × ((to bit : ℕ) × IsLink found (leads after (view m).end) to bit)
 
   -- a swap of the right: 0, or 1 more than the tail, whose bit the party then knows
+  pub record FindsRight (st : TableStep E) (m : SeatState E) (found : ℕ) (k : SeatState E) : Type 0 where
+    pub right : ℕ
+    pub bit : ℕ
+    pub found_is : found ≡ 2 * right + bit
+    pub is_bit : IsBit bit
+    pub knows : (t : ℕ) → right ≡ suc t → bit_of (view k).bits t ≡ bit
+    pub told : plain.after_take st m right k
+
   abbrev pub after_take : TableStep E → SeatState E → ℕ → SeatState E → Type 0
-  after_take st m found k =
-      (right bit : ℕ) × (found ≡ 2 * right + bit) × IsBit bit × ((t : ℕ) → right ≡ suc t → bit_of (view k).bits t ≡ bit)
-      × plain.after_take st m right k
+  after_take st m found k = FindsRight st m found k
 
   abbrev pub after_look_stub : TableStep E → SeatState E → ℕ → SeatState E → Type 0
   after_look_stub st m found k =
@@ -82,11 +99,17 @@ module _ {E : Type 0} where
   abbrev pub after_head : TableStep E → SeatState E → ℕ → SeatState E → Type 0
   after_head st m found k = KeepsBits m k × Finds found k (λ head. plain.after_head st m head k)
 
-  -- a load of the stub's link
+  -- a load of the stub's link, by which a use of the stub's room begins, whose bit the party then knows
+  pub record BeginsStub (st : TableStep E) (m : SeatState E) (found : ℕ) (k : SeatState E) : Type 0 where
+    pub next : ℕ
+    pub to : ℕ
+    pub bit : ℕ
+    pub link : IsLink found next to bit
+    pub knows : bit_of (view k).bits 0 ≡ 1 - bit
+    pub told : plain.after_clear_stub st m 0 k
+
   abbrev pub after_clear_stub : TableStep E → SeatState E → ℕ → SeatState E → Type 0
-  after_clear_stub st m found k =
-      KeepsBits m k
-      × ((next to bit : ℕ) × IsLink found next to bit × (bit_of (view k).bits 0 ≡ 1 - bit) × plain.after_clear_stub st m 0 k)
+  after_clear_stub st m found k = KeepsBits m k × BeginsStub st m found k
 
   abbrev pub after_swap_stub : TableStep E → SeatState E → ℕ → SeatState E → Type 0
   after_swap_stub st m found k = KeepsBits m k × Finds found k (λ old. plain.after_swap_stub st m old k)

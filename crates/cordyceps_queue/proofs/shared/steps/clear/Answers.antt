@@ -26,8 +26,8 @@ pub returns-clause-cleared : goal.returns-clause-cleared
 returns-clause-cleared g c =
     let r = c.requires.room in
     let u = c.load.ensures.2 in
-    let l = u.5 c.args.room r.0 c.args._item.now r.1 c.requires.item in
-    let d = c.free_link.ensures u.0 u.1 u.2 u.3 in
+    let l = u.told c.args.room r.0 c.args._item.now r.1 c.requires.item in
+    let d = c.free_link.ensures u.next u.to u.bit u.link in
     let none : Option g.row.E.Denot = None in record {
       stage = l.stage;
       item = l.item;
@@ -44,5 +44,5 @@ pub returns-clause-knows : goal.returns-clause-knows
 returns-clause-knows g c =
     let r = c.requires.room in
     let u = c.load.ensures.2 in
-    let d = c.free_link.ensures u.0 u.1 u.2 u.3 in
-    (u.4 c.args.room r.0 r.1 ∙ sym d.1, d.2)
+    let d = c.free_link.ensures u.next u.to u.bit u.link in
+    (u.knows c.args.room r.0 r.1 ∙ sym d.1, d.2)

@@ -22,11 +22,12 @@ swap-requires g c =
 pub returns-clause-took : goal.returns-clause-took
 returns-clause-took g c =
     let u = c.swap.ensures.2 in
-    let e = c.pointed.ensures u.0 u.1 u.2 u.3 in
-    subst (λ n. AsksRight c.args.words.now.table_id.slots n c.args.seat.now.me c.swap.new.seat.me) (sym e.0) (takes_by (step c.args.words.now.table_id.slots RIGHT 0 0 none) _ _ c.requires.rest _ u.5)
+    let e = c.pointed.ensures u.right u.bit u.found_is u.is_bit in
+    subst (λ n. AsksRight c.args.words.now.table_id.slots n c.args.seat.now.me c.swap.new.seat.me) (sym e.0)
+    (takes_by (step c.args.words.now.table_id.slots RIGHT 0 0 none) _ _ c.requires.rest _ u.told)
 
 pub returns-clause-knows : goal.returns-clause-knows
 returns-clause-knows g c t is =
     let u = c.swap.ensures.2 in
-    let e = c.pointed.ensures u.0 u.1 u.2 u.3 in
-    (u.4 t (sym e.0 ∙ is) ∙ sym e.1, subst IsBit (sym e.1) u.3)
+    let e = c.pointed.ensures u.right u.bit u.found_is u.is_bit in
+    (u.knows t (sym e.0 ∙ is) ∙ sym e.1, subst IsBit (sym e.1) u.is_bit)

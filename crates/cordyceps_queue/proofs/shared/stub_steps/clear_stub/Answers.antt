@@ -15,14 +15,14 @@ load-requires g c =
     )
 
 pub returns-clause-answer : goal.returns-clause-answer
-returns-clause-answer g c = c.load.ensures.2.1.5 c.args._tail.room c.requires.stage.stage
+returns-clause-answer g c = c.load.ensures.2.1.told c.args._tail.room c.requires.stage.stage
 
 pub returns-clause-knows : goal.returns-clause-knows
 returns-clause-knows g c =
     let u = c.load.ensures.2 in
-    let d = c.free_link.ensures u.1.0 u.1.1 u.1.2 u.1.3 in (
+    let d = c.free_link.ensures u.1.next u.1.to u.1.bit u.1.link in (
       still_has c.args.seat.now.me c.load.new.seat.me c.args._tail u.0
           (subst (λ l. Knows l c.args._tail.room) (sym c.requires.stage.stage) refl) c.requires.knows,
-      (u.1.4 ∙ sym d.1, d.2),
+      (u.1.knows ∙ sym d.1, d.2),
       refl,
     )

@@ -21,7 +21,7 @@ leads_to-requires g c =
     let u : RoomUse = record { room = 0; bit = c.args.bit } in
     let f = reads_for c.args.seat.now.me c.load.new.seat.me u c.load.result _ c.requires.knows
     (c.load.ensures.2.1 c.requires.holding.right.stage) in
-    (f.0, f.1, f.2)
+    (f.next, f.to, f.read)
 
 pub returns-clause-answer : goal.returns-clause-answer
 returns-clause-answer g c =
@@ -29,8 +29,8 @@ returns-clause-answer g c =
     let k = c.load.new.seat.me in
     let u : RoomUse = record { room = 0; bit = c.args.bit } in
     let f = reads_for m k u c.load.result _ c.requires.knows (c.load.ensures.2.1 c.requires.holding.right.stage) in
-    let told = f.4 c.requires.holding.right.stage in
-    match_map c.leads_to.result (λ none. told.0 none) (λ r e. told.1 r.room e.0) (c.leads_to.ensures f.0 f.1 f.2)
+    let told = f.told c.requires.holding.right.stage in
+    match_map c.leads_to.result (λ none. told.0 none) (λ r e. told.1 r.room e.0) (c.leads_to.ensures f.next f.to f.read)
 
 pub returns-clause-knows : goal.returns-clause-knows
 returns-clause-knows g c =
@@ -41,5 +41,5 @@ returns-clause-knows g c =
     match_map c.leads_to.result
     (λ none. still_has m k u c.load.ensures.2.0 (subst (λ l. Knows l 0) (sym c.requires.holding.right.stage) refl)
     c.requires.knows)
-    (λ r e. f.3 r e.0 e.1)
-    (c.leads_to.ensures f.0 f.1 f.2)
+    (λ r e. f.knows r e.0 e.1)
+    (c.leads_to.ensures f.next f.to f.read)

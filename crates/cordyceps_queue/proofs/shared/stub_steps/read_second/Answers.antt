@@ -20,7 +20,7 @@ pub leads_to-requires : goal.leads_to-requires
 leads_to-requires g c =
     let f = reads_for c.args.seat.now.me c.load.new.seat.me c.args.tail c.load.result _ c.requires.knows
     (c.load.ensures.2.1 c.args.tail.room c.requires.stage.0.stage) in
-    (f.0, f.1, f.2)
+    (f.next, f.to, f.read)
 
 pub returns-clause-answer : goal.returns-clause-answer
 returns-clause-answer g c =
@@ -28,8 +28,8 @@ returns-clause-answer g c =
     let k = c.load.new.seat.me in
     let at = c.requires.stage.0.stage in
     let f = reads_for m k c.args.tail c.load.result _ c.requires.knows (c.load.ensures.2.1 c.args.tail.room at) in
-    let told = f.4 c.args.tail.room at in
+    let told = f.told c.args.tail.room at in
     match_map c.leads_to.result
     (λ none. let t = told.0 none in (t, still_has m k c.args.tail c.load.ensures.2.0 (subst (λ l. Knows l c.args.tail.room) (sym at) refl) c.requires.knows))
-    (λ r e. (told.1 r.room e.0, f.3 r e.0 e.1))
-    (c.leads_to.ensures f.0 f.1 f.2)
+    (λ r e. (told.1 r.room e.0, f.knows r e.0 e.1))
+    (c.leads_to.ensures f.next f.to f.read)
