@@ -8,7 +8,7 @@ use Rattle.cordyceps_queue.specs.Cores.Abstract.{AbstractParty, AbstractMachine,
 use Rattle.cordyceps_queue.specs.Cores.Meets.{Owner, Shared, Spare, Ready, Unmade, tail_of, Chain, OwnsRooms, Joined, IsStranger, AtStage, RightIs, Meets}
 use Rattle.cordyceps_queue.specs.Cores.StepKeeps.{AddsKeep}
 use Rattle.cordyceps_queue.proofs.CoreTheory.Basics.{ready_with, some_inj, none_some, put_same, put_other, put_all}
-use Rattle.cordyceps_queue.proofs.CoreTheory.OtherParties.{joined_put, names_put, strange}
+use Rattle.cordyceps_queue.proofs.CoreTheory.OtherParties.{taken_with, joined_put, names_put, strange}
 use Rattle.cordyceps_queue.proofs.CoreTheory.ProducerSteps.{spare_unmade, ready_unmade, shared_unmade}
 use Rattle.cordyceps_queue.proofs.CoreTheory.ChainShrinks.{room_was, room_once}
 
@@ -25,11 +25,13 @@ module _ {P E : Type 0} (m : AbstractMachine P E) (c : Chain) (h : List (Event P
 
     joined_still : (a b : ℕ) → Joined m.next m.party a b → Joined m.next parties a b
     joined_still a b (inl l) = inl l
-    joined_still a b (inr o) = inr (o.0, (o.1.0, o.1.1, still o.1.0 o.1.1 o.1.2, o.1.3))
+    joined_still a b (inr o) =
+        let d = o.1 in
+        inr (o.0, record { by = d.by; who = d.who; there = still d.by d.who d.there; owes = d.owes })
 
     right_still : (keeper : Option ℕ) → RightIs m.right m.party c.rooms h keeper → RightIs m.right parties c.rooms h keeper
     right_still None R = R
-    right_still (Some j) R = (R.0, R.1, R.2, still j R.1 R.3, R.4, R.5)
+    right_still (Some j) R = taken_with R (still j R.by R.there) R.held
 
     party_keeps : Meets (add_party m k name) c h
     party_keeps = record {
@@ -98,9 +100,15 @@ module _ {P E : Type 0} (m : AbstractMachine P E) (c : Chain) (h : List (Event P
     right_kept None R = R
     right_kept (Some j) R = elim (ℕ_discrete j k) [
       | yes same ↦
-          let e : R.1 ≡ p = some_inj (sym R.3 ∙ ap m.party same ∙ at) in
-          (R.0, roomier, R.2, ap (update m.party k (Some roomier)) same ∙ put_same m.party k (Some roomier), ap (λ (q : AbstractParty P). tail_of q.stage) (sym e) ∙ R.4, R.5 ∙ ap (λ (q : AbstractParty P). Some q.name) e)
-      | no ne ↦ (R.0, R.1, R.2, put_other m.party k (Some roomier) j ne ∙ R.3, R.4, R.5)
+          let e : R.by ≡ p = some_inj (sym R.there ∙ ap m.party same ∙ at) in record {
+            zero_is = R.zero_is;
+            by = roomier;
+            tail = R.tail;
+            there = ap (update m.party k (Some roomier)) same ∙ put_same m.party k (Some roomier);
+            has = ap (λ (q : AbstractParty P). tail_of q.stage) (sym e) ∙ R.has;
+            held = R.held ∙ ap (λ (q : AbstractParty P). Some q.name) e;
+          }
+      | no ne ↦ taken_with R (put_other m.party k (Some roomier) j ne ∙ R.there) R.held
     ]
 
     room_keeps : Meets (add_room m k p) (record c { owner = owner' }) h

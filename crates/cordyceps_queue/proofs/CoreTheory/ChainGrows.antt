@@ -4,10 +4,10 @@ use Rattle.cordyceps_queue.specs.History.{Event}
 use Rattle.cordyceps_queue.specs.Past.{held_reversed, holder_reversed}
 use Rattle.cordyceps_queue.specs.Cores.Abstract.{update, AbstractParty, AbstractMachine}
 use Rattle.cordyceps_shared.specs.Places.{ItemAt}
-use Rattle.cordyceps_queue.specs.Cores.Meets.{real, Owes, Chain, Joined, RightIs, Meets}
+use Rattle.cordyceps_queue.specs.Cores.Meets.{EndsAt, real, Owes, Chain, Joined, RightIs, Meets}
 use Rattle.cordyceps_shared.proofs.Places.{at_end}
 use Rattle.cordyceps_queue.proofs.CoreTheory.Basics.{put_same, at_one, at_within, at_more, at_split, length_map}
-use Rattle.cordyceps_queue.proofs.CoreTheory.OtherParties.{joined_put}
+use Rattle.cordyceps_queue.proofs.CoreTheory.OtherParties.{joined_put, taken_with}
 
 pub real_one : (r : ℕ) → r ≢ 0 → real (r ∷ []) ≡ r ∷ []
 real_one zero ne = absurd (ne refl)
@@ -20,13 +20,19 @@ real_within (suc x ∷ xs) = let l = real_within xs in omega arith
 
 -- what the right is does not turn on the end of the chain
 pub right_more : {P E : Type 0} (right : ℕ) (party : ℕ → Option (AbstractParty P)) (rooms : List ℕ) (r : ℕ) (h : List (Event P E)) (x : Event P E) (keeper : Option ℕ) → holder_reversed (x ∷ h) ≡ holder_reversed h → RightIs right party rooms h keeper → RightIs right party (rooms ++ r ∷ []) (x ∷ h) keeper
-right_more right party rooms r h x None same R = (same ∙ R.0, R.1, R.2, at_more rooms (r ∷ []) 0 R.1 R.3)
-right_more right party rooms r h x (Some k) same R = (R.0, R.1, R.2, R.3, R.4, same ∙ R.5)
+right_more right party rooms r h x None same R = record {
+  unheld = same ∙ R.unheld;
+  tail = R.tail;
+  right_is = R.right_is;
+  tail_at = at_more rooms (r ∷ []) 0 R.tail R.tail_at;
+}
+right_more right party rooms r h x (Some k) same R = taken_with R R.there (same ∙ R.held)
 
 -- nor on an event that leaves the holder
 pub right_same : {P E : Type 0} (right : ℕ) (party : ℕ → Option (AbstractParty P)) (rooms : List ℕ) (h : List (Event P E)) (x : Event P E) (keeper : Option ℕ) → holder_reversed (x ∷ h) ≡ holder_reversed h → RightIs right party rooms h keeper → RightIs right party rooms (x ∷ h) keeper
-right_same right party rooms h x None same R = (same ∙ R.0, R.1, R.2, R.3)
-right_same right party rooms h x (Some k) same R = (R.0, R.1, R.2, R.3, R.4, same ∙ R.5)
+right_same right party rooms h x None same R =
+    record { unheld = same ∙ R.unheld; tail = R.tail; right_is = R.right_is; tail_at = R.tail_at }
+right_same right party rooms h x (Some k) same R = taken_with R R.there (same ∙ R.held)
 
 module _ {P E : Type 0} (m : AbstractMachine P E) (c : Chain) (h : List (Event P E)) (M : Meets m c h) where
   pub held_length : length (real c.rooms) ≡ length (held_reversed h)
@@ -35,12 +41,16 @@ module _ {P E : Type 0} (m : AbstractMachine P E) (c : Chain) (h : List (Event P
   -- where head is the tail, at most one element is held
   pub alone : (t : ℕ) → ItemAt c.rooms 0 t → m.head ≡ t → length (held_reversed h) < 2
   alone t first same =
-      let e : M.last.0 ≡ 0 = M.once M.last.0 0 t (subst (ItemAt c.rooms M.last.0) same M.last.2) first in
-      omega (arith, held_length, real_within c.rooms, M.last.1, e)
+      let e : M.last.at ≡ 0 = M.once M.last.at 0 t (subst (ItemAt c.rooms M.last.at) same M.last.head_at) first in
+      omega (arith, held_length, real_within c.rooms, M.last.long, e)
 
   module _ (r : ℕ) where
-    pub last_more : (i : ℕ) × (length (c.rooms ++ r ∷ []) ≡ suc i) × ItemAt (c.rooms ++ r ∷ []) i r
-    last_more = (length c.rooms, omega (arith, length-append c.rooms (r ∷ [])), at_end c.rooms r)
+    pub last_more : EndsAt (c.rooms ++ r ∷ []) r
+    last_more = record {
+      at = length c.rooms;
+      long = omega (arith, length-append c.rooms (r ∷ []));
+      head_at = at_end c.rooms r;
+    }
 
     pub once_more : ((i : ℕ) → ItemAt c.rooms i r → ⊥) → (i j x : ℕ) → ItemAt (c.rooms ++ r ∷ []) i x → ItemAt (c.rooms ++ r ∷ []) j x → i ≡ j
     once_more fresh i j x ix jx = elim (at_split c.rooms r i x ix) [
@@ -57,9 +67,10 @@ module _ {P E : Type 0} (m : AbstractMachine P E) (c : Chain) (h : List (Event P
       ]
       | inr jb ↦ elim (at_split c.rooms r i a ia) [
         | inl ja ↦
-            let n : M.last.0 ≡ i = omega (arith, M.last.1, jb.0) in
-            let e : a ≡ m.head = at_one c.rooms i a m.head ja (subst (λ n. ItemAt c.rooms n m.head) n M.last.2) in
-            inr (ap m.next e ∙ M.ends, (k, q, put_same m.party k (Some q), subst (λ x. Owes q.stage x b) (sym e) (subst (Owes q.stage m.head) (sym jb.1) owes)))
+            let n : M.last.at ≡ i = omega (arith, M.last.long, jb.0) in
+            let e : a ≡ m.head = at_one c.rooms i a m.head ja (subst (λ n. ItemAt c.rooms n m.head) n M.last.head_at) in
+            let here = subst (λ x. Owes q.stage x b) (sym e) (subst (Owes q.stage m.head) (sym jb.1) owes) in
+            inr (ap m.next e ∙ M.ends, record { by = k; who = q; there = put_same m.party k (Some q); owes = here })
         | inr ja ↦ absurd (omega (arith, ja.0, jb.0))
       ]
     ]

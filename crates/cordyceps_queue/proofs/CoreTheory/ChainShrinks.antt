@@ -6,7 +6,7 @@ use Rattle.cordyceps_queue.specs.declared.cores.stage.Stage.{Stage}
 use Rattle.cordyceps_queue.specs.declared.cores.stage.Stage.TheVariants.{Rest, Cleared, Swapped}
 use Rattle.cordyceps_queue.specs.Cores.Abstract.{insert_room, AbstractMachine}
 use Rattle.cordyceps_shared.specs.Places.{ItemAt}
-use Rattle.cordyceps_queue.specs.Cores.Meets.{real, rank, Owner, Ready, tail_of, Chain, Joined, AtStage, Meets}
+use Rattle.cordyceps_queue.specs.Cores.Meets.{EndsAt, real, rank, Owner, Ready, tail_of, Chain, Joined, AtStage, Meets}
 use Rattle.cordyceps_queue.proofs.CoreTheory.Basics.{ready_with, some_inj, some_none, zero_suc, suc_inj, at_one}
 use Rattle.cordyceps_queue.proofs.CoreTheory.HolderSteps.{at_some}
 
@@ -100,17 +100,18 @@ room_once r (y ∷ ys) away once =
 
 module _ {P E : Type 0} (m : AbstractMachine P E) (c : Chain) (h : List (Event P E)) (M : Meets m c h) (t r : ℕ) (first : ItemAt c.rooms 0 t) (linked : m.next t ≡ Some r) where
   -- head is another room than the tail
-  goes_on : (i : ℕ) × (M.last.0 ≡ suc i)
-  goes_on = from M.last.0 refl
+  goes_on : (i : ℕ) × (M.last.at ≡ suc i)
+  goes_on = from M.last.at refl
     where
-      from : (n : ℕ) → M.last.0 ≡ n → (i : ℕ) × (M.last.0 ≡ suc i)
+      from : (n : ℕ) → M.last.at ≡ n → (i : ℕ) × (M.last.at ≡ suc i)
       from zero e =
-          let same : m.head ≡ t = at_one c.rooms 0 m.head t (subst (λ n. ItemAt c.rooms n m.head) e M.last.2) first in
+          let same : m.head ≡ t = at_one c.rooms 0 m.head t (subst (λ n. ItemAt c.rooms n m.head) e M.last.head_at)
+          first in
           absurd (some_none (sym linked ∙ ap m.next (sym same) ∙ M.ends))
       from (suc n) e = (n, e)
 
   pub second : ItemAt c.rooms 1 r
-  second = from (at_some c.rooms 1 (omega (arith, M.last.1, goes_on.1)))
+  second = from (at_some c.rooms 1 (omega (arith, M.last.long, goes_on.1)))
     where
       by : (b : ℕ) → Joined m.next m.party t b → b ≡ r
       by b (inl l) = some_inj (sym l ∙ linked)
@@ -119,12 +120,12 @@ module _ {P E : Type 0} (m : AbstractMachine P E) (c : Chain) (h : List (Event P
       from : (b : ℕ) × ItemAt c.rooms 1 b → ItemAt c.rooms 1 r
       from s = subst (ItemAt c.rooms 1) (by s.0 (M.joined 0 t s.0 first s.1)) s.1
 
-  pub last_less : (i : ℕ) × (length (drop 1 c.rooms) ≡ suc i) × ItemAt (drop 1 c.rooms) i m.head
-  last_less = (
-    goes_on.0,
-    length_drop c.rooms goes_on.0 (M.last.1 ∙ ap suc goes_on.1),
-    at_up c.rooms goes_on.0 m.head (subst (λ n. ItemAt c.rooms n m.head) goes_on.1 M.last.2),
-  )
+  pub last_less : EndsAt (drop 1 c.rooms) m.head
+  last_less = record {
+    at = goes_on.0;
+    long = length_drop c.rooms goes_on.0 (M.last.long ∙ ap suc goes_on.1);
+    head_at = at_up c.rooms goes_on.0 m.head (subst (λ n. ItemAt c.rooms n m.head) goes_on.1 M.last.head_at);
+  }
 
   pub once_less : Once (drop 1 c.rooms)
   once_less i j x a b = suc_inj (M.once (suc i) (suc j) x (at_down c.rooms i x a) (at_down c.rooms j x b))

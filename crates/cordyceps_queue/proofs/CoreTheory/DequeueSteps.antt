@@ -13,8 +13,9 @@ use Rattle.cordyceps_queue.proofs.CoreTheory.HolderSteps.{producer_moves, keepin
 use Rattle.cordyceps_queue.proofs.CoreTheory.ChainShrinks.{at_down, at_up, real_stub, real_first, rank_stub, rank_first, map_split, room_was, room_once, second, last_less, once_less, tail_away, producer_drops}
 
 pub free_right : {P E : Type 0} (right : ℕ) (party : ℕ → Option (AbstractParty P)) (rooms : List ℕ) (h : List (Event P E)) (keeper : Option ℕ) (t : ℕ) → right ≡ suc t → RightIs right party rooms h keeper → (keeper ≡ None) × (holder_reversed h ≡ None) × ItemAt rooms 0 t
-free_right right party rooms h None t e R = (refl, R.0, subst (ItemAt rooms 0) (suc_inj (sym R.2 ∙ e)) R.3)
-free_right right party rooms h (Some j) t e R = absurd (suc_zero (sym e ∙ R.0))
+free_right right party rooms h None t e R =
+    (refl, R.unheld, subst (ItemAt rooms 0) (suc_inj (sym R.right_is ∙ e)) R.tail_at)
+free_right right party rooms h (Some j) t e R = absurd (suc_zero (sym e ∙ R.zero_is))
 
 module _ {P E : Type 0} (m : AbstractMachine P E) (c : Chain) (h : List (Event P E)) (M : Meets m c h) (k : ℕ) (p : AbstractParty P) (at : m.party k ≡ Some p) where
   -- Take of the free right
@@ -42,7 +43,14 @@ module _ {P E : Type 0} (m : AbstractMachine P E) (c : Chain) (h : List (Event P
       stub = M.stub;
       unmade = M.unmade;
       holds = M.holds;
-      right = (refl, taker, t, put_same m.party k (Some taker), refl, refl);
+      right = record {
+        zero_is = refl;
+        by = taker;
+        tail = t;
+        there = put_same m.party k (Some taker);
+        has = refl;
+        held = refl;
+      };
       fits = put_all (λ j q. AtStage m.head m.next m.cell c.owner (Some k) c.rooms (Event.Take p.name ∷ h) j q.name q.stage) m.party k taker
           (λ j q ne eq. producer_moves m.head m.head m.next m.next m.cell c.owner c.keeper (Some k) c.rooms h (Event.Take p.name ∷ h) j q.name (λ a n. n) (λ s. s) (λ n w. w) q.stage
           (has_none m.head m.next m.cell c.owner c.keeper c.rooms h j q.name q.stage (tail_of q.stage) refl (λ e. none_some (sym free.0 ∙ e)) (M.fits j q eq)) (M.fits j q eq))
@@ -74,7 +82,7 @@ module _ {P E : Type 0} (m : AbstractMachine P E) (c : Chain) (h : List (Event P
       stub = M.stub;
       unmade = M.unmade;
       holds = M.holds;
-      right = (refl, t, refl, keeps_right.tail);
+      right = record { unheld = refl; tail = t; right_is = refl; tail_at = keeps_right.tail };
       fits = put_all (λ j q. AtStage m.head m.next m.cell c.owner None c.rooms (Event.Free p.name ∷ h) j q.name q.stage) m.party k giver
           (λ j q ne eq. producer_moves m.head m.head m.next m.next m.cell c.owner c.keeper None c.rooms h (Event.Free p.name ∷ h) j q.name (λ a n. n) (λ s. s) (λ n w. w) q.stage
           (other_none m c h M k p at t (ap tail_of holding) j q ne eq) (M.fits j q eq))

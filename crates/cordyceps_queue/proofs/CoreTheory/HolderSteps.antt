@@ -7,7 +7,8 @@ use Rattle.cordyceps_queue.specs.declared.cores.stage.Stage.{Stage}
 use Rattle.cordyceps_queue.specs.declared.cores.stage.Stage.TheVariants.{Rest, Cleared, Swapped, Holding}
 use Rattle.cordyceps_queue.specs.Cores.Abstract.{update, AbstractParty, AbstractMachine, set_stage}
 use Rattle.cordyceps_shared.specs.Places.{ItemAt}
-use Rattle.cordyceps_queue.specs.Cores.Meets.{real, rank, Owner, Owes, tail_of, Chain, IsOut, OwnsRooms, Joined, Keeps, AtStage, RightIs, Meets}
+use Rattle.cordyceps_queue.specs.Cores.Meets.{real, rank, Owner, Owes, tail_of, Chain, IsOut, OwnsRooms, Joined, Keeps}
+use Rattle.cordyceps_queue.specs.Cores.Meets.{AtStage, IsTaken, RightIs, Meets}
 use Rattle.cordyceps_queue.proofs.CoreTheory.Basics.{open_with, ready_with, some_inj, some_none, none_some, suc_zero}
 use Rattle.cordyceps_queue.proofs.CoreTheory.Basics.{put_same, put_all, at_one, at_within}
 use Rattle.cordyceps_queue.proofs.CoreTheory.ChainGrows.{held_length}
@@ -64,7 +65,7 @@ producer_moves head head' next next' cell owner keeper keeper' rooms h h' j q no
 
 right_zero : {P E : Type 0} (right : ℕ) (party : ℕ → Option (AbstractParty P)) (rooms : List ℕ) (h : List (Event P E)) (keeper : Option ℕ) (k : ℕ) → keeper ≡ Some k → RightIs right party rooms h keeper → right ≡ 0
 right_zero right party rooms h None k e R = absurd (none_some e)
-right_zero right party rooms h (Some j) k e R = R.0
+right_zero right party rooms h (Some j) k e R = R.zero_is
 
 module _ {P E : Type 0} (m : AbstractMachine P E) (c : Chain) (h : List (Event P E)) (M : Meets m c h) (k : ℕ) (p : AbstractParty P) (at : m.party k ≡ Some p) (t : ℕ) (has : tail_of p.stage ≡ Some t) where
   pub keeping : Keeps c.keeper c.rooms h k p.name t
@@ -79,7 +80,10 @@ module _ {P E : Type 0} (m : AbstractMachine P E) (c : Chain) (h : List (Event P
 
   -- the right stays with the party
   pub right_with : (party : ℕ → Option (AbstractParty P)) (rooms : List ℕ) (h' : List (Event P E)) (q : AbstractParty P) (u : ℕ) → party k ≡ Some q → tail_of q.stage ≡ Some u → holder_reversed h' ≡ Some q.name → RightIs m.right party rooms h' c.keeper
-  right_with party rooms h' q u e tail by = subst (RightIs m.right party rooms h') (sym keeping.kept) (zero_right, q, u, e, tail, by)
+  right_with party rooms h' q u e tail held =
+      let taken : IsTaken m.right party h' k =
+      record { zero_is = zero_right; by = q; tail = u; there = e; has = tail; held = held } in
+      subst (RightIs m.right party rooms h') (sym keeping.kept) taken
 
   -- only the stage changes
   pub stage_keeps : (stage : Stage) → tail_of stage ≡ Some t → ((a b : ℕ) → Owes p.stage a b → Owes stage a b) → AtStage m.head m.next m.cell c.owner c.keeper c.rooms h k p.name stage → Meets (set_stage m k p stage) c h
@@ -143,29 +147,34 @@ module _ {P E : Type 0} (m : AbstractMachine P E) (c : Chain) (h : List (Event P
   -- an open link of the tail blocks
   pub open_blocks : ((a b : ℕ) → Owes p.stage a b → ⊥) → m.next t ≡ None → m.head ≢ t → IsBlockedReversed h
   open_blocks nothing null far =
-      let long : M.last.0 ≢ 0 = λ e. far (at_one c.rooms 0 m.head t (subst (λ i. ItemAt c.rooms i m.head) e M.last.2) keeping.tail) in
-      let second = at_some c.rooms 1 (omega (arith, M.last.1)) in
+      let long : M.last.at ≢ 0 = λ e. far (at_one c.rooms 0 m.head t
+      (subst (λ i. ItemAt c.rooms i m.head) e M.last.head_at) keeping.tail) in
+      let second = at_some c.rooms 1 (omega (arith, M.last.long)) in
       from second.0 (M.joined 0 t second.0 keeping.tail second.1)
     where
       from : (b : ℕ) → Joined m.next m.party t b → IsBlockedReversed h
       from b (inl l) = absurd (some_none (sym l ∙ null))
-      from b (inr o) = elim (ℕ_discrete o.1.0 k) [
-        | yes same ↦ let e : o.1.1 ≡ p = some_inj (sym o.1.2 ∙ ap m.party same ∙ at) in absurd (nothing t b (subst (λ (r : AbstractParty P). Owes r.stage t b) e o.1.3))
-        | no ne ↦ blocker o.1.0 o.1.1.name b o.1.1.stage o.1.3 (other_none o.1.0 o.1.1 ne o.1.2) (M.fits o.1.0 o.1.1 o.1.2)
+      from b (inr o) = let d = o.1 in elim (ℕ_discrete d.by k) [
+        | yes same ↦
+            let e : d.who ≡ p = some_inj (sym d.there ∙ ap m.party same ∙ at) in
+            absurd (nothing t b (subst (λ (r : AbstractParty P). Owes r.stage t b) e d.owes))
+        | no ne ↦
+            let without = other_none d.by d.who ne d.there in
+            blocker d.by d.who.name b d.who.stage d.owes without (M.fits d.by d.who d.there)
       ]
 
   -- where head is the tail, it is the only room
-  only : m.head ≡ t → M.last.0 ≡ 0
-  only same = M.once M.last.0 0 t (subst (ItemAt c.rooms M.last.0) same M.last.2) keeping.tail
+  only : m.head ≡ t → M.last.at ≡ 0
+  only same = M.once M.last.at 0 t (subst (ItemAt c.rooms M.last.at) same M.last.head_at) keeping.tail
 
   pub none_held : t ≡ 0 → m.head ≡ t → held_reversed h ≡ []
   none_held stub same =
       let l = stub_less c.rooms (subst (ItemAt c.rooms 0) stub keeping.tail) in
       let e = only same in
-      no_items (held_reversed h) (omega (arith, held_length m c h M, M.last.1))
+      no_items (held_reversed h) (omega (arith, held_length m c h M, M.last.long))
 
   pub stub_out : t ≢ 0 → m.head ≡ t → IsOut c.rooms
   stub_out real same i a =
       let l = at_within c.rooms i 0 a in let e = only same in
-      let z : i ≡ 0 = omega (arith, M.last.1) in
+      let z : i ≡ 0 = omega (arith, M.last.long) in
       real (at_one c.rooms 0 t 0 keeping.tail (subst (λ n. ItemAt c.rooms n 0) z a))

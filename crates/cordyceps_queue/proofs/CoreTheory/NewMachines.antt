@@ -33,7 +33,7 @@ new_meets P E = (
   record { rooms = 0 ∷ []; owner = new_owner; keeper = None },
   record {
     legal = tt;
-    last = (0, refl, refl);
+    last = record { at = 0; long = refl; head_at = refl };
     ends = refl;
     joined = λ i a b ia ib. absurd (none_follows i b ib);
     once = λ i j r ir jr. (stub_alone i r ir).0 ∙ sym (stub_alone j r jr).0;
@@ -41,7 +41,7 @@ new_meets P E = (
     stub = refl;
     unmade = λ r lt. is_unmade r lt;
     holds = refl;
-    right = (refl, 0, refl, refl);
+    right = record { unheld = refl; tail = 0; right_is = refl; tail_at = refl };
     fits = λ k p e. absurd (none_some e);
     rooms = λ k p e. absurd (none_some e);
     names = λ j k p q e f s. absurd (none_some e);

@@ -2,17 +2,22 @@
 use Rattle.std.proofs.Common.{◌≡◌, ℕ, List, Option, Some, None, refl, sym, ap, ◌∙◌, subst, inl, inr}
 use native.Mathlib.Decide.{ℕ_discrete}
 use Rattle.cordyceps_queue.specs.History.{Event}
+use Rattle.cordyceps_queue.specs.Past.{holder_reversed}
 use Rattle.cordyceps_queue.specs.declared.cores.stage.Stage.{Stage}
 use Rattle.cordyceps_queue.specs.declared.cores.stage.Stage.TheVariants.{Rest, Cleared, Swapped, Holding, StubNull, Second, Null, PutClear, PutSwap, PutLink, PutRead}
 use Rattle.cordyceps_queue.specs.Cores.Abstract.{update, AbstractParty}
-use Rattle.cordyceps_queue.specs.Cores.Meets.{Owes, tail_of, Owner, Owed, Joined, IsStranger, Keeps, AtStage, RightIs}
+use Rattle.cordyceps_queue.specs.Cores.Meets.{Owes, tail_of, Owner, Owed, Joined, IsStranger, Keeps, AtStage, IsTaken}
+use Rattle.cordyceps_queue.specs.Cores.Meets.{RightIs}
 use Rattle.cordyceps_queue.proofs.CoreTheory.Basics.{some_inj, some_none, none_some, put_same, put_other, put_all}
 
 module _ {P : Type 0} (party : ℕ → Option (AbstractParty P)) (k : ℕ) (p q : AbstractParty P) (at : party k ≡ Some p) where
   owed_put : (a b : ℕ) → (Owes p.stage a b → Owes q.stage a b) → Owed party a b → Owed (update party k (Some q)) a b
-  owed_put a b on o = elim (ℕ_discrete o.0 k) [
-    | yes same ↦ let e : o.1 ≡ p = some_inj (sym o.2 ∙ ap party same ∙ at) in (k, q, put_same party k (Some q), on (subst (λ r. Owes r.stage a b) e o.3))
-    | no ne ↦ (o.0, o.1, put_other party k (Some q) o.0 ne ∙ o.2, o.3)
+  owed_put a b on o = elim (ℕ_discrete o.by k) [
+    | yes same ↦
+        let e : o.who ≡ p = some_inj (sym o.there ∙ ap party same ∙ at) in
+        let owes = on (subst (λ r. Owes r.stage a b) e o.owes) in
+        record { by = k; who = q; there = put_same party k (Some q); owes = owes }
+    | no ne ↦ record { by = o.by; who = o.who; there = put_other party k (Some q) o.by ne ∙ o.there; owes = o.owes }
   ]
 
   pub joined_put : (next : ℕ → Option ℕ) (a b : ℕ) → (Owes p.stage a b → Owes q.stage a b) → Joined next party a b → Joined next (update party k (Some q)) a b
@@ -33,13 +38,22 @@ module _ {P : Type 0} (party : ℕ → Option (AbstractParty P)) (k : ℕ) (p q 
     | no other ↦ away j x (put_other party k (Some q) j other ∙ e)
   ]
 
+-- the party with the right is the same, among other parties or after another history
+pub taken_with : {P E : Type 0} {right : ℕ} {party party' : ℕ → Option (AbstractParty P)} {h h' : List (Event P E)}
+    {k : ℕ} (r : IsTaken right party h k) → party' k ≡ Some r.by → holder_reversed h' ≡ Some r.by.name
+    → IsTaken right party' h' k
+taken_with r there held =
+    record { zero_is = r.zero_is; by = r.by; tail = r.tail; there = there; has = r.has; held = held }
+
 module _ {P E : Type 0} (party : ℕ → Option (AbstractParty P)) (k : ℕ) (p q : AbstractParty P) (at : party k ≡ Some p) where
   -- a party without the right
   pub right_put : (right : ℕ) (rooms : List ℕ) (h : List (Event P E)) (keeper : Option ℕ) → tail_of p.stage ≡ None → RightIs right party rooms h keeper → RightIs right (update party k (Some q)) rooms h keeper
   right_put right rooms h None none r = r
   right_put right rooms h (Some j) none r = elim (ℕ_discrete j k) [
-    | yes same ↦ let e : r.1 ≡ p = some_inj (sym r.3 ∙ ap party same ∙ at) in absurd (some_none (sym r.4 ∙ ap (λ (x : AbstractParty P). tail_of x.stage) e ∙ none))
-    | no ne ↦ (r.0, r.1, r.2, put_other party k (Some q) j ne ∙ r.3, r.4, r.5)
+    | yes same ↦
+        let e : r.by ≡ p = some_inj (sym r.there ∙ ap party same ∙ at) in
+        absurd (some_none (sym r.has ∙ ap (λ (x : AbstractParty P). tail_of x.stage) e ∙ none))
+    | no ne ↦ taken_with r (put_other party k (Some q) j ne ∙ r.there) r.held
   ]
 
 module _ {P E : Type 0} (head : ℕ) (next : ℕ → Option ℕ) (cell : ℕ → Option E) (owner : ℕ → Owner) (keeper : Option ℕ) (rooms : List ℕ) (h : List (Event P E)) (k : ℕ) (name : P) where

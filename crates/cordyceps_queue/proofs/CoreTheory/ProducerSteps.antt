@@ -211,14 +211,14 @@ module _ {P E : Type 0} (m : AbstractMachine P E) (c : Chain) (h : List (Event P
 
     swap_mine : AtStage r m.next m.cell (update c.owner r Shared) c.keeper (c.rooms ++ r ∷ []) (Event.Swap p.name e ∷ h) k p.name (Swapped r m.head)
     swap_mine = record {
-      at = M.last.0;
-      old_at = at_more c.rooms (r ∷ []) M.last.0 m.head M.last.2;
-      room_at = subst (λ i. ItemAt (c.rooms ++ r ∷ []) i r) M.last.1 (at_end c.rooms r);
+      at = M.last.at;
+      old_at = at_more c.rooms (r ∷ []) M.last.at m.head M.last.head_at;
+      room_at = subst (λ i. ItemAt (c.rooms ++ r ∷ []) i r) M.last.long (at_end c.rooms r);
       is_real = was.is_real;
       null = M.ends;
       pending =
           let more = rank_more c.rooms (r ∷ []) (length c.rooms) (omega arith) in
-          inl (refl, ap (rank (c.rooms ++ r ∷ [])) (sym M.last.1) ∙ more ∙ rank_all c.rooms ∙ held_length m c h M);
+          inl (refl, ap (rank (c.rooms ++ r ∷ [])) (sym M.last.long) ∙ more ∙ rank_all c.rooms ∙ held_length m c h M);
     }
 
     pub swap_keeps : Meets (swap_head m k p r (Swapped r m.head)) chain_after_swap (Event.Swap p.name e ∷ h)
@@ -328,8 +328,8 @@ module _ {P E : Type 0} (m : AbstractMachine P E) (c : Chain) (h : List (Event P
     link_keeps = record {
       legal = (open_from h p.name (rank c.rooms (suc link.at)) link.pending, M.legal);
       last = M.last;
-      ends = stays_none m.head (not_old M.last.0 m.head M.last.2
-          (let l = at_within c.rooms (suc link.at) r link.room_at in λ s. absurd (omega (arith, M.last.1)))) M.ends;
+      ends = stays_none m.head (not_old M.last.at m.head M.last.head_at
+          (let l = at_within c.rooms (suc link.at) r link.room_at in λ s. absurd (omega (arith, M.last.long)))) M.ends;
       joined = link_joined;
       once = M.once;
       shared = M.shared;
@@ -374,14 +374,14 @@ module _ {P E : Type 0} (m : AbstractMachine P E) (c : Chain) (h : List (Event P
 
   -- the right is out with another party
   out_with : p.stage ≡ Rest → m.right ≡ 0 → (keeper : Option ℕ) → RightIs m.right m.party c.rooms h keeper → (q : P) × (holder_reversed h ≡ Some q) × (p.name ≢ q)
-  out_with rest taken None R = absurd (suc_zero (sym R.2 ∙ taken))
+  out_with rest taken None R = absurd (suc_zero (sym R.right_is ∙ taken))
   out_with rest taken (Some j) R = (
-    R.1.name,
-    R.5,
+    R.by.name,
+    R.held,
     λ same.
-        let e : j ≡ k = M.names j k R.1 p R.3 at (sym same) in
-        let f : R.1 ≡ p = some_inj (sym R.3 ∙ ap m.party e ∙ at) in
-        some_none (sym R.4 ∙ ap (λ (x : AbstractParty P). tail_of x.stage) f ∙ ap tail_of rest),
+        let e : j ≡ k = M.names j k R.by p R.there at (sym same) in
+        let f : R.by ≡ p = some_inj (sym R.there ∙ ap m.party e ∙ at) in
+        some_none (sym R.has ∙ ap (λ (x : AbstractParty P). tail_of x.stage) f ∙ ap tail_of rest),
   )
 
   pub busy_keeps : p.stage ≡ Rest → m.right ≡ 0 → Meets m c (Event.Busy p.name ∷ h)

@@ -5,7 +5,7 @@ use Rattle.cordyceps_queue.specs.History.{Event}
 use Rattle.cordyceps_queue.specs.Cores.Meets.{Owner, Shared, Spare, Ready, Pooled, Unmade, tail_of, Chain, OwnsRooms, AtStage, RightIs, Meets}
 use Rattle.cordyceps_queue.specs.Cores.Abstract.{AbstractParty, AbstractMachine, update}
 use Rattle.cordyceps_queue.proofs.CoreTheory.Basics.{some_inj, put_same, put_other, put_all}
-use Rattle.cordyceps_queue.proofs.CoreTheory.OtherParties.{joined_put, names_put, strange}
+use Rattle.cordyceps_queue.proofs.CoreTheory.OtherParties.{taken_with, joined_put, names_put, strange}
 use Rattle.cordyceps_queue.proofs.CoreTheory.ProducerSteps.{spare_shared, spare_unmade, ready_spare, ready_pooled, shared_pooled, unmade_pooled}
 use Rattle.cordyceps_queue.proofs.CoreTheory.SplitParties.{fits_dealt}
 
@@ -23,9 +23,15 @@ module _ {P E : Type 0} (m : AbstractMachine P E) (c : Chain) (h : List (Event P
   right_still None R = R
   right_still (Some j) R = elim (ℕ_discrete j k) [
     | yes same ↦
-        let is : R.1 ≡ p = some_inj (sym R.3 ∙ ap m.party same ∙ at) in
-        (R.0, moved_party, R.2, ap (update m.party k (Some moved_party)) same ∙ put_same m.party k (Some moved_party), ap (λ (x : AbstractParty P). tail_of x.stage) (sym is) ∙ R.4, R.5 ∙ ap (λ (x : AbstractParty P). Some x.name) is)
-    | no ne ↦ (R.0, R.1, R.2, put_other m.party k (Some moved_party) j ne ∙ R.3, R.4, R.5)
+        let is : R.by ≡ p = some_inj (sym R.there ∙ ap m.party same ∙ at) in record {
+          zero_is = R.zero_is;
+          by = moved_party;
+          tail = R.tail;
+          there = ap (update m.party k (Some moved_party)) same ∙ put_same m.party k (Some moved_party);
+          has = ap (λ (x : AbstractParty P). tail_of x.stage) (sym is) ∙ R.has;
+          held = R.held ∙ ap (λ (x : AbstractParty P). Some x.name) is;
+        }
+    | no ne ↦ taken_with R (put_other m.party k (Some moved_party) j ne ∙ R.there) R.held
   ]
 
   pub moves_keep : MovesRooms c.owner k owner spare → Meets (record m { party = update m.party k (Some moved_party) }) (record c { owner = owner }) h

@@ -10,6 +10,7 @@ use Rattle.cordyceps_shared.specs.Places.{ItemAt}
 use Rattle.cordyceps_queue.specs.Cores.Meets.{Owner, Shared, Spare, Ready, Unmade, Owes, tail_of, Chain, OwnsRooms, Joined, AtStage, RightIs, Meets}
 use Rattle.cordyceps_queue.specs.Cores.Abstract.{AbstractParty, AbstractMachine, update}
 use Rattle.cordyceps_queue.proofs.CoreTheory.Basics.{ready_with, none_some, put_same, put_other}
+use Rattle.cordyceps_queue.proofs.CoreTheory.OtherParties.{taken_with}
 use Rattle.cordyceps_queue.proofs.CoreTheory.ProducerSteps.{spare_shared, ready_spare, spare_unmade}
 use Rattle.cordyceps_queue.proofs.SharedTheory.EnqueueKeeps.{spare_one}
 
@@ -108,12 +109,25 @@ module _ {P E : Type 0} (m : AbstractMachine P E) (c : Chain) (h : List (Event P
     joined_still a b (inl l) = inl l
     joined_still a b (inr o) = inr (
       o.0,
-      (o.1.0, o.1.1, elim (G.stays o.1.0 o.1.1 o.1.2) [ inl e ↦ e | inr g ↦ absurd (subst (λ l. Owes l a b) g.1 o.1.3) ], o.1.3),
+      record {
+        by = o.1.by;
+        who = o.1.who;
+        there = elim (G.stays o.1.by o.1.who o.1.there) [
+          | inl e ↦ e
+          | inr g ↦ absurd (subst (λ l. Owes l a b) g.1 o.1.owes)
+        ];
+        owes = o.1.owes;
+      },
     )
 
     right_still : (keeper : Option ℕ) → RightIs m.right m.party c.rooms h keeper → RightIs m.right parties c.rooms h keeper
     right_still None R = R
-    right_still (Some j) R = (R.0, R.1, R.2, elim (G.stays j R.1 R.3) [ inl e ↦ e | inr g ↦ absurd (none_some (sym (ap tail_of g.1) ∙ R.4)) ], R.4, R.5)
+    right_still (Some j) R =
+        let there : parties j ≡ Some R.by = elim (G.stays j R.by R.there) [
+          | inl e ↦ e
+          | inr g ↦ absurd (none_some (sym (ap tail_of g.1) ∙ R.has))
+        ] in
+        taken_with R there R.held
 
     fits_still : (j : ℕ) (q : P) (stage : Stage) → AtStage m.head m.next m.cell c.owner c.keeper c.rooms h j q stage → AtStage m.head m.next m.cell owner c.keeper c.rooms h j q stage
     fits_still j q stage f = fits_dealt m c h owner (λ x i e. G.fixed x (Ready i) e (λ b o. ready_spare refl o)) j q stage f

@@ -104,9 +104,9 @@ module _ {P E : Type 0} (m : AbstractMachine P E) (c : Chain) (h : List (Event P
           (λ j q ne eq. producer_grows m.head 0 m.next m.cell c.owner c.keeper c.rooms 0 h j q.name q.stage (other_none m c h M k p at t (ap tail_of stage) j q ne eq) (M.fits j q eq))
           record {
             has = real_keeps;
-            at = M.last.0;
-            old_at = at_more c.rooms (0 ∷ []) M.last.0 m.head M.last.2;
-            stub_at = subst (λ i. ItemAt (c.rooms ++ 0 ∷ []) i 0) M.last.1 (at_end c.rooms 0);
+            at = M.last.at;
+            old_at = at_more c.rooms (0 ∷ []) M.last.at m.head M.last.head_at;
+            stub_at = subst (λ i. ItemAt (c.rooms ++ 0 ∷ []) i 0) M.last.long (at_end c.rooms 0);
             null = M.ends;
           };
       rooms = put_all (λ j q. OwnsRooms c.owner j q.spare) m.party k stub_swapped (λ j q ne eq. M.rooms j q eq) (M.rooms k p at);
@@ -155,15 +155,15 @@ module _ {P E : Type 0} (m : AbstractMachine P E) (c : Chain) (h : List (Event P
     ]
 
     -- head is after the stub's neighbour
-    head_far : (i : ℕ) → i ≡ M.last.0 → i ≢ open_stub.at
+    head_far : (i : ℕ) → i ≡ M.last.at → i ≢ open_stub.at
     head_far i e s = let l = at_within c.rooms (suc open_stub.at) 0 open_stub.stub_at in absurd
-        (omega (arith, M.last.1))
+        (omega (arith, M.last.long))
 
     pub link_stub_keeps : Meets (link_next m k p old 0 (PutRead t)) c h
     link_stub_keeps = record {
       legal = M.legal;
       last = M.last;
-      ends = none_stays m.head (not_old_stub M.last.0 m.head M.last.2 (head_far M.last.0 refl)) M.ends;
+      ends = none_stays m.head (not_old_stub M.last.at m.head M.last.head_at (head_far M.last.at refl)) M.ends;
       joined = stub_joined;
       once = M.once;
       shared = M.shared;
@@ -182,6 +182,6 @@ module _ {P E : Type 0} (m : AbstractMachine P E) (c : Chain) (h : List (Event P
       where
         head_not_tail : m.head ≢ t
         head_not_tail same =
-            let e : M.last.0 ≡ 0 = M.once M.last.0 0 t (subst (ItemAt c.rooms M.last.0) same M.last.2)
+            let e : M.last.at ≡ 0 = M.once M.last.at 0 t (subst (ItemAt c.rooms M.last.at) same M.last.head_at)
             open_stub.has.keeps.tail in
-            let l = at_within c.rooms (suc open_stub.at) 0 open_stub.stub_at in absurd (omega (arith, M.last.1))
+            let l = at_within c.rooms (suc open_stub.at) 0 open_stub.stub_at in absurd (omega (arith, M.last.long))

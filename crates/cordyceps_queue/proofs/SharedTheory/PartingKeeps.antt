@@ -101,7 +101,7 @@ module _ (E : Type 0) where
           pool = record { rooms = []; end = 0 };
           meets = record {
             legal = tt;
-            last = (0, refl, head);
+            last = record { at = 0; long = refl; head_at = head };
             ends = ap (λ n. link_of (word.next words n)) head ∙ ap link_of link;
             joined = λ i a b ia ib. absurd ib;
             once = λ i j r ir jr. (only_at 0 r i ir).0 ∙ sym (only_at 0 r j jr).0;
@@ -109,7 +109,7 @@ module _ (E : Type 0) where
             stub = stub rooms;
             unmade = λ r l. deal_else (Spare 0) (down_from rooms) only_stub r (λ i a. let t = at_down_from rooms i r a in let e = t.0 in absurd (omega arith)) ∙ others_unmade r (omega arith);
             holds = refl;
-            right = (refl, 0, right, refl);
+            right = record { unheld = refl; tail = 0; right_is = right; tail_at = refl };
             fits = λ k p e. subst (λ (q : AbstractParty Name). AtStage (word.head words) (λ r. link_of (word.next words r)) (λ (_ : ℕ). let x : Option E = None in x) owner None (0 ∷ []) [] k q.name q.stage) (is_first rooms k p e).1 tt;
             rooms = λ k p e. let t = is_first rooms k p e in subst (λ (z : ℕ × AbstractParty Name). OwnsRooms owner z.0 z.1.spare) (λ c. (sym t.0 c, t.1 c)) (subst (λ z. OwnsRooms owner 0 z) (sym (append-nil (down_from rooms))) (mine rooms));
             names = λ j k p q ej ek same. (is_first rooms j p ej).0 ∙ sym (is_first rooms k q ek).0;

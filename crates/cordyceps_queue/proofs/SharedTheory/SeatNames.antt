@@ -110,12 +110,13 @@ module _ {E : Type 0} (s : TableState E) (k : PlainHolds s) (id : ℕ) (v : View
   ]
 
   not_kept : (q : Name) → IsOf v.known.share q → (keeper : Option ℕ) (right : ℕ) (rooms : List ℕ) → RightIs right (core s k).party rooms past keeper → holder_reversed past ≢ Some q
-  not_kept q of None right rooms R e = none_some (sym R.0 ∙ e)
+  not_kept q of None right rooms R e = none_some (sym R.unheld ∙ e)
   not_kept q of (Some j) right rooms R e = elim (ℕ_discrete j id) [
     | yes here ↦
-        let at_rest : R.1.stage ≡ Rest = sym (ap (λ (z : AbstractParty Name). z.stage) (mine R.1 (subst (λ i. (core s k).party i ≡ Some R.1) here R.3))) ∙ rest in
-        absurd (none_some (sym (ap tail_of at_rest) ∙ R.4))
-    | no ne ↦ not_another j R.1 q ne R.3 (some_inj (sym R.5 ∙ e)) of
+        let same = mine R.by (subst (λ i. (core s k).party i ≡ Some R.by) here R.there) in
+        let at_rest : R.by.stage ≡ Rest = sym (ap (λ (z : AbstractParty Name). z.stage) same) ∙ rest in
+        absurd (none_some (sym (ap tail_of at_rest) ∙ R.has))
+    | no ne ↦ not_another j R.by q ne R.there (some_inj (sym R.held ∙ e)) of
   ]
 
   -- what it has seen, and what it has not, which carries none of its names

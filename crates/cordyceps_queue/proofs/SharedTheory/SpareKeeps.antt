@@ -59,7 +59,7 @@ module _ {P E : Type 0} (m : AbstractMachine P E) (c : Chain) (h : List (Event P
   relink_keeps = record {
     legal = M.legal;
     last = M.last;
-    ends = still m.head (away m.head (M.shared M.last.0 m.head M.last.2)) M.ends;
+    ends = still m.head (away m.head (M.shared M.last.at m.head M.last.head_at)) M.ends;
     joined = λ i a b ia ib. subst (λ n. (n ≡ Some b) ⊎ ((n ≡ None) × Owed m.party a b)) (sym (put_other m.next r o a (away a (M.shared i a ia)))) (M.joined i a b ia ib);
     once = M.once;
     shared = M.shared;

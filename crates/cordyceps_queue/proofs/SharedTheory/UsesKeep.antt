@@ -96,7 +96,7 @@ module _ {E : Type 0} where
       (λ j a. spare_not_in q p id r j owned a)
       (λ j x y a linked same. let o = next_in q p j x y a linked in spare_not_in q p id r o.0 owned (subst (ItemAt p.chain.rooms o.0) same o.1))
       (λ y right same. spare_not_in q p id r 0 owned (subst (ItemAt p.chain.rooms 0) same (right_in q p y right)))
-      (p.meets.last.0, p.meets.last.2)
+      (p.meets.last.at, p.meets.last.head_at)
       (subst (λ z. (j x : ℕ) → ItemAt b.0.becomes.now.chain.rooms j x
       → (x ≡ word.head (set k.words z 0)) ⊎ ((l : ℕ) × ItemAt p.chain.rooms l x)) is b.0.becomes.rooms)
       (λ j u ne there some_name. (
@@ -183,7 +183,11 @@ module _ {E : Type 0} (s : TableState E) (k : RuleHolds s) (id : ℕ) (v : View 
         spells = subst (λ (z : List (ℕ × ℕ) × List ℕ × List ℕ). SpellsWords (bit_of z.0) b.now.chain.rooms z.1 z.2 (set s.views id w)) (λ j. (sym b.uses j, plain_are j, words_are j))
             (spells_low (bit_of k.plain.uses) k.plain.chain.rooms b.now.chain.rooms k.words s.words k.words s.words s.views id w (λ _. refl) (λ _. refl) k.spells.long k.spells.head k.spells.right
             (λ j x a. elim (b.rooms j x a) [
-              | inl e ↦ inl (k.plain.meets.last.0, subst (ItemAt k.plain.chain.rooms k.plain.meets.last.0) (sym (e ∙ ap (λ z. word.head z) (sym plain_are))) k.plain.meets.last.2)
+              | inl e ↦ inl (
+                k.plain.meets.last.at,
+                subst (ItemAt k.plain.chain.rooms k.plain.meets.last.at)
+                    (sym (e ∙ ap (λ z. word.head z) (sym plain_are))) k.plain.meets.last.head_at,
+              )
               | inr o ↦ inl o
             ])
             (λ _. use_after w record { words = set k.words i (get_or k.words i 0); homes = homes; views = set s.views id w } b calm) k.spells);

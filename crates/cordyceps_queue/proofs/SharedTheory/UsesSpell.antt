@@ -77,9 +77,9 @@ module _ {P E : Type 0} (head : ℕ) (next : ℕ → Option ℕ) (cell : ℕ →
 -- the link of a room in the queue leads to a room in the queue
 module _ {P E : Type 0} (m : AbstractMachine P E) (c : Chain) (h : List (Event P E)) (M : Meets m c h) where
   pub leads_in : (i x y : ℕ) → ItemAt c.rooms i x → m.next x ≡ Some y → (j : ℕ) × ItemAt c.rooms j y
-  leads_in i x y a linked = elim (ℕ_discrete i M.last.0) [
+  leads_in i x y a linked = elim (ℕ_discrete i M.last.at) [
     | yes e ↦ absurd (none_some (sym M.ends ∙ (ap m.next (sym (same e)) ∙ linked)))
-    | no ne ↦ from (at_some c.rooms (suc i) (let l = M.last.1 in let w = at_within c.rooms i x a in omega arith))
+    | no ne ↦ from (at_some c.rooms (suc i) (let l = M.last.long in let w = at_within c.rooms i x a in omega arith))
   ]
     where
       one : {A : Type 0} (xs : List A) (i : ℕ) (a b : A) → ItemAt xs i a → ItemAt xs i b → a ≡ b
@@ -87,8 +87,8 @@ module _ {P E : Type 0} (m : AbstractMachine P E) (c : Chain) (h : List (Event P
       one (z ∷ zs) zero a b p q = p ∙ sym q
       one (z ∷ zs) (suc i) a b p q = one zs i a b p q
 
-      same : i ≡ M.last.0 → x ≡ m.head
-      same e = one c.rooms i x m.head a (subst (λ n. ItemAt c.rooms n m.head) (sym e) M.last.2)
+      same : i ≡ M.last.at → x ≡ m.head
+      same e = one c.rooms i x m.head a (subst (λ n. ItemAt c.rooms n m.head) (sym e) M.last.head_at)
 
       by : (b : ℕ) → Joined m.next m.party x b → b ≡ y
       by b (inl l) = some_inj (sym l ∙ linked)

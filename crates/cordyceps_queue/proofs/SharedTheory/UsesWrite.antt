@@ -82,7 +82,11 @@ module _ {E : Type 0} (s : TableState E) (k : RuleHolds s) (id : ℕ) (v : View 
             (head_beside_right s.words n ∙ (k.spells.head ∙ ap (λ z. 2 * z + bit_of k.plain.uses z) (sym (head_beside_right k.words r))))
             (subst (λ (z : ℕ × ℕ). IsRight (bit_of k.plain.uses) z.0 z.1) (λ j. (sym (right_set k.words r (omega arith)) j, sym (right_set s.words n (omega arith)) j)) is)
             (λ j x a. elim (b.rooms j x a) [
-              | inl e ↦ inl (k.plain.meets.last.0, subst (ItemAt k.plain.chain.rooms k.plain.meets.last.0) (sym (e ∙ head_beside_right k.words r)) k.plain.meets.last.2)
+              | inl e ↦ inl (
+                k.plain.meets.last.at,
+                subst (ItemAt k.plain.chain.rooms k.plain.meets.last.at)
+                    (sym (e ∙ head_beside_right k.words r)) k.plain.meets.last.head_at,
+              )
               | inr o ↦ inl o
             ])
             (λ _. use_after s k id v at named w record { words = set k.words RIGHT r; homes = homes; views = set s.views id w } b calm) k.spells);
@@ -106,7 +110,11 @@ module _ {E : Type 0} (s : TableState E) (k : RuleHolds s) (id : ℕ) (v : View 
         spells = subst (λ z. SpellsWords (bit_of z) b.now.chain.rooms (set k.words (LINKS + old) (suc r)) (set s.words (LINKS + old) n) (set s.views id w)) (sym b.uses)
             (spells_linked (bit_of k.plain.uses) old (suc r) n k.plain.chain.rooms b.now.chain.rooms k.words s.words s.views id w (omega arith)
             (λ j x a. elim (b.rooms j x a) [
-              | inl e ↦ (k.plain.meets.last.0, subst (ItemAt k.plain.chain.rooms k.plain.meets.last.0) (sym (e ∙ head_still)) k.plain.meets.last.2)
+              | inl e ↦ (
+                k.plain.meets.last.at,
+                subst (ItemAt k.plain.chain.rooms k.plain.meets.last.at)
+                    (sym (e ∙ head_still)) k.plain.meets.last.head_at,
+              )
               | inr o ↦ o
             ])
             (λ _ _. (right_bits, k.spells.bits r, k.spells.bits old))
@@ -366,7 +374,7 @@ module _ {E : Type 0} (slots id : ℕ) (me : SeatState E) (hand : me.1 ≡ carry
       spells_begun (bit_of p.uses) 0 c p.chain.rooms b.0.becomes.now.chain.rooms k.words s.words s.views id w old.1 out
       (λ j x y a linked same. let o = next_in q p j x y a linked in out o.0 (subst (ItemAt p.chain.rooms o.0) same o.1))
       (λ y right same. out 0 (subst (ItemAt p.chain.rooms 0) same (right_in q p y right)))
-      (p.meets.last.0, p.meets.last.2) b.0.becomes.rooms
+      (p.meets.last.at, p.meets.last.head_at) b.0.becomes.rooms
       (λ j u ne there_too some_name. (
         (λ i a. spare_shared ((rooms_of q p j u there_too some_name).own i 0 a) p.meets.stub),
         (λ o. elim (begun_of q p j u 0 there_too some_name o).0 [

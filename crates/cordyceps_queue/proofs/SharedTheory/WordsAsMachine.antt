@@ -252,7 +252,7 @@ module _ {E : Type 0} where
     ]
 
     pub head_near : word.head s.words < length s.homes
-    head_near = chain_near k.meets.last.0 (word.head s.words) k.meets.last.2
+    head_near = chain_near k.meets.last.at (word.head s.words) k.meets.last.head_at
 
     -- the cleared room of another party, or of this one before the step, is that party's alone
     ready_owner : (j : ℕ) (u : View E) (r : ℕ) → get_elem? s.views j ≡ some u → u.known.share ≢ [] → u.stage ≡ Cleared r → k.chain.owner r ≡ Ready j

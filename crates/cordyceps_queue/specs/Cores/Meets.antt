@@ -66,8 +66,12 @@ pub record OwnsRooms (owner : ℕ → Owner) (k : ℕ) (spare : List ℕ) : Type
   pub once : (i j r : ℕ) → ItemAt spare i r → ItemAt spare j r → i ≡ j
 
 module _ {P : Type 0} where
-  abbrev pub Owed : (ℕ → Option (AbstractParty P)) → ℕ → ℕ → Type 0
-  Owed party a b = (k : ℕ) × (p : AbstractParty P) × (party k ≡ Some p) × Owes p.stage a b
+  -- a party owes the link of a to b
+  pub record Owed (party : ℕ → Option (AbstractParty P)) (a b : ℕ) : Type 0 where
+    pub by : ℕ
+    pub who : AbstractParty P
+    pub there : party by ≡ Some who
+    pub owes : Owes who.stage a b
 
   -- rooms a and b are neighbours in the chain: a links to b, or a party still has to link them
   abbrev pub Joined : (ℕ → Option ℕ) → (ℕ → Option (AbstractParty P)) → ℕ → ℕ → Type 0
@@ -151,17 +155,38 @@ module _ {P E : Type 0} (head : ℕ) (next : ℕ → Option ℕ) (cell : ℕ →
   AtStage k name (PutLink t old) = HasOpenStub next keeper rooms h k name t old
   AtStage k name (PutRead t) = Real keeper rooms h k name t × (head ≢ t)
 
+-- nobody has the right, and its word is the tail's room and 1
+pub record IsFree {P E : Type 0} (right : ℕ) (rooms : List ℕ) (h : List (Event P E)) : Type 0 where
+  pub unheld : holder_reversed h ≡ None
+  pub tail : ℕ
+  pub right_is : right ≡ suc tail
+  pub tail_at : ItemAt rooms 0 tail
+
+-- party k has the right, and its tail
+pub record IsTaken {P E : Type 0} (right : ℕ) (party : ℕ → Option (AbstractParty P)) (h : List (Event P E))
+    (k : ℕ) : Type 0 where
+  pub zero_is : right ≡ 0
+  pub by : AbstractParty P
+  pub tail : ℕ
+  pub there : party k ≡ Some by
+  pub has : tail_of by.stage ≡ Some tail
+  pub held : holder_reversed h ≡ Some by.name
+
 -- the right is out with a party, or it is the tail's room and 1
 abbrev pub RightIs : {P E : Type 0} → ℕ → (ℕ → Option (AbstractParty P)) → List ℕ → List (Event P E) → Option ℕ → Type 0
-RightIs right party rooms h None = (holder_reversed h ≡ None) × (t : ℕ) × (right ≡ suc t) × ItemAt rooms 0 t
-RightIs {P} {E} right party rooms h (Some k) =
-    (right ≡ 0) × (p : AbstractParty P) × (t : ℕ) × (party k ≡ Some p) × (tail_of p.stage ≡ Some t)
-    × (holder_reversed h ≡ Some p.name)
+RightIs right party rooms h None = IsFree right rooms h
+RightIs right party rooms h (Some k) = IsTaken right party h k
+
+-- head is the last of the rooms
+pub record EndsAt (rooms : List ℕ) (head : ℕ) : Type 0 where
+  pub at : ℕ
+  pub long : length rooms ≡ suc at
+  pub head_at : ItemAt rooms at head
 
 pub record Meets {P E : Type 0} (m : AbstractMachine P E) (c : Chain) (h : List (Event P E)) : Type 0 where
   pub legal : IsLegalReversed h
   -- the chain
-  pub last : (i : ℕ) × (length c.rooms ≡ suc i) × ItemAt c.rooms i m.head
+  pub last : EndsAt c.rooms m.head
   pub ends : m.next m.head ≡ None
   pub joined : (i a b : ℕ) → ItemAt c.rooms i a → ItemAt c.rooms (suc i) b → Joined m.next m.party a b
   pub once : (i j r : ℕ) → ItemAt c.rooms i r → ItemAt c.rooms j r → i ≡ j
