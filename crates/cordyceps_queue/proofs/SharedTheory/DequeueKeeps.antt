@@ -1,13 +1,13 @@
 -- The steps of a party that dequeues keep the rule of a queue's table. Each is proved where no slot is in hand; `returning`
 -- adds that one is given back first.
-use Rattle.std.proofs.Common.{◌≡◌, ◌≢◌, ℕ, zero, suc, ◌+◌, ◌-◌, List, [], ◌∷◌, ◌++◌, drop, length, reverse, set, get_or, append-nil, Option, Some, None, refl, sym, ap, ◌∙◌, subst, inl, inr, arith, length-set}
+use Rattle.std.proofs.Common.{◌≡◌, ◌≢◌, ℕ, zero, suc, ◌+◌, ◌-◌, List, [], ◌∷◌, ◌++◌, drop, length, reverse, set, get_or, append-nil, Some, None, refl, sym, ap, ◌∙◌, subst, inl, inr, arith, length-set}
 use Rattle.std.proofs.lemmas.List.{reverse-append}
 use mathlib.Core.Option.{some, none}
 use mathlib.Core.Path.{fun_ext}
 use native.Mathlib.Decide.{ℕ_discrete}
 use lib.ListN.{get_elem?}
 use lib.Seq.{set-get_or}
-use Rattle.atomic_table.specs.Table.{Act, keeps, takes, stepped, carried_after, Valid}
+use Rattle.atomic_table.specs.Table.{keeps, takes, carried_after}
 use Rattle.atomic_table.proofs.Lists.{set_else}
 use Rattle.cordyceps_shared.specs.Words as word
 use Rattle.cordyceps_shared.specs.declared.layout.TheConstants.{RIGHT, LINKS}

@@ -10,7 +10,7 @@ use Rattle.atomic_table.specs.Table.{Act, keeps, takes, step, stepped, homes_aft
 use Rattle.atomic_table.specs.Table as table
 use Rattle.atomic_table.proofs.Lists.{set_here, set_else}
 use Rattle.cordyceps_shared.specs.FreeChains.{FreeChain, Links, MayJoin, first_rooms}
-use Rattle.cordyceps_shared.specs.Histories.{NoneOf, events, plain}
+use Rattle.cordyceps_shared.specs.Histories.{events, plain}
 use Rattle.cordyceps_shared.specs.Knowing.{Known, SharesDisjoint, AllAgree, all_seen}
 use Rattle.cordyceps_shared.specs.Places.{ItemAt}
 use Rattle.cordyceps_shared.specs.Pools.{Packs, LeadsTo}
@@ -33,7 +33,7 @@ use Rattle.cordyceps_queue.specs.declared.cores.stage.Stage.TheVariants.{Rest, C
 use Rattle.cordyceps_queue.specs.Shared.Bits.{IsLink, IsRight, SpellsFree, KeepsUse, SpellsWords}
 use Rattle.cordyceps_queue.specs.Shared.Plays.{SeatState, LegalReversed, Sees, carry}
 use Rattle.cordyceps_queue.specs.Shared.Uses as play
-use Rattle.cordyceps_queue.specs.Shared.Rule.{TableState, History, link_of, party, machine_of, IsPool, PlainHolds, RuleHolds}
+use Rattle.cordyceps_queue.specs.Shared.Rule.{TableState, link_of, party, machine_of, IsPool, PlainHolds, RuleHolds}
 use Rattle.cordyceps_queue.specs.Shared.View.{View, knows, bit_of, free_chain, back_chain, view_returned, room_count}
 use Rattle.cordyceps_queue.proofs.Legality.{held_of}
 use Rattle.cordyceps_queue.proofs.CoreTheory.Basics.{at_more}
