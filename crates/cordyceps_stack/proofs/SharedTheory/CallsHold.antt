@@ -1,5 +1,5 @@
 -- What the calls of a shared transfer stack promise, from what their parts leave.
-use Rattle.std.proofs.Common.{◌≡◌, ◌+◌, ◌-◌, ◌<◌, ℕ, suc, List, [], ◌∷◌, ◌++◌, map, reverse, length, replicate, Bool, refl, sym, ap, ◌∙◌, subst, arith, length-append, length-drop, true, false, None}
+use Rattle.std.proofs.Common.{◌≡◌, ◌+◌, ◌<◌, ℕ, suc, List, [], ◌∷◌, ◌++◌, map, reverse, length, replicate, Bool, refl, sym, ap, ◌∙◌, subst, arith, length-append, length-drop, true, false, None}
 use Rattle.std.specs.Prelude.{IsTrue, Result, Ok, Err, MatchResult, is_ok}
 use Rattle.atomic_table.specs.Seated.{TableId}
 use Rattle.cordyceps_shared.specs.FreeChains.{Tracks, FreeChain}

@@ -1,24 +1,21 @@
 -- What the parts of a refill come to together, and of giving rooms back to the pool.
-use Rattle.std.proofs.Common.{◌≡◌, ◌≢◌, ◌⊎◌, ℕ, zero, suc, ◌+◌, ◌-◌, ◌*◌, ◌≤◌, ◌<◌, List, [], ◌∷◌, ◌++◌, length, take, eqb, false, eq-eqb, refl, sym, ap, ◌∙◌, subst, arith, append-nil, length-append}
+use Rattle.std.proofs.Common.{◌≡◌, ◌≢◌, ℕ, zero, suc, ◌+◌, ◌≤◌, ◌<◌, List, [], ◌∷◌, ◌++◌, length, take, refl, sym, ap, ◌∙◌, subst, arith, append-nil, length-append}
 use Rattle.atomic_table.specs.Table.{turned}
-use Rattle.atomic_table.specs.Seated.{TableId}
-use Rattle.cordyceps_shared.specs.FreeChains.{FreeChain, Tracks, first_rooms, rest_rooms, joined, MayJoin}
+use Rattle.cordyceps_shared.specs.FreeChains.{FreeChain, Tracks, joined, MayJoin}
 use Rattle.cordyceps_shared.specs.Histories.{plain}
 use Rattle.cordyceps_shared.specs.Knowing.{Known, Grown}
-use Rattle.cordyceps_shared.specs.Pools.{packed, Fits, Packs}
-use Rattle.cordyceps_shared.specs.Places.{ItemAt}
-use Rattle.cordyceps_shared.specs.Shares.{Name, whole}
+use Rattle.cordyceps_shared.specs.Pools.{packed, Fits}
+use Rattle.cordyceps_shared.specs.Shares.{Name}
 use Rattle.cordyceps_shared.specs.Slots.{Near}
 use Rattle.cordyceps_shared.specs.declared.free.FreeRooms.{FreeRooms}
-use Rattle.cordyceps_base.specs.declared.shared.TheConstants.{MAX_ROOMS}
-use Rattle.cordyceps_shared.proofs.Places.{near_append, near_take}
+use Rattle.cordyceps_shared.proofs.Places.{near_append}
 use Rattle.cordyceps_shared.proofs.Pools.{unpacked}
-use Rattle.cordyceps_shared.proofs.TrackRooms.{last_room, first_room, tracks_giving, tracks_joined, tracks_alone}
+use Rattle.cordyceps_shared.proofs.TrackRooms.{tracks_joined, tracks_alone}
 use Rattle.cordyceps_stack.specs.History.{Event, held, Legal, actor}
 use Rattle.cordyceps_stack.specs.Shared.Parts.{Refills}
 use Rattle.cordyceps_stack.specs.Shared.Plays.{SeatState, FindsPool, HasRefilled, IsResting, chain_in_hand}
-use Rattle.cordyceps_stack.specs.Shared.Slots.{Hand, vacant, all_vacant, last_link}
-use Rattle.cordyceps_stack.specs.Shared.View.{Idle, Holding, View, held_rooms, room_count}
+use Rattle.cordyceps_stack.specs.Shared.Slots.{vacant, all_vacant, last_link}
+use Rattle.cordyceps_stack.specs.Shared.View.{Idle, View, held_rooms}
 use Rattle.cordyceps_stack.proofs.SharedTheory.PartsJoin.{vacant_back, back_joins, first_or_none, tracks_rooms}
 use Rattle.cordyceps_stack.proofs.SharedTheory.SlotMoves.{vacant_append}
 

@@ -1,5 +1,5 @@
 -- The pool of a transfer stack's table: a party takes it, and gives rooms back to it.
-use Rattle.std.proofs.Common.{◌≡◌, ◌≢◌, ◌⊎◌, ℕ, suc, ◌+◌, ◌≤◌, ◌<◌, List, [], ◌∷◌, ◌++◌, reverse, length, set, take, drop, eqb, refl, sym, ap, ◌∙◌, subst, inl, inr, ⊎_elim, arith, append-nil, eq-eqb, ne_eqb, length-set, length-append, take-append-drop}
+use Rattle.std.proofs.Common.{◌≡◌, ◌≢◌, ◌⊎◌, ℕ, suc, ◌+◌, ◌≤◌, ◌<◌, List, [], ◌∷◌, ◌++◌, length, set, take, drop, eqb, refl, sym, ap, ◌∙◌, subst, inl, inr, ⊎_elim, arith, append-nil, eq-eqb, ne_eqb, length-set, length-append, take-append-drop}
 use Rattle.std.proofs.lemmas.List.{length-map, length-reverse}
 use mathlib.Core.Option.{some, none}
 use mathlib.Core.Logic.{dite}
@@ -10,12 +10,12 @@ use Rattle.atomic_table.specs.Table.{step, keeps, stepped, homes_after, Allows}
 use Rattle.atomic_table.proofs.Lists.{set_here}
 use Rattle.cordyceps_shared.specs.FreeChains.{FreeChain, first_rooms, rest_rooms}
 use Rattle.cordyceps_shared.specs.Counts.{one_if, times}
-use Rattle.cordyceps_shared.specs.Histories.{NoneOf, events, with_marks, plain}
-use Rattle.cordyceps_shared.specs.Knowing.{Known, SharesDisjoint, AllAgree}
+use Rattle.cordyceps_shared.specs.Histories.{events, with_marks, plain}
+use Rattle.cordyceps_shared.specs.Knowing.{SharesDisjoint, AllAgree}
 use Rattle.cordyceps_shared.specs.Pools.{Packs, LeadsTo}
 use Rattle.cordyceps_shared.specs.Shares.{whole}
 use Rattle.cordyceps_shared.specs.Words as word
-use Rattle.cordyceps_shared.specs.declared.layout.TheConstants.{POOL, LINKS}
+use Rattle.cordyceps_shared.specs.declared.layout.TheConstants.{POOL}
 use Rattle.cordyceps_shared.proofs.Changing.{one_set}
 use Rattle.cordyceps_shared.proofs.Counting.{tally_set, tally_only, tally_one, tally_append, tally_cut}
 use Rattle.cordyceps_shared.proofs.Places.{times_some}
@@ -25,10 +25,9 @@ use Rattle.cordyceps_shared.proofs.Telling.{at_length, owned_same, fits_same, on
 use Rattle.cordyceps_shared.proofs.TrackRooms.{with_its_last}
 use Rattle.cordyceps_shared.proofs.Words.{pool_set, head_beside_pool}
 use Rattle.cordyceps_stack.specs.History.{Event, held, actor}
-use Rattle.cordyceps_stack.specs.Cores.Stages.{room_elements}
 use Rattle.cordyceps_stack.specs.Shared.Slots.{Homes, Hand, vacant, rooms_of, in_use, all_vacant, AtHome}
 use Rattle.cordyceps_stack.specs.Shared.View.{Doing, Idle, Holding, View, knows, held_rooms, count_with_party, room_count}
-use Rattle.cordyceps_stack.specs.Shared.Words.{History, AtDoing}
+use Rattle.cordyceps_stack.specs.Shared.Words.{AtDoing}
 use Rattle.cordyceps_stack.specs.Shared.Rule.{TableState, RuleHolds}
 use Rattle.cordyceps_stack.specs.Shared.Plays.{SeatState, HasRefilled, FindsPool}
 use Rattle.cordyceps_stack.specs.Shared.Plays as play
