@@ -3,5 +3,5 @@
 pub use cordyceps_base::stack::Links;
 pub use cordyceps_stack::stack::{
     MAX_ROOMS, Party, Replay, Stack, StepError, TransferAnswer, TransferCore, TransferStack,
-    TransferStep, replay,
+    TransferStep, TryPushError, replay,
 };

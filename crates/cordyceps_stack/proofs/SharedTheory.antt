@@ -11,4 +11,5 @@ pub mod PoolKeeps
 pub mod Sending
 pub mod SlotMoves
 pub mod StepsKeep
+pub mod TriesHold
 pub mod WordsKeep

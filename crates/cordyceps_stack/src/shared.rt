@@ -6,6 +6,7 @@ pub(crate) mod chain;
 pub(crate) mod parting;
 pub(crate) mod plays;
 pub(crate) mod pool;
+pub(crate) mod push_error;
 pub(crate) mod slot;
 pub(crate) mod steps;
 pub(crate) mod table;

@@ -5,7 +5,7 @@ use Rattle.cordyceps_shared.specs.Shares.{Name}
 use Rattle.cordyceps_shared.specs.Standings.{name_of}
 use Rattle.cordyceps_shared.proofs.Moving.{moves_by}
 use Rattle.cordyceps_stack.specs.History.{Event, Load, Push, Taken, pushes, taken_elements, held, Legal, actor}
-use Rattle.cordyceps_stack.specs.Shared.Calls.{PartyOf, Adds, PushesAt, PushesAllAt, Misses, Takes, Looks, Refills, pushes_of}
+use Rattle.cordyceps_stack.specs.Shared.Calls.{PartyOf, Adds, PushesAt, PushesAllAt, PushesRefilled, Misses, MissesRefilled, Takes, Looks, Refills, pushes_of}
 use Rattle.cordyceps_stack.specs.Shared.Moves.{put_by, got_by, Moves}
 use Rattle.cordyceps_stack.proofs.Histories.{nothing_lost}
 
@@ -67,6 +67,13 @@ module _ {E A : Type 0} (f : E → A) where
 
   pub moves_miss : (u w : PartyOf E) → Misses u w → Moves f [] [] u w
   moves_miss u w a = moved u w (Load (name_of u) ∷ []) [] [] a.0 refl refl
+
+  -- tries that may have taken rooms of the pool first
+  pub moves_refilled : (e : E) (first : Bool) (u w : PartyOf E) → PushesRefilled e first u w → Moves f (f e ∷ []) [] u w
+  moves_refilled e first u w a = moved u w (Load (name_of u) ∷ Push (name_of u) e ∷ []) (f e ∷ []) [] a.adds refl refl
+
+  pub moves_miss_refilled : (u w : PartyOf E) → MissesRefilled u w → Moves f [] [] u w
+  moves_miss_refilled u w a = moved u w (Load (name_of u) ∷ []) [] [] a.adds refl refl
 
   pub moves_look : (none : Bool) (u w : PartyOf E) → Looks none u w → Moves f [] [] u w
   moves_look none u w a = moved u w (Load (name_of u) ∷ []) [] [] a.0 refl refl

@@ -1,6 +1,6 @@
 -- A call after others of which it is known what they put in and took out, what is received of what another sends, and what is
 -- held after a push of a party that is alone.
-use Rattle.std.proofs.Common.{◌≡◌, ℕ, ◌≤◌, List, [], ◌∷◌, ◌++◌, map, reverse, Bool, ap, ◌∙◌, subst}
+use Rattle.std.proofs.Common.{◌≡◌, ℕ, List, [], ◌∷◌, ◌++◌, map, reverse, Bool, ap, ◌∙◌, subst}
 use Rattle.std.proofs.lemmas.List.{append-nil}
 use Rattle.atomic_table.specs.Seated.{TableId}
 use Rattle.cordyceps_shared.specs.Histories.{plain}
@@ -11,16 +11,22 @@ use Rattle.cordyceps_shared.proofs.Adding.{whole_adds}
 use Rattle.cordyceps_shared.proofs.Moving.{moves_then}
 use Rattle.cordyceps_shared.proofs.Sending as parties
 use Rattle.cordyceps_stack.specs.History.{Load, Push, held, Legal, actor}
-use Rattle.cordyceps_stack.specs.Shared.Calls.{PartyOf, PushesAt, Takes}
+use Rattle.cordyceps_stack.specs.Shared.Calls.{PartyOf, PushesAt, PushesRefilled, Takes}
 use Rattle.cordyceps_stack.specs.Shared.Moves.{put_by, got_by, Moves}
 use Rattle.cordyceps_stack.proofs.Histories.{held_from-append}
-use Rattle.cordyceps_stack.proofs.SharedTheory.PartyMoves.{all_kept, moves_push, moves_take}
+use Rattle.cordyceps_stack.proofs.SharedTheory.PartyMoves.{all_kept, moves_push, moves_refilled, moves_take}
 
 module _ {E A : Type 0} (f : E → A) where
   pub then_pushes : {s g : List A} {u v : PartyOf E} (n : ℕ) (e : E) (first : Bool) (w : PartyOf E) → Moves f s g u v → PushesAt n e first v w
       → Moves f (s ++ f e ∷ []) g u w
   then_pushes {s} {g} {u} {v} n e first w before c = subst (λ z. Moves f (s ++ f e ∷ []) z u w) (append-nil g)
       (moves_then (put_by f) (got_by f) s g (f e ∷ []) [] u v w before (moves_push f n e first v w c))
+
+  -- a push that may have taken rooms of the pool first
+  pub then_refilled : {s g : List A} {u v : PartyOf E} (e : E) (first : Bool) (w : PartyOf E) → Moves f s g u v → PushesRefilled e first v w
+      → Moves f (s ++ f e ∷ []) g u w
+  then_refilled {s} {g} {u} {v} e first w before c = subst (λ z. Moves f (s ++ f e ∷ []) z u w) (append-nil g)
+      (moves_then (put_by f) (got_by f) s g (f e ∷ []) [] u v w before (moves_refilled f e first v w c))
 
   pub then_takes : {s g : List A} {u v : PartyOf E} (batch : List E) (w : PartyOf E) → Moves f s g u v → Takes batch v w
       → Moves f s (g ++ map f (reverse batch)) u w

@@ -1,9 +1,11 @@
 -- What the calls of a shared transfer stack promise: of the party u before, and of the party w after.
-use Rattle.std.specs.Prelude.{◌≡◌, ◌↔◌, ℕ, suc, ◌+◌, ◌-◌, ◌<◌, List, [], ◌∷◌, ◌++◌, length, replicate, Bool, true, false, IsTrue, map, reverse}
+use Rattle.std.specs.Prelude.{◌≡◌, ◌↔◌, ℕ, suc, ◌+◌, ◌<◌, List, [], ◌∷◌, ◌++◌, length, replicate, Bool, true, IsTrue, map, reverse}
 use Rattle.cordyceps_shared.specs.Histories.{plain, own}
 use Rattle.cordyceps_shared.specs.Shares.{Name}
 use Rattle.cordyceps_shared.specs.Standings.{Standing, name_of}
 use Rattle.cordyceps_shared.specs.Standings as parties
+use Rattle.cordyceps_stack.specs.declared.shared.push_error.TryPushError.{TryPushError}
+use Rattle.cordyceps_stack.specs.declared.shared.push_error.TryPushError.TheVariants as error
 use Rattle.cordyceps_stack.specs.History.{Event, Load, Push, Taken, held, Legal, actor, SomeChange}
 
 -- what a contract sees of a party
@@ -78,6 +80,44 @@ module _ {E : Type 0} where
   -- some room is neither the party's nor has one of these elements: it is in the pool, or another party's
   abbrev pub LacksRooms : PartyOf E → Type 0
   LacksRooms w = w.rooms + length (held (plain w.seen)) < w.table.slots
+
+  -- it pushed e at one try, which took a room, and `first` tells whether nothing was held before; if it had no room, it
+  -- took those that were in the pool before
+  pub record PushesRefilled (e : E) (first : Bool) (u w : PartyOf E) : Type 0 where
+    pub adds : Adds u (Load (name_of u) ∷ Push (name_of u) e ∷ []) w
+    pub ends : EndsPushed e (IsTrue first) (name_of u) w.seen
+    pub taken : ℕ
+    pub rooms : u.rooms + taken ≡ suc w.rooms
+    pub untouched : 0 < u.rooms → taken ≡ 0
+
+  -- it tried once to push, and another came between; it has a room: if it had none, it took those that were in the pool
+  -- before
+  pub record MissesRefilled (u w : PartyOf E) : Type 0 where
+    pub adds : Adds u (Load (name_of u) ∷ []) w
+    pub overtaken : IsOvertaken w.seen
+    pub taken : ℕ
+    pub rooms : w.rooms ≡ u.rooms + taken
+    pub some : 0 < w.rooms
+    pub untouched : 0 < u.rooms → taken ≡ 0
+
+  -- it had no room, and there was none in the pool
+  abbrev pub FindsFull : PartyOf E → PartyOf E → Type 0
+  FindsFull u w = Refills 0 u w × (u.rooms ≡ 0)
+
+  -- the handle that an error has
+  abbrev pub handle_of : TryPushError E → E
+  handle_of (error.Full e) = e
+  handle_of (error.Contended e) = e
+
+  -- it did not push e, for this reason
+  abbrev pub FailsToPush : E → TryPushError E → PartyOf E → PartyOf E → Type 0
+  FailsToPush e (error.Full back) u w = (back ≡ e) × FindsFull u w
+  FailsToPush e (error.Contended back) u w = (back ≡ e) × MissesRefilled u w
+
+  -- the error of a party that is alone: each room is the party's, or has an element
+  abbrev pub IsCertainlyFull : TryPushError E → PartyOf E → Type 0
+  IsCertainlyFull (error.Full back) w = HasAllRooms w
+  IsCertainlyFull (error.Contended back) w = ⊥
 
   -- it looked, and `none` tells whether nothing was held
   abbrev pub Looks : Bool → PartyOf E → PartyOf E → Type 0

@@ -1,13 +1,16 @@
 //! The stack that threads share.
-ghost use Rattle.std.specs.Prelude.{◌≡◌, ◌<◌, ◌≤◌, List, length, map, reverse, true, false, is_ok, MatchResult, IfOk};
+ghost use Rattle.std.specs.Prelude.{◌≡◌, ◌<◌, ◌≤◌, List, length, map, reverse, true, false, is_ok, MatchResult};
+ghost use Rattle.std.specs.Prelude.{IfOk, IfErr};
 ghost use Rattle.cordyceps_shared.specs.Histories.{plain};
 ghost use Rattle.cordyceps_shared.specs.Shares.{whole};
 ghost use Rattle.cordyceps_shared.specs.Standings.{new_party, keeping, giving, Knows, Absorbs, GivesBack};
 ghost use Rattle.cordyceps_stack.specs.History.{held, Legal};
 ghost use Rattle.cordyceps_stack.specs.Shared.Calls.{PushesAt, PushesAllAt, Misses, Takes, Looks};
 ghost use Rattle.cordyceps_stack.specs.Shared.Calls.{Refills, HasAllRooms, LacksRooms};
+ghost use Rattle.cordyceps_stack.specs.Shared.Calls.{PushesRefilled, FailsToPush, IsCertainlyFull};
 
 use crate::shared::batch::hand_out;
+use crate::shared::push_error::TryPushError;
 use crate::shared::table::{OwnedTable, PartySeat};
 use crate::shared::{chain, parting, pool, steps};
 use cordyceps_base::linked::Linked;
@@ -165,6 +168,39 @@ impl<T: Linked<Links<T>>> TransferStack<T> {
     {
         required::a_free_room(party.rooms());
         steps::try_push(&self.rooms.shared, &mut party.seat, &mut party.free, handle)
+    }
+
+    /// Tries once to push an element. If the party has no room, it takes those of the pool first. Returns `true` if the
+    /// stack was empty just before.
+    ///
+    /// # Errors
+    /// It returns `Full` if the party has no room and the pool has none. Where a whole party finds that, each room of
+    /// the stack has an element. It returns `Contended` if another party pushed, or took what was held, between the two
+    /// steps of the try. The party then has a room. To a whole party this never happens. Both return the handle.
+    ///
+    /// # Complexity
+    /// O(1): that of `try_push`, and of `refill` if the party has no room.
+    ///
+    /// # Waits
+    /// Never.
+    pub fn refill_and_try_push(
+        &self,
+        party: &mut Party<T>,
+        handle: T::Handle,
+    ) -> Result<bool, TryPushError<T::Handle>>
+        requires { party.old.table ≡ self.now }
+        ensures answer { MatchResult result
+            (λ first. PushesRefilled handle first party.old party.new)
+            (λ error. FailsToPush handle error party.old party.new) }
+        ensures whole { party.old.share ≡ whole → IfErr result (λ error. IsCertainlyFull error party.new) }
+    {
+        if party.rooms() == 0 && self.refill(party) == 0 {
+            return Err(TryPushError::Full(handle));
+        }
+        match self.try_push(party, handle) {
+            Ok(first) => Ok(first),
+            Err(back) => Err(TryPushError::Contended(back)),
+        }
     }
 
     /// Tries once to push all elements of a stack at one step, as `push_all` does. Requires that the party has as many
