@@ -1,17 +1,19 @@
 //! The part of a free list that threads share.
-ghost use Rattle.std.specs.Prelude.{◌≡◌, ◌<◌, ◌≤◌, List, [], length, map, reverse, true, false, is_ok, MatchResult, IfOk};
+ghost use Rattle.std.specs.Prelude.{◌≡◌, ◌<◌, ◌≤◌, List, [], length, map, reverse, true, false, is_ok, MatchResult};
+ghost use Rattle.std.specs.Prelude.{IfOk, IfErr};
 ghost use Rattle.cordyceps_shared.specs.Histories.{plain};
 ghost use Rattle.cordyceps_shared.specs.Shares.{whole};
 ghost use Rattle.cordyceps_shared.specs.Standings.{new_party, keeping, giving, Absorbs, GivesBack};
 ghost use Rattle.cordyceps_stack.specs.History.{held, Legal};
 ghost use Rattle.cordyceps_stack.specs.Shared.Calls.{PushesAt, PushesAllAt, Misses};
 ghost use Rattle.cordyceps_stack.specs.Shared.Calls.{Refills, HasAllRooms, LacksRooms};
+ghost use Rattle.cordyceps_stack.specs.Shared.Calls.{PushesRefilled, FailsToPush, IsCertainlyFull};
 
 use crate::local::Local;
 use cordyceps_base::linked::Linked;
 use cordyceps_base::stack::Links;
 use cordyceps_shared::required;
-use cordyceps_stack::stack::{MAX_ROOMS, Party, Stack, TransferStack};
+use cordyceps_stack::stack::{MAX_ROOMS, Party, Stack, TransferStack, TryPushError};
 use std::alloc::{AllocError, Global};
 use std::marker::Model;
 
@@ -96,6 +98,33 @@ impl<T: Linked<Links<T>>> FreeList<T> {
     {
         required::a_free_room(party.rooms());
         self.shared.try_push(party, handle)
+    }
+
+    /// Tries once to put a block back for all. If the party has no room, it takes those of the pool first. Returns `true`
+    /// if no block was shared just before.
+    ///
+    /// # Errors
+    /// It returns `Full` if the party has no room and the pool has none. Where a whole party finds that, each room of
+    /// the free list has a shared block. It returns `Contended` if another party put a block back, or took all, between
+    /// the two steps of the try. The party then has a room. To a whole party this never happens. Both return the handle.
+    ///
+    /// # Complexity
+    /// O(1): that of `put_remote`, and of `refill` if the party has no room.
+    ///
+    /// # Waits
+    /// Never.
+    pub fn refill_and_put_remote(
+        &self,
+        party: &mut Party<T>,
+        handle: T::Handle,
+    ) -> Result<bool, TryPushError<T::Handle>>
+        requires { party.old.table ≡ self.now }
+        ensures answer { MatchResult result
+            (λ first. PushesRefilled handle first party.old party.new)
+            (λ error. FailsToPush handle error party.old party.new) }
+        ensures whole { party.old.share ≡ whole → IfErr result (λ error. IsCertainlyFull error party.new) }
+    {
+        self.shared.refill_and_try_push(party, handle)
     }
 
     /// Tries once to put all blocks of a stack back for all at one step. The owner gets them in their order: the block

@@ -7,6 +7,6 @@ mod local;
 
 pub use cordyceps_base::linked::Linked;
 pub use cordyceps_base::stack::Links;
-pub use cordyceps_stack::stack::{MAX_ROOMS, Party, Stack};
+pub use cordyceps_stack::stack::{MAX_ROOMS, Party, Stack, TryPushError};
 pub use free_list::FreeList;
 pub use local::Local;
