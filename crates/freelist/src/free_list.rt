@@ -100,13 +100,14 @@ impl<T: Linked<Links<T>>> FreeList<T> {
         self.shared.try_push(party, handle)
     }
 
-    /// Tries once to put a block back for all. If the party has no room, it takes those of the pool first. Returns `true`
-    /// if no block was shared just before.
+    /// Tries once to put a block back for all. If the party has no room, it takes those of the pool first. Returns
+    /// `true` if no block was shared just before.
     ///
     /// # Errors
     /// It returns `Full` if the party has no room and the pool has none. Where a whole party finds that, each room of
     /// the free list has a shared block. It returns `Contended` if another party put a block back, or took all, between
-    /// the two steps of the try. The party then has a room. To a whole party this never happens. Both return the handle.
+    /// the two steps of the try. The party then has a room. To a whole party this never happens. Both return the
+    /// handle.
     ///
     /// # Complexity
     /// O(1): that of `put_remote`, and of `refill` if the party has no room.
