@@ -42,8 +42,6 @@ module _ {P : Type 0} where
   lawful = by_number_lawful (λ (t : Timer P). t.deadline)
 
   -- ---- in order of deadlines, and by the order
-  abbrev NotBefore : ℕ → Nodes (Timer P) → Type 0
-  NotBefore d s = AllByRecursion (λ n. d ≤ n.1.value.deadline) s
 
   ascends : (s : Nodes (Timer P)) → InOrder s → Ascends (precedes by_deadline) s
   ascends [] h = tt

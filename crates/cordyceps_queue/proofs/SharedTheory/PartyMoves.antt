@@ -1,5 +1,5 @@
 -- What each call put in and took out, and that nothing is lost.
-use Rattle.std.proofs.Common.{◌≡◌, ℕ, List, [], ◌∷◌, ◌++◌, map, flat_map, Option, refl, sym, ap, ◌∙◌, subst, inl, inr}
+use Rattle.std.proofs.Common.{◌≡◌, ℕ, List, [], ◌∷◌, ◌++◌, map, flat_map, refl, sym, ap, ◌∙◌, subst, inl, inr}
 use Rattle.std.specs.Prelude.{◌⊎◌, Result, Ok, Err}
 use Rattle.std.proofs.lemmas.List.{map-append, append-nil}
 use Rattle.std.proofs.lemmas.List.Concat.{flat_map-append}
@@ -10,7 +10,7 @@ use Rattle.cordyceps_queue.specs.declared.cores.steps.TryDequeueError.{TryDequeu
 use Rattle.cordyceps_queue.specs.declared.cores.steps.TryDequeueError.TheVariants as error
 use Rattle.cordyceps_queue.specs.History.{Event, Swap, Link, Take, Busy, Look, Out, Empty, Free, came, went, held, IsLegal, actor}
 use Rattle.cordyceps_queue.specs.Shared.Batches.{outs, StopsAt, TakesLinked}
-use Rattle.cordyceps_queue.specs.Shared.Calls.{PartyOf, Legal, Adds, Enqueues, EnqueuesRefilled, Refills, Dequeues, Consumes, TakesRight, FindsBusy, GivesRight, Retries, AtLast, MissesDequeue, try_result}
+use Rattle.cordyceps_queue.specs.Shared.Calls.{PartyOf, Legal, Adds, Enqueues, EnqueuesRefilled, Refills, Dequeues, Consumes, TakesRight, FindsBusy, GivesRight, Retries, AtLast, MissesDequeue}
 use Rattle.cordyceps_queue.specs.Shared.Moves.{put_by, got_by, Moves, got_by_try}
 use Rattle.cordyceps_queue.proofs.PartyOrder.{nothing_lost}
 
@@ -114,7 +114,3 @@ module _ {E A : Type 0} (f : E → A) where
   moves_miss : (u w : PartyOf E) → MissesDequeue u w → Moves f [] [] u w
   moves_miss u w (inl c) = moves_dequeue (Err error.Busy) u w c
   moves_miss u w (inr c) = moves_dequeue (Err error.Inconsistent) u w c
-
-  pub moves_waiting : (o : Option E) (u w : PartyOf E) → AtLast MissesDequeue (Dequeues (try_result o)) u w → Moves f [] (got_by_try f (try_result o)) u w
-  moves_waiting o u w a =
-      moves_at_last MissesDequeue (Dequeues (try_result o)) [] (got_by_try f (try_result o)) moves_miss (λ v x d. moves_dequeue (try_result o) v x d) u w a

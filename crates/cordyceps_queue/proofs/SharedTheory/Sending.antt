@@ -1,5 +1,5 @@
 -- A call after others of which it is known what they put in and took out, and what is received of what others send.
-use Rattle.std.proofs.Common.{◌≡◌, ℕ, ◌+◌, ◌<◌, ◌≤◌, List, [], ◌∷◌, ◌++◌, map, length, get_or, take, sym, ap, ◌∙◌, subst, arith, inl, inr}
+use Rattle.std.proofs.Common.{◌≡◌, ℕ, ◌+◌, ◌<◌, List, [], ◌∷◌, ◌++◌, map, length, get_or, take, sym, ap, ◌∙◌, subst}
 use Rattle.std.specs.Prelude.{Result}
 use Rattle.std.proofs.lemmas.List.{append-nil, take_more}
 use Rattle.atomic_table.specs.Seated.{TableId}
@@ -11,20 +11,13 @@ use Rattle.cordyceps_shared.proofs.Moving.{moves_then}
 use Rattle.cordyceps_shared.proofs.Sending as parties
 use Rattle.cordyceps_queue.specs.declared.cores.steps.TryDequeueError.{TryDequeueError}
 use Rattle.cordyceps_queue.specs.History.{held}
-use Rattle.cordyceps_queue.specs.Shared.Batches.{StopsAt, TakesLinked}
+use Rattle.cordyceps_queue.specs.Shared.Batches.{TakesLinked}
 use Rattle.cordyceps_queue.specs.Shared.Calls.{PartyOf, Legal, same_name, Enqueues, EnqueuesRefilled, Dequeues}
 use Rattle.cordyceps_queue.specs.Shared.Moves.{put_by, got_by, Moves, got_by_try}
 use Rattle.cordyceps_queue.specs.Shared.Sending.{Sends}
 use Rattle.cordyceps_queue.proofs.SharedTheory.PartyMoves.{all_kept, moves_enqueue, moves_refilled, moves_dequeue, moves_linked}
 
 module _ {E : Type 0} where
-  -- a consumer takes no more than it was asked for
-  pub linked_at_most : (max : ℕ) (es : List E) (u w : PartyOf E) → TakesLinked max es u w → length es ≤ max
-  linked_at_most max es u w t = go t.stops where
-    go : StopsAt max es u w → length es ≤ max
-    go (inl s) = omega (arith, s.0)
-    go (inr (inl s)) = omega (arith, s.0)
-    go (inr (inr s)) = omega (arith, s.0)
 
 module _ {E A : Type 0} (f : E → A) where
   pub then_enqueues : {s g : List A} {u v : PartyOf E} (e : E) (w : PartyOf E) → Moves f s g u v → Enqueues e v w → Moves f (s ++ f e ∷ []) g u w

@@ -5,7 +5,7 @@ use Rattle.cordyceps_shared.specs.Shares.{Name}
 use Rattle.cordyceps_shared.specs.Standings.{name_of}
 use Rattle.cordyceps_shared.proofs.Moving.{moves_by}
 use Rattle.cordyceps_stack.specs.History.{Event, Load, Push, Taken, pushes, taken_elements, held, Legal, actor}
-use Rattle.cordyceps_stack.specs.Shared.Calls.{PartyOf, Adds, PushesAt, PushesAllAt, PushesRefilled, Misses, MissesRefilled, Takes, Looks, Refills, pushes_of}
+use Rattle.cordyceps_stack.specs.Shared.Calls.{PartyOf, Adds, PushesAt, PushesAllAt, PushesRefilled, Misses, MissesRefilled, Takes, Refills, pushes_of}
 use Rattle.cordyceps_stack.specs.Shared.Moves.{put_by, got_by, Moves}
 use Rattle.cordyceps_stack.proofs.Histories.{nothing_lost}
 
@@ -74,9 +74,6 @@ module _ {E A : Type 0} (f : E → A) where
 
   pub moves_miss_refilled : (u w : PartyOf E) → MissesRefilled u w → Moves f [] [] u w
   moves_miss_refilled u w a = moved u w (Load (name_of u) ∷ []) [] [] a.adds refl refl
-
-  pub moves_look : (none : Bool) (u w : PartyOf E) → Looks none u w → Moves f [] [] u w
-  moves_look none u w a = moved u w (Load (name_of u) ∷ []) [] [] a.0 refl refl
 
   -- a party that takes rooms of the pool moves nothing
   pub moves_refill : (n : ℕ) (u w : PartyOf E) → Refills n u w → Moves f [] [] u w
