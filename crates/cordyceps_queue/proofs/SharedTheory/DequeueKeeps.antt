@@ -1,6 +1,7 @@
 -- The steps of a party that dequeues keep the rule of a queue's table. Each is proved where no slot is in hand; `returning`
 -- adds that one is given back first.
-use Rattle.std.proofs.Common.{◌≡◌, ◌≢◌, ℕ, zero, suc, ◌+◌, ◌-◌, List, [], ◌∷◌, ◌++◌, drop, length, reverse, set, get_or, append-nil, Some, None, refl, sym, ap, ◌∙◌, subst, inl, inr, arith, length-set}
+use Rattle.std.proofs.Common.{◌≡◌, ◌≢◌, ℕ, zero, suc, ◌+◌, ◌-◌, List, [], ◌∷◌, ◌++◌, drop, length, reverse, set, get_or}
+use Rattle.std.proofs.Common.{append-nil, Some, None, refl, sym, ap, ◌∙◌, subst, inl, inr, arith, length-set}
 use Rattle.std.proofs.lemmas.List.{reverse-append}
 use mathlib.Core.Option.{some, none}
 use mathlib.Core.Path.{fun_ext}
