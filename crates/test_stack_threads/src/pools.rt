@@ -2,12 +2,11 @@
 ghost use Rattle.std.specs.Prelude.{◌≡◌};
 
 use crate::compared::{at_most, made, same};
-use crate::items::{dropped, no_drops, pops, stock};
-use crate::seats::{has_room, new_stack, pushes};
-use cordyceps_stack::stack::{MAX_ROOMS, Party, Stack, TransferStack};
+use crate::items::{Handle, dropped, no_drops, pops, stock};
+use crate::seats::{new_stack, pushes};
+use cordyceps_stack::stack::{MAX_ROOMS, Party, Stack, TransferStack, TryPushError};
 use std::alloc::Global;
 use std::process::Abort;
-use std::sync::Wait;
 use std::thread;
 use std::thread::Threads;
 use test_support::counted::Counted;
@@ -23,6 +22,9 @@ enum Call<'a> {
     Refill(usize),
     /// A push by one try, and whether nothing was held before.
     Push(bool),
+    /// A push by one try that takes the rooms which were given back if the party has none, and whether nothing was held
+    /// before. `None`: there is no room, and the element comes back.
+    RefillAndPush(Option<bool>),
     /// The numbers of all that is held.
     Take(&'a [u64]),
 }
@@ -32,6 +34,29 @@ enum Call<'a> {
 enum By {
     First,
     Second,
+}
+
+/// Pushes an element as `Call::RefillAndPush` says. The stock gets it where there is no room.
+fn refills_and_pushes(
+    rt: &impl Abort,
+    stack: &TransferStack<Counted>,
+    party: &mut Party<Counted>,
+    stock: &mut Stack<Counted>,
+    handle: Handle,
+    wanted: Option<bool>,
+)
+    requires { party.old.table ≡ stack.now }
+    ensures { party.new.table ≡ stack.now }
+{
+    let number = handle.id();
+    match stack.refill_and_try_push(party, handle) {
+        Ok(first) => same(rt, Some(first), wanted),
+        Err(TryPushError::Full(back)) => {
+            same(rt, (back.id(), None), (number, wanted));
+            stock.push(back);
+        }
+        Err(TryPushError::Contended(_)) => panic!(rt; "nobody else pushes or takes"),
+    }
 }
 
 /// Makes a call, and asserts what it returns. It pushes what the stock pops.
@@ -54,6 +79,10 @@ fn make(
         Call::Refill(wanted) => same(rt, stack.refill(party), wanted),
         Call::Push(first) => match stock.pop() {
             Some(handle) => pushes(rt, stack, party, handle, first),
+            None => panic!(rt; "the stock has no element left"),
+        },
+        Call::RefillAndPush(wanted) => match stock.pop() {
+            Some(handle) => refills_and_pushes(rt, stack, party, stock, handle, wanted),
             None => panic!(rt; "the stock has no element left"),
         },
         Call::Take(wanted) => pops(rt, stack.take_all(party), wanted),
@@ -135,11 +164,33 @@ const FOUR_ROOMS: [(By, Call<'static>); 21] = [
     (By::Second, Call::GiveBack(2, true)),
 ];
 
+/// A push takes the rooms that were given back only if its party has none.
+const REFILLS: [(By, Call<'static>); 17] = [
+    (By::Second, Call::RefillAndPush(None)),
+    (By::Second, Call::Rooms(0)),
+    (By::First, Call::GiveBack(3, true)),
+    (By::First, Call::RefillAndPush(Some(true))),
+    (By::First, Call::Rooms(0)),
+    (By::Second, Call::RefillAndPush(Some(false))),
+    (By::Second, Call::Rooms(2)),
+    (By::First, Call::RefillAndPush(None)),
+    (By::First, Call::Rooms(0)),
+    (By::Second, Call::GiveBack(1, true)),
+    (By::Second, Call::RefillAndPush(Some(false))),
+    (By::Second, Call::Rooms(0)),
+    (By::First, Call::RefillAndPush(Some(false))),
+    (By::First, Call::Rooms(0)),
+    (By::First, Call::Refill(0)),
+    (By::Second, Call::Take(&[4, 3, 2, 1])),
+    (By::Second, Call::Rooms(4)),
+];
+
 /// A stack without rooms has none that is given back.
-const NO_ROOM: [(By, Call<'static>); 4] = [
+const NO_ROOM: [(By, Call<'static>); 5] = [
     (By::First, Call::GiveBack(0, true)),
     (By::Second, Call::GiveBack(0, true)),
     (By::Second, Call::Refill(0)),
+    (By::First, Call::RefillAndPush(None)),
     (By::First, Call::Rooms(0)),
 ];
 
@@ -170,6 +221,7 @@ const ALL_ROOMS: [(By, Call<'static>); 7] = [
 #[test]
 fn rooms_come_back(rt: HostRuntime) {
     calls_return(&rt, rt.alloc(), 4, &FOUR_ROOMS);
+    calls_return(&rt, rt.alloc(), 4, &REFILLS);
     calls_return(&rt, rt.alloc(), 1, &ONE_ROOM);
     calls_return(&rt, rt.alloc(), MAX_ROOMS, &ALL_ROOMS);
 }
@@ -210,18 +262,14 @@ impl<'s> Member<'s> {
         }
     }
 
-    /// Pushes an element, for which it takes a room that was given back if it has none.
-    fn push<R: Wait + Abort>(&mut self, rt: &R) {
-        if self.party.rooms() == 0 {
-            self.stack.refill(&mut self.party);
-        }
-        if self.party.rooms() == 0 {
-            thread::yield_now();
-            return;
-        }
+    /// Tries once to push an element, for which it takes the rooms that were given back if it has none.
+    fn push(&mut self) {
         if let Some(handle) = self.elements.pop() {
-            has_room(rt, self.party.rooms());
-            self.stack.push(rt, &mut self.party, handle);
+            let pushed = self.stack.refill_and_try_push(&mut self.party, handle);
+            if let Err(error) = pushed {
+                self.elements.push(error.into_inner());
+                thread::yield_now();
+            }
         }
     }
 
@@ -239,27 +287,27 @@ impl<'s> Member<'s> {
     }
 
     /// Takes turns until it has pushed or taken all.
-    fn work<R: Wait + Abort>(&mut self, rt: &R) {
+    fn work(&mut self, rt: &impl Abort) {
         for _ in 0..TURNS {
             match self.takes {
                 Some(0) => return,
                 Some(left) => self.takes = Some(self.take(left)),
                 None if self.elements.is_empty() => return,
-                None => self.push(rt),
+                None => self.push(),
             }
         }
         panic!(rt; "the rooms have not come back");
     }
 
     /// Does what it has to do, and returns what it has then.
-    fn run<R: Wait + Abort>(mut self, rt: &R) -> Member<'s> {
+    fn run(mut self, rt: &impl Abort) -> Member<'s> {
         self.work(rt);
         self
     }
 }
 
 /// Two threads push 4,000 elements through four rooms, which a third gives back.
-fn pass_through<R: Threads + Wait + Abort + Sync>(rt: &R, alloc: Global) {
+fn pass_through<R: Threads + Abort + Sync>(rt: &R, alloc: Global) {
     let drops = no_drops(rt, alloc);
     let (stack, party) = new_stack(rt, alloc, ROOMS);
     let mut all = Member {
