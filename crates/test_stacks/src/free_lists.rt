@@ -1,7 +1,7 @@
 //! Calls of a free list, one after the other.
 use crate::blocks::{Handle, block, dropped, no_drops, pair, pops, two_of};
 use crate::compared::{at_most, made, same};
-use crate::users::{Remote, finishes, gets, puts, puts_all};
+use crate::users::{Remote, finishes, gets, puts, puts_all, refills_and_puts};
 use freelist::{FreeList, Local, Stack};
 use std::alloc::AllocError;
 use std::process::Abort;
@@ -98,6 +98,29 @@ fn rooms_of_taken_blocks_come_back(rt: HostRuntime) {
     same(&rt, list.give_back(&mut remote, 1), true);
     same(&rt, remote.rooms(), 0);
     dropped(&rt, &drops, 2);
+}
+
+// A party uses its own room and leaves the pool alone, then takes the two rooms there; another finds none.
+#[test]
+fn blocks_are_put_back_into_rooms_of_the_pool(rt: HostRuntime) {
+    let drops = no_drops(&rt, rt.alloc());
+    let (one, two) = pair(&rt, rt.alloc(), 1, &drops);
+    let (three, four) = pair(&rt, rt.alloc(), 3, &drops);
+    let (list, mut party) = made(&rt, FreeList::new(rt.alloc(), 3));
+    let mut remote = list.split(&mut party, 1);
+    at_most(&rt, 2, party.rooms());
+    same(&rt, list.give_back(&mut party, 2), true);
+    refills_and_puts(&rt, &list, &mut remote, one, Some(true));
+    same(&rt, (party.rooms(), remote.rooms()), (0, 0));
+    refills_and_puts(&rt, &list, &mut remote, two, Some(false));
+    same(&rt, (party.rooms(), remote.rooms()), (0, 1));
+    refills_and_puts(&rt, &list, &mut party, four, None);
+    refills_and_puts(&rt, &list, &mut remote, three, Some(false));
+    same(&rt, (party.rooms(), remote.rooms()), (0, 0));
+    let mut local = list.local(party);
+    gets(&rt, &mut local, &[Some(3), Some(2), Some(1), None]);
+    finishes(&rt, local, 3);
+    dropped(&rt, &drops, 4);
 }
 
 /// Puts a block back for all and gets it.

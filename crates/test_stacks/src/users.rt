@@ -3,7 +3,7 @@ ghost use Rattle.std.specs.Prelude.{◌≡◌, ◌<◌, length};
 
 use crate::blocks::{Handle, block};
 use crate::compared::{at_most, made, same};
-use freelist::{FreeList, Local, Party, Stack};
+use freelist::{FreeList, Local, Party, Stack, TryPushError};
 use std::alloc::Global;
 use std::process::Abort;
 use std::thread;
@@ -30,6 +30,26 @@ pub fn puts(
     match list.put_remote(party, handle) {
         Ok(was_empty) => same(rt, was_empty, first),
         Err(_) => panic!(rt; "nobody else puts a block back or takes"),
+    }
+}
+
+/// Puts a block back by one try that takes the rooms of the pool if the party has none, and compares whether nothing was
+/// shared before with what is wanted. `None`: there is no room, and the block comes back and is dropped.
+pub fn refills_and_puts(
+    rt: &impl Abort,
+    list: &FreeList<Counted>,
+    party: &mut Party<Counted>,
+    handle: Handle,
+    wanted: Option<bool>,
+)
+    requires { party.old.table ≡ list.now }
+    ensures { party.new.table ≡ list.now }
+{
+    let number = handle.id();
+    match list.refill_and_put_remote(party, handle) {
+        Ok(first) => same(rt, Some(first), wanted),
+        Err(TryPushError::Full(back)) => same(rt, (back.id(), None), (number, wanted)),
+        Err(TryPushError::Contended(_)) => panic!(rt; "nobody else puts a block back or takes"),
     }
 }
 
