@@ -17,8 +17,6 @@ use Rattle.cordyceps_queue.specs.Shared.Moves.{put_by, got_by, Moves, got_by_try
 use Rattle.cordyceps_queue.specs.Shared.Sending.{Sends}
 use Rattle.cordyceps_queue.proofs.SharedTheory.PartyMoves.{all_kept, moves_enqueue, moves_refilled, moves_dequeue, moves_linked}
 
-module _ {E : Type 0} where
-
 module _ {E A : Type 0} (f : E → A) where
   pub then_enqueues : {s g : List A} {u v : PartyOf E} (e : E) (w : PartyOf E) → Moves f s g u v → Enqueues e v w → Moves f (s ++ f e ∷ []) g u w
   then_enqueues {s} {g} {u} {v} e w before c = subst (λ z. Moves f (s ++ f e ∷ []) z u w) (append-nil g)
