@@ -1,6 +1,7 @@
 -- A node that is put in after the nearest end, or moved there.
-use Rattle.std.proofs.Common.{true, ◌≡◌, ℕ, ◌+◌, ◌-◌, ◌<◌, ◌≤◌, length, MatchOption, slice_set, List, [], ◌∷◌, ◌++◌, get_or, Option, Some, None, sym, ap, ◌∙◌, subst, arith}
+use Rattle.std.proofs.Common.{true, ◌≡◌, ℕ, ◌+◌, ◌-◌, ◌<◌, ◌≤◌, length, MatchOption, slice_set, List, [], ◌∷◌, ◌++◌, get_or, Option, Some, None, inl, inr, sym, ap, ◌∙◌, subst, arith}
 use Rattle.std.specs.Option.{is_some}
+use Rattle.std.proofs.lemmas.Bool.{cases_lt}
 use Rattle.std.proofs.lemmas.List.{append_assoc, get_or_default, get_or-set_same, get_or-set_other}
 use denote.RawPtr.{Ptr}
 use Rattle.cordyceps_base.specs.BySpot.{HasSpot, IsTaken, IsPutAfter}
@@ -8,7 +9,7 @@ use Rattle.cordyceps_base.specs.Element.{Element}
 use Rattle.cordyceps_base.specs.Nodes.{Nodes, spots}
 use Rattle.cordyceps_base.specs.Spots.{AreDistinct, IsNew}
 use Rattle.cordyceps_stable.proofs.Holding.{spot_is_at, unique}
-use Rattle.cordyceps_clock.specs.Buckets.{IsKept, IsNearest, IsPutIn, IsSet}
+use Rattle.cordyceps_clock.specs.Buckets.{AreEmpty, IsKept, IsNearest, IsPutIn, IsSet}
 use Rattle.cordyceps_clock.proofs.Rows.{parted, kept_put}
 
 -- what a call left is what is there
@@ -35,6 +36,12 @@ module _ {X : Type 0} where
 -- an end that was written
 pub set_is : (ends : List (Option Ptr)) (k : ℕ) (spot : Ptr) → length ends ≡ 65 → k < 65 → IsSet ends (slice_set ends k (Some spot)) k spot
 set_is ends k spot long small = (get_or-set_same ends k (Some spot) None (omega (arith, long, small)), λ i other. get_or-set_other ends k i (Some spot) None other)
+
+-- the nearest end is the same from each of some buckets that are empty
+pub nearest_above : (ends : List (Option Ptr)) (low k : ℕ) (o : Option Ptr) → low ≤ k → AreEmpty ends low k → IsNearest ends low o → IsNearest ends k o
+nearest_above ends low k None le empty near = λ i upto. elim (cases_lt low i) [ inl over ↦ empty i over upto | inr under ↦ near i under ]
+nearest_above ends low k (Some p) le empty (j, within, at, none) =
+    (j, omega (arith, within, le), at, λ i more upto. elim (cases_lt low i) [ inl over ↦ empty i over upto | inr under ↦ none i more under ])
 
 -- the first end that is found is the nearest
 pub found_end : (ends : List (Option Ptr)) (k above : ℕ) (r : Option Ptr) → length ends ≡ 65 → k < 65 → 0 < above → above ≤ k + 1 → ((i : ℕ) → above ≤ i → i ≤ k → get_or ends i None ≡ None) → is_some (get_or ends (above - 1) r) ≡ true

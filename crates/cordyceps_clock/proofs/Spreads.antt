@@ -1,5 +1,5 @@
 -- A step of a spread: the first of the nodes ahead is moved to the end of its bucket.
-use Rattle.std.proofs.Common.{Bool, true, false, ◌≡◌, ℕ, suc, length, MatchOption, ◌<◌, ◌≤◌, ◌^◌, List, [], ◌∷◌, ◌++◌, Option, Some, None, refl, sym, ap, ◌∙◌, subst, arith}
+use Rattle.std.proofs.Common.{Bool, true, false, ◌≡◌, ℕ, suc, length, MatchOption, ◌<◌, ◌≤◌, ◌^◌, List, [], ◌∷◌, ◌++◌, Option, Some, None, get_or, refl, sym, ap, ◌∙◌, subst, arith}
 use Rattle.std.specs.Cmp.{IsStrictWeakOrder, nat_cmp_total}
 use Rattle.std.specs.List.{AllByRecursion, filter}
 use Rattle.std.specs.List.Sorted.{IsPermutation, IsStableBy, ties}
@@ -19,10 +19,10 @@ use Rattle.cordyceps_single.proofs.Keys.{at_most}
 use Rattle.cordyceps_stable.specs.Arranged.{precedes}
 use Rattle.cordyceps_stable.proofs.Classes.{all_weaker, all_front, all_back, in_class, out_of_class, none_in, tie_parts}
 use Rattle.cordyceps_stable.proofs.Holding.{spot_is_at, unique, taken_gone}
-use Rattle.cordyceps_clock.specs.Buckets.{number_at, AreDue, IsKept, IsMovedIn, IsNearest, IsPutIn, IsSet, IsSpreading}
+use Rattle.cordyceps_clock.specs.Buckets.{last_spot, number_at, AreDue, IsKept, IsMovedIn, IsNearest, IsPutIn, IsSet, IsSpreading}
 use Rattle.cordyceps_clock.proofs.Numbers.{earlier}
 use Rattle.cordyceps_clock.proofs.Puts.{distinct_less, left_is}
-use Rattle.cordyceps_clock.proofs.Rows.{Parted, parted, kept_put}
+use Rattle.cordyceps_clock.proofs.Rows.{Parted, parted, kept_put, row_below}
 
 module _ {X : Type 0} (number : Ptr × Element X → ℕ) where
   -- the nodes up to a bucket are all done ones, where the others lie above it
@@ -175,6 +175,16 @@ module _ {X : Type 0} (of : X → ℕ) where
     pub next : MatchOption at (ahead ++ others ≡ []) (λ q. IsFirst (ahead ++ others) q)
     pub stable : IsStableBy (precedes (by_key nat_cmp of)) first (done ++ ahead)
     pub moved : IsPermutation first (done ++ ahead)
+
+  -- so far no done node is in a bucket above top
+  pub record Spread (now : ℕ) (ends : List (Option Ptr)) (c : Nodes X) (j : ℕ) (first others : Nodes X) (at : Option Ptr) (left top : ℕ) : Type 0 where
+    pub stands : Stands now ends c j first others at left
+    pub empty : (i : ℕ) → top < i → i ≤ j → i < 65 → get_or ends i None ≡ None
+
+  -- the buckets of the nodes ahead are empty where a spread begins
+  pub empty_first : (now : ℕ) (ends : List (Option Ptr)) (c : Nodes X) (j : ℕ) (ahead others : Nodes X) → IsSpreading (number_at of now) ends c j [] ahead others → (i : ℕ) → i ≤ j → i < 65 → get_or ends i None ≡ None
+  empty_first now ends c j ahead others s i upto small =
+      s.kept.last i small ∙ ap last_spot (row_below (number_at of now) i others (higher (number_at of now) j i others upto s.high))
 
   module _ (now : ℕ) (ends : List (Option Ptr)) (c : Nodes X) (j : ℕ) (first others : Nodes X) where
     -- the first of the nodes ahead

@@ -19,6 +19,10 @@ abbrev pub IsNearest : (ends : List (Option Ptr)) → ℕ → Option Ptr → Typ
 IsNearest ends k o = MatchOption o ((i : ℕ) → i ≤ k → get_or ends i None ≡ None)
     (λ p. (j : ℕ) × (j ≤ k) × (get_or ends j None ≡ Some p) × ((i : ℕ) → j < i → i ≤ k → get_or ends i None ≡ None))
 
+-- no bucket above the bucket low, up to k, has a node
+abbrev pub AreEmpty : (ends : List (Option Ptr)) → (low k : ℕ) → Type 0
+AreEmpty ends low k = (i : ℕ) → low < i → i ≤ k → get_or ends i None ≡ None
+
 -- the bucket k ends at p now, and each other where it did
 abbrev pub IsSet : (ends new : List (Option Ptr)) → ℕ → Ptr → Type 0
 IsSet ends new k p =

@@ -6,7 +6,7 @@ ghost use Rattle.cordyceps_base.specs.Element.{Element};
 ghost use Rattle.cordyceps_base.specs.Nodes.{Nodes, spots};
 ghost use Rattle.cordyceps_base.specs.Spots.{AreDistinct};
 ghost use Rattle.cordyceps_clock.specs.Buckets.{bucket_of, last_spot, number_at, row};
-ghost use Rattle.cordyceps_clock.specs.Buckets.{IsKept, IsMovedIn, IsNearest, IsPutIn, IsSet};
+ghost use Rattle.cordyceps_clock.specs.Buckets.{AreEmpty, IsKept, IsMovedIn, IsNearest, IsPutIn, IsSet};
 
 use crate::times::Times;
 use cordyceps_base::linked::Linked;
@@ -186,6 +186,34 @@ pub(crate) fn take_out<T: Linked<Links<T>>, O: Times<T>>(
     list.remove(at)
 }
 
+/// Moves the element at `at` after all of the buckets up to `k`, and ends the bucket `k` there. Requires that no bucket
+/// above `low` and up to `k` has an element, so that their ends need not be read.
+///
+/// # Complexity
+/// O(1).
+pub(crate) fn move_above<T: Linked<Links<T>>>(
+    list: &mut StableList<T>,
+    ends: &mut Ends,
+    low: usize,
+    k: usize,
+    at: Spot,
+)
+    requires within { k < 65 }
+    requires low { low ≤ k }
+    requires empty { AreEmpty ends.old low k }
+    requires there { HasSpot list.old at }
+    requires others { (to : Ptr) → IsNearest ends.old low (Some to) → HasSpot list.old to × (at ≢ to) }
+    ensures moved { IsMovedIn ends.old k list.old at list.new }
+    ensures end { IsSet ends.old ends.new k at }
+    ensures distinct { AreDistinct (spots list.new) }
+{
+    match nearest_end(ends, low) {
+        Some(to) => list.move_after(at, to),
+        None => list.move_to_front(at),
+    }
+    ends[k] = Some(at);
+}
+
 /// Moves the element at `at` after all of the buckets up to `k`, and ends the bucket `k` there.
 ///
 /// # Complexity
@@ -203,9 +231,5 @@ pub(crate) fn move_in<T: Linked<Links<T>>>(
     ensures end { IsSet ends.old ends.new k at }
     ensures distinct { AreDistinct (spots list.new) }
 {
-    match nearest_end(ends, k) {
-        Some(to) => list.move_after(at, to),
-        None => list.move_to_front(at),
-    }
-    ends[k] = Some(at);
+    move_above(list, ends, k, k, at);
 }

@@ -10,9 +10,10 @@ ghost use Rattle.cordyceps_base.specs.Spots.{AreDistinct};
 ghost use Rattle.cordyceps_single.specs.ByKey.{AscendsBy, by_key};
 ghost use Rattle.cordyceps_stable.specs.Arranged.{precedes};
 ghost use Rattle.cordyceps_clock.specs.Buckets.{bucket_of, number_at};
-ghost use Rattle.cordyceps_clock.specs.Buckets.{AreDue, IsAdvanced, IsFirstBucket, IsPutIn, IsSpreading, IsTimed};
+ghost use Rattle.cordyceps_clock.specs.Buckets.{AreDue, AreEmpty, IsAdvanced, IsFirstBucket, IsPutIn, IsSet};
+ghost use Rattle.cordyceps_clock.specs.Buckets.{IsSpreading, IsTimed};
 
-use crate::buckets::{Ends, bucket, move_in, time_at};
+use crate::buckets::{Ends, bucket, move_above, time_at};
 use crate::times::Times;
 use cordyceps_base::linked::Linked;
 use cordyceps_list::list::Links;
@@ -93,12 +94,21 @@ pub(crate) fn first_bucket<T: Linked<Links<T>>, O: Times<T>>(
     first
 }
 
-/// Moves the first of the nodes ahead, which is at `at`, to the end of its bucket `k`.
+/// Moves the first of the nodes ahead, which is at `at`, to the end of its bucket `k`. Requires that no bucket above
+/// `low` and up to `k` has an element yet.
 ///
 /// # Complexity
 /// O(1).
-fn place<T: Linked<Links<T>>>(list: &mut StableList<T>, ends: &mut Ends, k: usize, at: Spot)
+fn place<T: Linked<Links<T>>>(
+    list: &mut StableList<T>,
+    ends: &mut Ends,
+    low: usize,
+    k: usize,
+    at: Spot,
+)
     requires within { k < 65 }
+    requires low { low ≤ k }
+    requires empty { AreEmpty ends.old low k }
     requires ready { (number : Ptr × Element T → ℕ) × (j : ℕ) × (done : Nodes T) × (e : Element T) × (ahead : Nodes T)
         × (others : Nodes T) × (number (at, e) ≡ k)
         × IsSpreading number ends.old list.old j done ((at, e) ∷ ahead) others }
@@ -107,10 +117,11 @@ fn place<T: Linked<Links<T>>>(list: &mut StableList<T>, ends: &mut Ends, k: usiz
         → IsSpreading number ends.old list.old j done ((at, e) ∷ ahead) others
         → (more : Nodes T) × IsSpreading number ends.new list.new j more ahead others
         × IsPutIn number k done at e more }
+    ensures end { IsSet ends.old ends.new k at }
     ensures distinct { AreDistinct (spots list.new) }
 {
     list.spots_are_distinct();
-    move_in(list, ends, k, at);
+    move_above(list, ends, low, k, at);
 }
 
 /// Spreads the first `len` elements of a list, of which the first is at `at`, over the buckets in which they are at the
@@ -142,6 +153,8 @@ pub(crate) fn spread<T: Linked<Links<T>>, O: Times<T>>(
 {
     let mut next = Some(at);
     let mut left = len;
+    // The highest bucket that an element has come into.
+    let mut top = 0;
     while left > 0 {
         list.spots_are_distinct();
         let Some(at) = next else {
@@ -149,7 +162,8 @@ pub(crate) fn spread<T: Linked<Links<T>>, O: Times<T>>(
         };
         next = list.next(at);
         let k = bucket(now, time_at(list, time, at));
-        place(list, ends, k, at);
+        place(list, ends, k.min(top), k, at);
+        top = top.max(k);
         left -= 1;
     }
     list.spots_are_distinct();

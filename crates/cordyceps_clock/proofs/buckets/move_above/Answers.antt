@@ -1,8 +1,8 @@
 use Rattle.std.proofs.Common.{Some, None, refl}
 use Rattle.cordyceps_base.specs.BySpot.{IsMovedFront, IsMovedAfter}
-use Rattle.cordyceps_clock.proofs.Puts.{set_is, shown_put}
-use Rattle.cordyceps_clock.proofs.buckets.move_in.Goals as goal
-use Rattle.cordyceps_clock.proofs.buckets.move_in.Goals.{in-Some, in-None}
+use Rattle.cordyceps_clock.proofs.Puts.{nearest_above, set_is, shown_put}
+use Rattle.cordyceps_clock.proofs.buckets.move_above.Goals as goal
+use Rattle.cordyceps_clock.proofs.buckets.move_above.Goals.{in-Some, in-None}
 
 pub returns-clause-moved : goal.returns-clause-moved
 returns-clause-moved g c =
@@ -10,12 +10,12 @@ returns-clause-moved g c =
     elim c.match-nearest_end.branch [
       | in-Some w ↦ let to = w.in-Some.to in record {
         end = Some to;
-        nearest = w.in-Some.ensures;
+        nearest = nearest_above c.args.ends.now c.args.low c.args.k (Some to) c.requires.low c.requires.empty w.in-Some.ensures;
         moved = shown_put (λ q d. IsMovedAfter old at to d) _ new at at w.list-is refl w.move_after.ensures.moved;
       }
       | in-None w ↦ record {
         end = None;
-        nearest = w.in-None.ensures;
+        nearest = nearest_above c.args.ends.now c.args.low c.args.k None c.requires.low c.requires.empty w.in-None.ensures;
         moved = shown_put (λ q d. IsMovedFront old at d) _ new at at w.list-is refl w.move_to_front.ensures.moved;
       }
     ]
