@@ -1,9 +1,22 @@
 -- What a history says, read from either end.
-use Rattle.std.proofs.Common.{◌≡◌, ◌+◌, List, [], ◌∷◌, ◌++◌, reverse, Option, None, refl, ap, ◌∙◌, append-nil, arith}
+use Rattle.std.proofs.Common.{◌≡◌, ◌+◌, List, [], ◌∷◌, ◌++◌, reverse, drop, Option, None, refl, sym, ap, ◌∙◌, append_assoc, append-nil, arith}
 use Rattle.std.proofs.lemmas.List.{reverse-append}
 use Rattle.cordyceps_queue.specs.History as told
 use Rattle.cordyceps_queue.specs.History.{Event, Swap, Link, Take, Busy, Look, Out, Empty, Free, one_if_dec, holder_after, holder_from, swaps_by, links_by, looks_by}
 use Rattle.cordyceps_queue.specs.Past as past
+
+-- what came out of a legal history, followed by what it holds, is what came in
+pub in_order : (P E : Type 0) (h : List (Event P E)) → past.IsLegalReversed h → past.went_reversed h ++ past.held_reversed h ≡ past.came_reversed h
+in_order P E [] legal = refl
+in_order P E (Event.Swap p e ∷ h) legal = sym (append_assoc (past.went_reversed h) (past.held_reversed h) (e ∷ [])) ∙ ap (λ l. l ++ e ∷ []) (in_order P E h legal.1)
+in_order P E (Event.Out p e ∷ h) legal =
+    append_assoc (past.went_reversed h) (e ∷ []) (drop 1 (past.held_reversed h)) ∙ ap (λ l. past.went_reversed h ++ e ∷ drop 1 l) legal.0.2 ∙ ap (λ l. past.went_reversed h ++ l) (sym legal.0.2) ∙ in_order P E h legal.1
+in_order P E (Event.Link p ∷ h) legal = in_order P E h legal.1
+in_order P E (Event.Take p ∷ h) legal = in_order P E h legal.1
+in_order P E (Event.Busy p ∷ h) legal = in_order P E h legal.1
+in_order P E (Event.Look p ∷ h) legal = in_order P E h legal.1
+in_order P E (Event.Empty p ∷ h) legal = in_order P E h legal.1
+in_order P E (Event.Free p ∷ h) legal = in_order P E h legal.1
 
 pub reverse-cons : {A : Type 0} (x : A) (xs : List A) → reverse (x ∷ xs) ≡ reverse xs ++ x ∷ []
 reverse-cons x xs = reverse-append (x ∷ []) xs

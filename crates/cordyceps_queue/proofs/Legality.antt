@@ -6,8 +6,7 @@ use Rattle.cordyceps_queue.specs.History as told
 use Rattle.cordyceps_queue.specs.History.{Event, Swap, Link, Take, Busy, Look, Out, Empty, Free, one_if_dec, swaps_by, links_by, looks_by, IsPending, MayFollow}
 use Rattle.cordyceps_queue.specs.Past as past
 use Rattle.cordyceps_queue.specs.Past.{IsSettled, IsOpen, IsPendingAt, HasLooked, MayCome}
-use Rattle.cordyceps_queue.proofs.HistoryEnds.{reverse-cons, came-append, went-append, came-reverse, went-reverse, holder-reverse, swaps_by-append, links_by-append, swaps_by-reverse, links_by-reverse}
-use Rattle.cordyceps_queue.proofs.CoreTheory.NewMachines.{in_order}
+use Rattle.cordyceps_queue.proofs.HistoryEnds.{reverse-cons, came-append, went-append, came-reverse, went-reverse, holder-reverse, swaps_by-append, links_by-append, swaps_by-reverse, links_by-reverse, in_order}
 
 pub one_same : {A : Type 0} (d : Dec A) → A → one_if_dec d ≡ 1
 one_same (yes a) x = refl

@@ -16,6 +16,11 @@ pub data Event (P E : Type 0) : Type 0 where
   -- it gave the right back
   Free : P → Event P E
 
+-- tries of a party, each of which gave an element
+abbrev pub outs : {P E : Type 0} → P → List E → List (Event P E)
+outs p [] = []
+outs p (e ∷ es) = Look p ∷ Out p e ∷ outs p es
+
 module _ {P E : Type 0} where
   -- the party of an event
   abbrev pub actor : Event P E → P

@@ -11,9 +11,8 @@ use Rattle.cordyceps_queue.specs.declared.cores.steps.QueueAnswer.{QueueAnswer}
 use Rattle.cordyceps_queue.specs.declared.cores.steps.QueueAnswer.TheVariants as answer
 use Rattle.cordyceps_queue.specs.declared.cores.steps.TryDequeueError.{TryDequeueError}
 use Rattle.cordyceps_queue.specs.declared.cores.steps.TryDequeueError.TheVariants as error
-use Rattle.cordyceps_queue.specs.History.{Event, Take, Busy, Look, Out, Free, held, holder, swaps_by, links_by, IsBlocked}
+use Rattle.cordyceps_queue.specs.History.{Event, Take, Busy, Look, Out, Free, held, holder, swaps_by, links_by, IsBlocked, outs}
 use Rattle.cordyceps_queue.specs.Past as past
-use Rattle.cordyceps_queue.specs.Shared.Batches.{outs}
 use Rattle.cordyceps_queue.specs.Cores.Machine.{Machine, Outcome, events_of, after_step_at, after_step, take}
 use Rattle.cordyceps_queue.specs.Cores.CoreMeets.{CoreMeets}
 use Rattle.cordyceps_queue.specs.Cores.Alone.{found_of, may_dequeue, tries, try_events, Finds}

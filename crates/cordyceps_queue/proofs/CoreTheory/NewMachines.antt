@@ -1,23 +1,9 @@
--- New machines, and what went out before what is held.
-use Rattle.std.proofs.Common.{◌≡◌, ℕ, zero, suc, ◌≤◌, [], ◌∷◌, ◌++◌, drop, None, refl, sym, ap, ◌∙◌, append_assoc, arith}
-use Rattle.cordyceps_queue.specs.History.{Event}
-use Rattle.cordyceps_queue.specs.Past.{held_reversed, went_reversed}
+-- New machines.
+use Rattle.std.proofs.Common.{◌≡◌, ℕ, zero, suc, ◌≤◌, [], ◌∷◌, None, refl, sym, ap, ◌∙◌, arith}
 use Rattle.cordyceps_shared.specs.Places.{ItemAt}
 use Rattle.cordyceps_queue.specs.Cores.Meets.{Owner, Shared, Unmade}
-use Rattle.cordyceps_queue.specs.Cores.StepKeeps.{InOrder, NewMeets}
+use Rattle.cordyceps_queue.specs.Cores.StepKeeps.{NewMeets}
 use Rattle.cordyceps_queue.proofs.CoreTheory.Basics.{none_some}
-
-pub in_order : (P E : Type 0) → InOrder P E
-in_order P E [] legal = refl
-in_order P E (Event.Swap p e ∷ h) legal = sym (append_assoc (went_reversed h) (held_reversed h) (e ∷ [])) ∙ ap (λ l. l ++ e ∷ []) (in_order P E h legal.1)
-in_order P E (Event.Out p e ∷ h) legal =
-    append_assoc (went_reversed h) (e ∷ []) (drop 1 (held_reversed h)) ∙ ap (λ l. went_reversed h ++ e ∷ drop 1 l) legal.0.2 ∙ ap (λ l. went_reversed h ++ l) (sym legal.0.2) ∙ in_order P E h legal.1
-in_order P E (Event.Link p ∷ h) legal = in_order P E h legal.1
-in_order P E (Event.Take p ∷ h) legal = in_order P E h legal.1
-in_order P E (Event.Busy p ∷ h) legal = in_order P E h legal.1
-in_order P E (Event.Look p ∷ h) legal = in_order P E h legal.1
-in_order P E (Event.Empty p ∷ h) legal = in_order P E h legal.1
-in_order P E (Event.Free p ∷ h) legal = in_order P E h legal.1
 
 -- whose the rooms of a new machine are
 abbrev new_owner : ℕ → Owner

@@ -21,6 +21,10 @@ use Rattle.cordyceps_queue.proofs.CoreTheory.OtherParties.{joined_put, names_put
 pub spare_shared : {o : Owner} {k : ℕ} → o ≡ Spare k → o ≡ Shared → ⊥
 spare_shared a b = cc (a, b)
 
+-- a free room has one owner
+pub spare_one : {o : Owner} {j k : ℕ} → o ≡ Spare j → o ≡ Spare k → j ≡ k
+spare_one a b = cc (a, b)
+
 pub ready_shared : {o : Owner} {k : ℕ} → o ≡ Ready k → o ≡ Shared → ⊥
 ready_shared a b = cc (a, b)
 

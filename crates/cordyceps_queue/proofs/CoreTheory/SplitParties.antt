@@ -11,8 +11,7 @@ use Rattle.cordyceps_queue.specs.Cores.Meets.{Owner, Shared, Spare, Ready, Unmad
 use Rattle.cordyceps_queue.specs.Cores.Abstract.{AbstractParty, AbstractMachine, update}
 use Rattle.cordyceps_queue.proofs.CoreTheory.Basics.{ready_with, none_some, put_same, put_other}
 use Rattle.cordyceps_queue.proofs.CoreTheory.OtherParties.{taken_with}
-use Rattle.cordyceps_queue.proofs.CoreTheory.ProducerSteps.{spare_shared, ready_spare, spare_unmade}
-use Rattle.cordyceps_queue.proofs.SharedTheory.EnqueueKeeps.{spare_one}
+use Rattle.cordyceps_queue.proofs.CoreTheory.ProducerSteps.{spare_shared, ready_spare, spare_unmade, spare_one}
 
 -- ---- rooms that go to another owner
 abbrev pub deal : Owner → List ℕ → (ℕ → Owner) → ℕ → Owner

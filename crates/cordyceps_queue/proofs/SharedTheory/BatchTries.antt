@@ -9,8 +9,8 @@ use Rattle.cordyceps_shared.proofs.Adding.{adds_then}
 use Rattle.cordyceps_shared.proofs.Owning.{own_adds}
 use Rattle.cordyceps_queue.specs.declared.cores.steps.TryDequeueError.{TryDequeueError}
 use Rattle.cordyceps_queue.specs.declared.cores.steps.TryDequeueError.TheVariants as error
-use Rattle.cordyceps_queue.specs.Shared.Batches.{outs, TakesLinked}
-use Rattle.cordyceps_queue.specs.History.{Event, Look, Out, Empty, held, actor}
+use Rattle.cordyceps_queue.specs.Shared.Batches.{TakesLinked}
+use Rattle.cordyceps_queue.specs.History.{Event, Look, Out, Empty, held, actor, outs}
 use Rattle.cordyceps_queue.specs.Shared.Calls.{PartyOf, Legal, Adds, BlockedAfter, Consumes}
 use Rattle.cordyceps_queue.proofs.SharedTheory.CloseTakesAll.{gives_first}
 use Rattle.cordyceps_queue.proofs.SharedTheory.TriesInTurn.{Run, run_holds}

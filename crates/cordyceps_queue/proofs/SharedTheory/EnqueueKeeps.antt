@@ -17,7 +17,7 @@ use Rattle.cordyceps_queue.specs.declared.cores.stage.Stage.TheVariants.{Rest, C
 use Rattle.cordyceps_shared.specs.FreeChains.{Links, leads}
 use Rattle.cordyceps_queue.specs.History.{Event, actor}
 use Rattle.cordyceps_shared.specs.Places.{ItemAt}
-use Rattle.cordyceps_queue.specs.Cores.Meets.{Owner, Spare, Shared, Ready, Pooled, OwnsRooms, AtStage, real}
+use Rattle.cordyceps_queue.specs.Cores.Meets.{Shared, Ready, Pooled, OwnsRooms, AtStage, real}
 use Rattle.cordyceps_queue.specs.Shared.Plays.{SeatState, LegalReversed, Sees}
 use Rattle.cordyceps_queue.specs.Shared.Plays as play
 use Rattle.cordyceps_shared.specs.Slots.{Homes, EmptyAtHome, Hand}
@@ -26,15 +26,12 @@ use Rattle.cordyceps_queue.specs.Shared.View.{View, name, cleared_count}
 use Rattle.cordyceps_queue.specs.Cores.Abstract.{AbstractMachine, update, clear_room, swap_head, link_next}
 use Rattle.cordyceps_queue.proofs.CoreTheory.Basics.{some_inj, put_same, put_other, at_split, real_more}
 use Rattle.cordyceps_queue.proofs.CoreTheory.ChainGrows.{real_one}
-use Rattle.cordyceps_queue.proofs.CoreTheory.ProducerSteps.{spare_shared, spare_pooled, ready_spare, ready_pooled, shared_pooled, clear_keeps, chain_after_clear, swap_keeps, chain_after_swap, was, fresh, link_keeps}
+use Rattle.cordyceps_queue.proofs.CoreTheory.ProducerSteps.{spare_shared, spare_pooled, ready_spare, ready_pooled, shared_pooled, clear_keeps, chain_after_clear, swap_keeps, chain_after_swap, was, fresh, link_keeps, spare_one}
 use Rattle.cordyceps_queue.proofs.SharedTheory.WordsAsMachine.{links_put, links_same, next_low, parties_put, keeps_rule, core, party_at, rooms_of, free_spare, empties, empties_same, readies, readies_same, head_near, linked_else, own_links, linkeds, linkeds_low, Becomes, PlainAllows}
 
 abbrev room_of : Stage → ℕ
 room_of (Cleared r) = r
 room_of p = 0
-
-pub spare_one : {o : Owner} {j k : ℕ} → o ≡ Spare j → o ≡ Spare k → j ≡ k
-spare_one a b = cc (a, b)
 
 module _ {E : Type 0} (s : TableState E) (k : PlainHolds s) (id : ℕ) (v : View E) (at : get_elem? s.views id ≡ some v) (named : v.known.share ≢ []) where
   abbrev pub m : AbstractMachine Name E

@@ -22,9 +22,8 @@ use Rattle.cordyceps_queue.specs.Cores.Abstract.{AbstractMachine, update}
 use Rattle.cordyceps_queue.specs.Shared.Rule.{TableState, link_of, party, party_of, machine_of, AreLinked, PlainHolds}
 use Rattle.cordyceps_queue.specs.Shared.View.{View, knows}
 use Rattle.cordyceps_queue.proofs.CoreTheory.Basics.{open_with, ready_with, put_other, at_within, at_more}
-use Rattle.cordyceps_queue.proofs.CoreTheory.ProducerSteps.{spare_shared, spare_pooled, ready_spare}
+use Rattle.cordyceps_queue.proofs.CoreTheory.ProducerSteps.{spare_shared, spare_pooled, ready_spare, spare_one}
 use Rattle.cordyceps_queue.proofs.SharedTheory.WordsAsMachine.{at_after, links_put, parties_put, core, party_at, rooms_of, free_spare, empties_same, linked_else, linkeds, linkeds_same, pool_stays, count_same, spent_else, Stays}
-use Rattle.cordyceps_queue.proofs.SharedTheory.EnqueueKeeps.{spare_one}
 use Rattle.cordyceps_queue.proofs.SharedTheory.ReturnKeeps.{put_again}
 
 -- ---- the link of a free room does not matter to the machine

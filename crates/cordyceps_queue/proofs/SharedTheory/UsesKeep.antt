@@ -29,9 +29,9 @@ use Rattle.cordyceps_queue.specs.Shared.Rule.{TableState, party, PlainHolds, Rul
 use Rattle.cordyceps_queue.specs.Shared.View.{View, name, bit_of, free_chain, back_chain}
 use Rattle.cordyceps_queue.proofs.CoreTheory.Basics.{some_inj, put_same}
 use Rattle.cordyceps_queue.proofs.CoreTheory.HolderSteps.{keeping}
-use Rattle.cordyceps_queue.proofs.CoreTheory.ProducerSteps.{spare_shared, spare_pooled, ready_spare}
+use Rattle.cordyceps_queue.proofs.CoreTheory.ProducerSteps.{spare_shared, spare_pooled, ready_spare, spare_one}
 use Rattle.cordyceps_queue.proofs.SharedTheory.WordsAsMachine.{core, party_at, rooms_of, Becomes}
-use Rattle.cordyceps_queue.proofs.SharedTheory.EnqueueKeeps.{spare_one, clears}
+use Rattle.cordyceps_queue.proofs.SharedTheory.EnqueueKeeps.{clears}
 use Rattle.cordyceps_queue.proofs.SharedTheory.UsesSpell.{place_of, begun_not_spare, spare_not_in, right_in, next_in, spells_begun, spells_low, pool_word, pool_links, spelt_read}
 use Rattle.cordyceps_queue.proofs.SharedTheory.HolderAllowed.{looks, reads_after}
 use Rattle.cordyceps_queue.proofs.SharedTheory.StubKeeps.{looks_stub, heads_stub, heads, rereads}

@@ -28,9 +28,8 @@ use Rattle.cordyceps_queue.specs.Shared.Uses as play
 use Rattle.cordyceps_queue.specs.Shared.Rule.{TableState, RuleHolds}
 use Rattle.cordyceps_queue.specs.Shared.View.{View, knows, newcomer, down_from, free_chain, bit_of}
 use Rattle.cordyceps_queue.proofs.CoreTheory.Basics.{at_more}
-use Rattle.cordyceps_queue.proofs.CoreTheory.ProducerSteps.{spare_pooled}
+use Rattle.cordyceps_queue.proofs.CoreTheory.ProducerSteps.{spare_pooled, spare_one}
 use Rattle.cordyceps_queue.proofs.SharedTheory.WordsAsMachine.{rooms_of, Stays}
-use Rattle.cordyceps_queue.proofs.SharedTheory.EnqueueKeeps.{spare_one}
 use Rattle.cordyceps_queue.proofs.SharedTheory.SpareKeeps.{tied_kept, skip_kept}
 use Rattle.cordyceps_queue.proofs.SharedTheory.PartingKeeps.{opens, cut_kept, joint_kept, forgot_kept, legal_front, at_down_from}
 use Rattle.cordyceps_queue.proofs.SharedTheory.SeatNames.{few_rooms, rest_linked, rest_unheld}

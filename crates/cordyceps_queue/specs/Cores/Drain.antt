@@ -9,8 +9,7 @@ use Rattle.cordyceps_queue.specs.declared.cores.steps.QueueStep.TheVariants as s
 use Rattle.cordyceps_queue.specs.declared.cores.steps.QueueAnswer.TheVariants as answer
 use Rattle.cordyceps_queue.specs.declared.cores.steps.TryDequeueError.{TryDequeueError}
 use Rattle.cordyceps_queue.specs.declared.cores.steps.TryDequeueError.TheVariants as error
-use Rattle.cordyceps_queue.specs.History.{Event, Take, Busy, Look, Free, held, holder, IsPending, IsBlocked}
-use Rattle.cordyceps_queue.specs.Shared.Batches.{outs}
+use Rattle.cordyceps_queue.specs.History.{Event, Take, Busy, Look, Free, held, holder, IsPending, IsBlocked, outs}
 use Rattle.cordyceps_queue.specs.Cores.Machine.{Machine, Answered, after_step}
 use Rattle.cordyceps_queue.specs.Cores.Alone.{may_dequeue, found_of, tries, try_events}
 

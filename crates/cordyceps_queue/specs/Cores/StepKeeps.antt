@@ -1,8 +1,8 @@
 -- What each step keeps.
 use Rattle.std.specs.Prelude.{◌≡◌, ◌≢◌, ℕ, List, [], ◌∷◌, ◌++◌, Some, None}
 use Rattle.cordyceps_queue.specs.History.{Event}
-use Rattle.cordyceps_queue.specs.Past.{came_reversed, went_reversed, held_reversed, holder_reversed}
-use Rattle.cordyceps_queue.specs.Past.{WasBlockedReversed, IsLegalReversed}
+use Rattle.cordyceps_queue.specs.Past.{held_reversed, holder_reversed}
+use Rattle.cordyceps_queue.specs.Past.{WasBlockedReversed}
 use Rattle.cordyceps_queue.specs.declared.cores.steps.QueueStep.{QueueStep}
 use Rattle.cordyceps_queue.specs.declared.cores.steps.QueueAnswer.{QueueAnswer}
 use Rattle.cordyceps_queue.specs.declared.cores.steps.QueueAnswer.TheVariants as answer
@@ -24,10 +24,6 @@ StepKeeps P E =
     (m : AbstractMachine P E) (c : Chain) (h : List (Event P E)) → Meets m c h →
     (k : ℕ) (p : AbstractParty P) (s : QueueStep E) (v : Move P E) → m.party k ≡ Some p → move_of m k s ≡ Some v →
     (c' : Chain) × Meets v.after c' (v.events ++ h) × SaysReversed p.name v.answer h
-
--- what was handed out, followed by what is held, is the order of exchange
-abbrev pub InOrder : (P E : Type 0) → Type 0
-InOrder P E = (h : List (Event P E)) → IsLegalReversed h → went_reversed h ++ held_reversed h ≡ came_reversed h
 
 -- a new machine
 abbrev pub new_abstract : {P E : Type 0} → AbstractMachine P E

@@ -2,13 +2,8 @@
 -- after.
 use Rattle.std.specs.Prelude.{◌≡◌, ◌≢◌, ◌⊎◌, ℕ, ◌+◌, ◌<◌, List, [], ◌∷◌, ◌++◌, length}
 use Rattle.cordyceps_shared.specs.Standings.{name_of}
-use Rattle.cordyceps_queue.specs.History.{Event, Look, Out, Empty}
+use Rattle.cordyceps_queue.specs.History.{outs, Look, Empty}
 use Rattle.cordyceps_queue.specs.Shared.Calls.{PartyOf, Adds, BlockedAfter}
-
--- tries of a party, each of which gave an element
-abbrev pub outs : {P E : Type 0} → P → List E → List (Event P E)
-outs p [] = []
-outs p (e ∷ es) = Look p ∷ Out p e ∷ outs p es
 
 module _ {E : Type 0} where
   -- the tries gave these elements: as many as were asked for, or fewer, and then a try found that nothing was held, or
