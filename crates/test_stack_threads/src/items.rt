@@ -68,6 +68,23 @@ pub fn pops(rt: &impl Abort, stack: Stack<Counted>, wanted: &[u64]) {
     same(rt, left.is_empty(), true);
 }
 
+/// Asserts that a stack pops so many numbers, of which this one is the first and each other one is below the one before,
+/// and that it pops no more.
+pub fn falls(rt: &impl Abort, stack: Stack<Counted>, first: u64, count: u64) {
+    let mut left = stack;
+    for popped in 0..count {
+        same(rt, number(left.pop()), Some(first.wrapping_sub(popped)));
+    }
+    same(rt, left.is_empty(), true);
+}
+
+/// Puts these elements onto others, the first first.
+pub fn put_on(stack: &mut Stack<Counted>, elements: Stack<Counted>) {
+    for node in elements {
+        stack.push(node);
+    }
+}
+
 /// Compares the numbers of these elements, the least first, with those that are wanted, and how often each was taken.
 pub fn taken(
     rt: &impl Abort,

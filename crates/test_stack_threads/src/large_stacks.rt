@@ -1,10 +1,11 @@
 //! Stacks of many rooms: as many as a stack can have, and fewer.
-use crate::items::{dropped, no_drops};
-use crate::seats::new_stack;
-use crate::workers::Worker;
+use crate::compared::same;
+use crate::items::{dropped, element, falls, no_drops};
+use crate::seats::{Seat, new_stack};
 use cordyceps_stack::stack::MAX_ROOMS;
 use std::alloc::Global;
 use std::process::Abort;
+use test_support::counted::Drops;
 
 /// How many rooms the stacks have, and how many elements they hold. Up to 262,144 rooms their order is crosswise, in
 /// blocks of 1,024: of the last number four whole blocks, and not the rooms behind these.
@@ -18,16 +19,28 @@ const ROOMS: [(usize, u64); 4] = [
 /// How many elements a party pushes at most.
 const MOST: u64 = 4_000;
 
+/// Pushes elements into the rooms of a party, at most `MOST`, each by one try, which nobody overtakes. Their numbers rise
+/// from the first. Returns the number after the last. Only before the number 0 nothing is held.
+fn fill(rt: &impl Abort, alloc: Global, seat: &mut Seat<'_>, first: u64, drops: &Drops) -> u64 {
+    let end = first.wrapping_add(MOST.min(seat.rooms() as u64));
+    for number in first..end {
+        seat.pushes(rt, element(rt, alloc, number, drops), number == 0);
+    }
+    end
+}
+
 /// Splits the rooms of a new stack between three parties, each of which pushes, and lets the last one take all.
 fn holds(rt: &impl Abort, alloc: Global, rooms: usize, elements: u64) {
     let drops = no_drops(rt, alloc);
     let (stack, party) = new_stack(rt, alloc, rooms);
-    let mut last = Worker::at(&stack, party);
+    let mut last = Seat::new(&stack, party);
     let (mut first, mut second) = (last.split(rt, rooms / 3), last.split(rt, rooms / 3));
-    let pushed = first.fill(rt, alloc, (0, MOST), &drops);
-    let pushed = second.fill(rt, alloc, (pushed, MOST), &drops);
-    last.fill(rt, alloc, (pushed, MOST), &drops);
-    last.take_down(rt, elements);
+    let pushed = fill(rt, alloc, &mut first, 0, &drops);
+    let pushed = fill(rt, alloc, &mut second, pushed, &drops);
+    fill(rt, alloc, &mut last, pushed, &drops);
+    let before = last.rooms();
+    falls(rt, last.take_all(), elements.wrapping_sub(1), elements);
+    same(rt, last.rooms(), before.wrapping_add(elements as usize));
     dropped(rt, &drops, elements);
 }
 

@@ -1,92 +1,21 @@
 //! Rooms that a party gives back, and that any party takes.
 ghost use Rattle.std.specs.Prelude.{◌≡◌};
 
-use crate::compared::{at_most, made, same};
-use crate::items::{Handle, dropped, no_drops, pops, stock};
-use crate::seats::{new_stack, pushes};
-use cordyceps_stack::stack::{MAX_ROOMS, Party, Stack, TransferStack, TryPushError};
+use crate::compared::{made, same};
+use crate::items::{dropped, falls, no_drops, pops, stock};
+use crate::seats::{Call, Seat, make, new_stack};
+use cordyceps_stack::stack::{MAX_ROOMS, Party, Stack, TransferStack};
 use std::alloc::Global;
 use std::process::Abort;
 use std::thread;
 use std::thread::Threads;
 use test_support::counted::Counted;
 
-/// A call of one of two parties, and what it must return.
-#[derive(Clone, Copy)]
-enum Call<'a> {
-    /// How many rooms the party has.
-    Rooms(usize),
-    /// So many rooms are given back, if no others lie there.
-    GiveBack(usize, bool),
-    /// How many rooms the party takes that were given back.
-    Refill(usize),
-    /// A push by one try, and whether nothing was held before.
-    Push(bool),
-    /// A push by one try that takes the rooms which were given back if the party has none, and whether nothing was held
-    /// before. `None`: there is no room, and the element comes back.
-    RefillAndPush(Option<bool>),
-    /// The numbers of all that is held.
-    Take(&'a [u64]),
-}
-
 /// Which party makes a call.
 #[derive(Clone, Copy)]
 enum By {
     First,
     Second,
-}
-
-/// Pushes an element as `Call::RefillAndPush` says. The stock gets it where there is no room.
-fn refills_and_pushes(
-    rt: &impl Abort,
-    stack: &TransferStack<Counted>,
-    party: &mut Party<Counted>,
-    stock: &mut Stack<Counted>,
-    handle: Handle,
-    wanted: Option<bool>,
-)
-    requires { party.old.table ≡ stack.now }
-    ensures { party.new.table ≡ stack.now }
-{
-    let number = handle.id();
-    match stack.refill_and_try_push(party, handle) {
-        Ok(first) => same(rt, Some(first), wanted),
-        Err(TryPushError::Full(back)) => {
-            same(rt, (back.id(), None), (number, wanted));
-            stock.push(back);
-        }
-        Err(TryPushError::Contended(_)) => panic!(rt; "nobody else pushes or takes"),
-    }
-}
-
-/// Makes a call, and asserts what it returns. It pushes what the stock pops.
-fn make(
-    rt: &impl Abort,
-    stack: &TransferStack<Counted>,
-    party: &mut Party<Counted>,
-    stock: &mut Stack<Counted>,
-    call: Call<'_>,
-)
-    requires { party.old.table ≡ stack.now }
-    ensures { party.new.table ≡ stack.now }
-{
-    match call {
-        Call::Rooms(wanted) => same(rt, party.rooms(), wanted),
-        Call::GiveBack(rooms, wanted) => {
-            at_most(rt, rooms, party.rooms());
-            same(rt, stack.give_back(party, rooms), wanted);
-        }
-        Call::Refill(wanted) => same(rt, stack.refill(party), wanted),
-        Call::Push(first) => match stock.pop() {
-            Some(handle) => pushes(rt, stack, party, handle, first),
-            None => panic!(rt; "the stock has no element left"),
-        },
-        Call::RefillAndPush(wanted) => match stock.pop() {
-            Some(handle) => refills_and_pushes(rt, stack, party, stock, handle, wanted),
-            None => panic!(rt; "the stock has no element left"),
-        },
-        Call::Take(wanted) => pops(rt, stack.take_all(party), wanted),
-    }
 }
 
 /// Two parties of a stack.
@@ -100,7 +29,7 @@ struct Pair<'s> {
 
 impl Pair<'_> {
     /// Makes a call of one of the parties.
-    fn turn(&mut self, rt: &impl Abort, stock: &mut Stack<Counted>, by: By, call: Call<'_>) {
+    fn turn(&mut self, rt: &impl Abort, stock: &mut Stack<Counted>, by: By, call: Call) {
         match by {
             By::First => make(rt, self.stack, &mut self.first, stock, call),
             By::Second => make(rt, self.stack, &mut self.second, stock, call),
@@ -123,7 +52,7 @@ impl Pair<'_> {
 
 /// Makes calls of two parties of a stack, of which the first has all rooms at first, and asserts in the end that no room
 /// is lost.
-fn calls_return(rt: &impl Abort, alloc: Global, rooms: usize, calls: &[(By, Call<'_>)]) {
+fn calls_return(rt: &impl Abort, alloc: Global, rooms: usize, calls: &[(By, Call)]) {
     let drops = no_drops(rt, alloc);
     let mut stock = stock(rt, alloc, (1, 4), &drops);
     let (stack, mut first) = new_stack(rt, alloc, rooms);
@@ -140,7 +69,7 @@ fn calls_return(rt: &impl Abort, alloc: Global, rooms: usize, calls: &[(By, Call
 }
 
 /// Some rooms go to and fro between the parties, and those that are given back find others there.
-const FOUR_ROOMS: [(By, Call<'static>); 21] = [
+const FOUR_ROOMS: [(By, Call); 21] = [
     (By::First, Call::GiveBack(3, true)),
     (By::First, Call::Rooms(1)),
     (By::First, Call::GiveBack(1, false)),
@@ -154,18 +83,18 @@ const FOUR_ROOMS: [(By, Call<'static>); 21] = [
     (By::Second, Call::GiveBack(1, true)),
     (By::First, Call::Refill(1)),
     (By::First, Call::Push(false)),
-    (By::First, Call::Take(&[3, 2, 1])),
+    (By::First, Call::Take(3, 3)),
     (By::First, Call::Rooms(3)),
     (By::First, Call::GiveBack(3, true)),
     (By::Second, Call::Refill(3)),
     (By::Second, Call::Rooms(4)),
     (By::Second, Call::Push(true)),
-    (By::Second, Call::Take(&[4])),
+    (By::Second, Call::Take(4, 1)),
     (By::Second, Call::GiveBack(2, true)),
 ];
 
 /// A push takes the rooms that were given back only if its party has none.
-const REFILLS: [(By, Call<'static>); 17] = [
+const REFILLS: [(By, Call); 17] = [
     (By::Second, Call::RefillAndPush(None)),
     (By::Second, Call::Rooms(0)),
     (By::First, Call::GiveBack(3, true)),
@@ -181,12 +110,12 @@ const REFILLS: [(By, Call<'static>); 17] = [
     (By::First, Call::RefillAndPush(Some(false))),
     (By::First, Call::Rooms(0)),
     (By::First, Call::Refill(0)),
-    (By::Second, Call::Take(&[4, 3, 2, 1])),
+    (By::Second, Call::Take(4, 4)),
     (By::Second, Call::Rooms(4)),
 ];
 
 /// A stack without rooms has none that is given back.
-const NO_ROOM: [(By, Call<'static>); 5] = [
+const NO_ROOM: [(By, Call); 5] = [
     (By::First, Call::GiveBack(0, true)),
     (By::Second, Call::GiveBack(0, true)),
     (By::Second, Call::Refill(0)),
@@ -195,25 +124,25 @@ const NO_ROOM: [(By, Call<'static>); 5] = [
 ];
 
 /// The only room goes to and fro.
-const ONE_ROOM: [(By, Call<'static>); 9] = [
+const ONE_ROOM: [(By, Call); 9] = [
     (By::First, Call::GiveBack(1, true)),
     (By::Second, Call::Refill(1)),
     (By::Second, Call::Push(true)),
-    (By::First, Call::Take(&[1])),
+    (By::First, Call::Take(1, 1)),
     (By::First, Call::GiveBack(1, true)),
     (By::First, Call::Refill(1)),
     (By::First, Call::Push(true)),
-    (By::First, Call::Take(&[2])),
+    (By::First, Call::Take(2, 1)),
     (By::First, Call::GiveBack(1, true)),
 ];
 
 /// As many rooms as a stack can have come back at once.
-const ALL_ROOMS: [(By, Call<'static>); 7] = [
+const ALL_ROOMS: [(By, Call); 7] = [
     (By::First, Call::GiveBack(MAX_ROOMS, true)),
     (By::First, Call::Rooms(0)),
     (By::Second, Call::Refill(MAX_ROOMS)),
     (By::Second, Call::Push(true)),
-    (By::First, Call::Take(&[1])),
+    (By::First, Call::Take(1, 1)),
     (By::First, Call::GiveBack(1, true)),
     (By::Second, Call::GiveBack(1, false)),
 ];
@@ -242,32 +171,28 @@ const TURNS: u64 = 20_000_000;
 /// A thread's party at its stack, and what it has to push, or has taken.
 #[derive(Drop)]
 struct Member<'s> {
-    stack: &'s TransferStack<Counted>,
-    party: Party<Counted>,
+    seat: Seat<'s>,
     elements: Stack<Counted>,
     /// How many elements it has yet to take, if it takes.
     takes: Option<u64>,
-    ghost seated: { party.table ≡ stack.now },
+}
+
+/// Puts these elements onto others. Returns how many are still to come of so many.
+fn keep(elements: &mut Stack<Counted>, taken: Stack<Counted>, left: u64) -> u64 {
+    let mut left = left;
+    for node in taken {
+        elements.push(node);
+        left = left.wrapping_sub(1);
+    }
+    left
 }
 
 impl<'s> Member<'s> {
-    /// Splits off a member without rooms, with these elements.
-    fn split(&mut self, elements: Stack<Counted>, takes: Option<u64>) -> Member<'s> {
-        let Member { stack, party, .. } = self;
-        Member {
-            stack: *stack,
-            party: stack.split(party, 0),
-            elements,
-            takes,
-        }
-    }
-
     /// Tries once to push an element, for which it takes the rooms that were given back if it has none.
     fn push(&mut self) {
         if let Some(handle) = self.elements.pop() {
-            let pushed = self.stack.refill_and_try_push(&mut self.party, handle);
-            if let Err(error) = pushed {
-                self.elements.push(error.into_inner());
+            if let Err(back) = self.seat.refill_and_try_push(handle) {
+                self.elements.push(back);
                 thread::yield_now();
             }
         }
@@ -275,15 +200,10 @@ impl<'s> Member<'s> {
 
     /// Takes all that is held, and gives the rooms back. Returns how many elements are still to come.
     fn take(&mut self, left: u64) -> u64 {
-        let mut left = left;
-        for node in self.stack.take_all(&mut self.party) {
-            self.elements.push(node);
-            left = left.wrapping_sub(1);
-        }
-        let rooms = self.party.rooms();
-        self.stack.give_back(&mut self.party, rooms);
+        let taken = self.seat.take_all();
+        self.seat.give_all_back();
         thread::yield_now();
-        left
+        keep(&mut self.elements, taken, left)
     }
 
     /// Takes turns until it has pushed or taken all.
@@ -310,20 +230,20 @@ impl<'s> Member<'s> {
 fn pass_through<R: Threads + Abort + Sync>(rt: &R, alloc: Global) {
     let drops = no_drops(rt, alloc);
     let (stack, party) = new_stack(rt, alloc, ROOMS);
-    let mut all = Member {
-        stack: &stack,
-        party,
-        elements: Stack::new(),
-        takes: Some(0),
-    };
+    let mut all = Seat::new(&stack, party);
     let mut members = Vec::new(alloc);
     for (first, takes) in [(1, None), (ELEMENTS + 1, None), (0, Some(2 * ELEMENTS))] {
         let count = if takes.is_none() { ELEMENTS } else { 0 };
         let elements = stock(rt, alloc, (first, count), &drops);
-        made(rt, members.push(all.split(elements, takes)));
+        let member = Member {
+            seat: all.split(rt, 0),
+            elements,
+            takes,
+        };
+        made(rt, members.push(member));
     }
-    // (nothing is held yet, so it only gives all rooms back)
-    same(rt, all.take(0), 0);
+    falls(rt, all.take_all(), 0, 0);
+    all.give_all_back();
     let ended = thread::map_vec(rt, members, &|member: Member<'_>| member.run(rt));
     let mut sum: u64 = 0;
     let mut count: u64 = 0;

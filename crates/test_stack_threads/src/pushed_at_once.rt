@@ -3,7 +3,7 @@ ghost use Rattle.std.specs.Prelude.{◌≡◌, ◌≤◌, length};
 
 use crate::compared::{at_most, made, same};
 use crate::items::{batch, dropped, element, no_drops};
-use crate::seats::{new_stack, pushes};
+use crate::seats::{Seat, new_stack, pushes};
 use crate::workers::Meeting;
 use cordyceps_stack::stack::{Party, Stack, TransferStack};
 use std::alloc::Global;
@@ -35,14 +35,13 @@ fn pushes_all<R: Wait + Abort>(
     requires rooms { length batch ≤ party.old.rooms }
     ensures { party.new.table ≡ stack.now }
 {
-    let was_empty = match way {
-        Way::PushAll => stack.push_all(rt, party, batch),
+    match way {
+        Way::PushAll => same(rt, stack.push_all(rt, party, batch), first),
         Way::TryPushAll => match stack.try_push_all(party, batch) {
-            Ok(was_empty) => was_empty,
+            Ok(was_empty) => same(rt, was_empty, first),
             Err(_) => panic!(rt; "nobody else pushes or takes"),
         },
-    };
-    same(rt, was_empty, first);
+    }
 }
 
 /// Takes all that is held, and pushes it again into the rooms that came with it.
@@ -116,70 +115,50 @@ const BATCHES: u64 = 200;
 /// How many threads push.
 const PUSHERS: u64 = 3;
 
+/// From which number on the elements of each thread are, and how many rooms it has. The first one takes.
+const PARTS: [(Option<u64>, usize); 4] = [
+    (None, 0),
+    (Some(0), 1600),
+    (Some(1600), 1600),
+    (Some(3200), 1600),
+];
+
 /// How often the thread that takes looks at most.
 const TURNS: u64 = 20_000_000;
 
 /// A thread's party at its stack, and the numbers that it takes, or from which on those of its elements are.
 #[derive(Drop)]
-struct Seat<'s> {
-    stack: &'s TransferStack<Counted>,
-    party: Party<Counted>,
+struct Member<'s> {
+    seat: Seat<'s>,
     /// `None` if the thread takes.
     first: Option<u64>,
     taken: Vec<u64>,
-    ghost seated: { party.table ≡ stack.now },
 }
 
-impl<'s> Seat<'s> {
-    /// Returns a party of this stack, which has some of the rooms of another.
-    fn beside(
-        rt: &impl Abort,
-        alloc: Global,
-        stack: &'s TransferStack<Counted>,
-        party: &mut Party<Counted>,
-        first: Option<u64>,
-        rooms: u64,
-    ) -> Seat<'s>
-        requires { party.old.table ≡ stack.now }
-        ensures { party.new.table ≡ stack.now }
-    {
-        at_most(rt, rooms as usize, party.rooms());
-        Seat {
-            stack,
-            party: stack.split(party, rooms as usize),
-            first,
-            taken: Vec::new(alloc),
+/// Pushes batches, each at one step, and every other one first by one try.
+fn push_batches<R: Wait + Abort>(
+    rt: &R,
+    alloc: Global,
+    seat: &mut Seat<'_>,
+    first: u64,
+    drops: &Drops,
+) {
+    for number in 0..BATCHES {
+        let first = first.wrapping_add(number.wrapping_mul(BATCH));
+        let batch = batch(rt, alloc, first, BATCH as usize, drops);
+        if number % 2 == 0 {
+            seat.try_and_push_all(rt, BATCH as usize, batch);
+        } else {
+            seat.push_all(rt, BATCH as usize, batch);
         }
     }
+}
 
-    /// Pushes batches, each at one step, and every other one first by one try.
-    fn push<R: Wait + Abort>(&mut self, rt: &R, alloc: Global, first: u64, drops: &Drops) {
-        for number in 0..BATCHES {
-            let first = first.wrapping_add(number.wrapping_mul(BATCH));
-            let batch = batch(rt, alloc, first, BATCH as usize, drops);
-            at_most(rt, BATCH as usize, self.party.rooms());
-            self.push_batch(rt, batch, number % 2 == 0);
-        }
-    }
-
-    /// Pushes a batch at one step, for which there are rooms, first by one try if that is asked for.
-    fn push_batch<R: Wait>(&mut self, rt: &R, batch: Stack<Counted>, tries: bool)
-        requires { length batch ≤ self.old.party.rooms }
-    {
-        let mut left = batch;
-        if tries {
-            match self.stack.try_push_all(&mut self.party, left) {
-                Ok(_) => return,
-                Err(back) => left = back,
-            }
-        }
-        self.stack.push_all(rt, &mut self.party, left);
-    }
-
+impl<'s> Member<'s> {
     /// Takes all that is held, and asserts that each batch is whole and in order.
     fn take(&mut self, rt: &impl Abort) {
         let mut next = 0;
-        for node in self.stack.take_all(&mut self.party) {
+        for node in self.seat.take_all() {
             let number = node.id();
             if next % BATCH == 0 {
                 next = number;
@@ -199,9 +178,9 @@ impl<'s> Seat<'s> {
         alloc: Global,
         meeting: &Meeting,
         drops: &Drops,
-    ) -> Seat<'s> {
+    ) -> Member<'s> {
         if let Some(first) = self.first {
-            self.push(rt, alloc, first, drops);
+            push_batches(rt, alloc, &mut self.seat, first, drops);
             meeting.end();
             return self;
         }
@@ -220,26 +199,26 @@ impl<'s> Seat<'s> {
 fn batches_stay_together<R: Threads + Wait + Abort + Sync>(rt: &R, alloc: Global) {
     let drops = no_drops(rt, alloc);
     let all = PUSHERS * BATCHES * BATCH;
-    let (stack, mut party) = new_stack(rt, alloc, all as usize);
+    let (stack, party) = new_stack(rt, alloc, all as usize);
+    let mut whole = Seat::new(&stack, party);
     let meeting = Meeting::new(PUSHERS, 0);
-    let mut seats = Vec::new(alloc);
-    made(
-        rt,
-        seats.push(Seat::beside(rt, alloc, &stack, &mut party, None, 0)),
-    );
-    for pusher in 0..PUSHERS {
-        let first = pusher * BATCHES * BATCH;
-        let seat = Seat::beside(rt, alloc, &stack, &mut party, Some(first), BATCHES * BATCH);
-        made(rt, seats.push(seat));
+    let mut members = Vec::new(alloc);
+    for (first, rooms) in PARTS {
+        let member = Member {
+            seat: whole.split(rt, rooms),
+            first,
+            taken: Vec::new(alloc),
+        };
+        made(rt, members.push(member));
     }
     let ended = thread::map_vec(
         rt,
-        seats,
-        &|seat: Seat<'_>| seat.run(rt, alloc, &meeting, &drops),
+        members,
+        &|member: Member<'_>| member.run(rt, alloc, &meeting, &drops),
     );
     let mut taken = Vec::new(alloc);
-    for seat in made(rt, ended) {
-        for number in seat.taken {
+    for member in made(rt, ended) {
+        for number in member.taken {
             made(rt, taken.push(number));
         }
     }

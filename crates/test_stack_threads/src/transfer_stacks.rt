@@ -2,8 +2,7 @@
 
 use crate::compared::same;
 use crate::items::{dropped, element, no_drops, pops, stock};
-use crate::seats::{Call, new_stack, pushes};
-use crate::workers::Worker;
+use crate::seats::{Call, Seat, new_stack, pushes};
 use cordyceps_stack::stack::{Stack, TransferStack};
 use std::alloc::{AllocError, Global};
 use std::process::Abort;
@@ -15,52 +14,52 @@ fn calls_return(
     rt: &impl Abort,
     alloc: Global,
     rooms: usize,
-    (given, others): (usize, &[Call<'_>]),
-    calls: &[Call<'_>],
+    (given, others): (usize, &[Call]),
+    calls: &[Call],
     drops: u64,
 ) {
     let count = no_drops(rt, alloc);
     let mut stock = stock(rt, alloc, (1, 3), &count);
     let (stack, party) = new_stack(rt, alloc, rooms);
-    let mut seat = Worker::at(&stack, party);
+    let mut seat = Seat::new(&stack, party);
     seat.split(rt, given).calls(rt, &mut stock, others);
     seat.calls(rt, &mut stock, calls);
     dropped(rt, &count, drops);
 }
 
 /// A party sees whether something is held, before and after each push and each take.
-const IS_EMPTY: [Call<'static>; 7] = [
+const IS_EMPTY: [Call; 7] = [
     Call::IsEmpty(true),
     Call::Push(true),
     Call::IsEmpty(false),
     Call::Push(false),
     Call::IsEmpty(false),
-    Call::Take(&[2, 1]),
+    Call::Take(2, 2),
     Call::IsEmpty(true),
 ];
 
 /// Rooms come back with what is taken.
-const ONE_PARTY: [Call<'static>; 9] = [
+const ONE_PARTY: [Call; 9] = [
     Call::Rooms(3),
     Call::Push(true),
     Call::Push(false),
     Call::Rooms(1),
-    Call::Take(&[2, 1]),
+    Call::Take(2, 2),
     Call::Rooms(3),
-    Call::Take(&[]),
+    Call::Take(0, 0),
     Call::Push(true),
-    Call::Take(&[3]),
+    Call::Take(3, 1),
 ];
 
 /// What a party does that is dropped, with two of four rooms.
-const DROPPED: [Call<'static>; 2] = [Call::Push(true), Call::Rooms(1)];
+const DROPPED: [Call; 2] = [Call::Push(true), Call::Rooms(1)];
 
 /// The other finds the element of the party that was dropped, and gets its room.
-const LEFT: [Call<'static>; 7] = [
+const LEFT: [Call; 7] = [
     Call::IsEmpty(false),
     Call::Push(false),
     Call::Rooms(1),
-    Call::Take(&[2, 1]),
+    Call::Take(2, 2),
     Call::Rooms(3),
     Call::IsEmpty(true),
     Call::Push(true),
@@ -121,5 +120,5 @@ fn makes_a_stack_after_refused_memory(rt: HostRuntime) {
         Err(AllocError) => new_stack(&rt, rt.alloc(), 2),
     };
     let calls = [Call::Rooms(2), Call::IsEmpty(true)];
-    Worker::at(&stack, party).calls(&rt, &mut Stack::new(), &calls);
+    Seat::new(&stack, party).calls(&rt, &mut Stack::new(), &calls);
 }

@@ -1,7 +1,7 @@
 //! Threads that push to a transfer stack, and take all that it holds.
 use crate::compared::same;
 use crate::items::{dropped, no_drops, pops, taken};
-use crate::seats::{Call, new_stack};
+use crate::seats::{Call, Seat, new_stack};
 use crate::workers::{Meeting, Part, Task, Way, Worker};
 use cordyceps_stack::stack::Stack;
 use std::alloc::Global;
@@ -26,7 +26,7 @@ const FOUR: [u64; 4] = [10, 11, 20, 21];
 fn push_each_way<R: Threads + Wait + Abort + Sync>(rt: &R, alloc: Global) {
     let drops = no_drops(rt, alloc);
     let (stack, party) = new_stack(rt, alloc, 5);
-    let mut all = Worker::at(&stack, party);
+    let mut all = Worker::new(Seat::new(&stack, party), Task::Watch, Stack::new());
     // each with how many pushes have told that nothing was held before
     let parts = [
         ((Task::Push(Way::PushWasEmpty, 1), 1, 1), 1),
@@ -35,7 +35,7 @@ fn push_each_way<R: Threads + Wait + Abort + Sync>(rt: &R, alloc: Global) {
     ];
     for (part, first) in parts {
         all.start(rt, alloc, &[part], &Meeting::new(1, 0), &drops);
-        same(rt, all.first, first);
+        same(rt, all.told.first, first);
     }
     same(rt, all.rooms, 5);
     pops(rt, all.left, &[4, 5, 2, 3, 1]);
@@ -64,9 +64,10 @@ impl Plan<'_> {
         let drops = no_drops(rt, alloc);
         let (stack, party) = new_stack(rt, alloc, 4);
         let meeting = Meeting::new(self.parts.len() as u64, self.takings);
-        let mut all = Worker::at(&stack, party);
+        let mut all = Worker::new(Seat::new(&stack, party), Task::Watch, Stack::new());
         all.start(rt, alloc, self.parts, &meeting, &drops);
-        all.calls(rt, &mut Stack::new(), &[Call::IsEmpty(true)]);
+        all.seat
+            .calls(rt, &mut Stack::new(), &[Call::IsEmpty(true)]);
         all.is_counted(rt);
         same(rt, all.rooms, 4);
         same(rt, meeting.missed.load(Ordering::SeqCst), self.missed);

@@ -1,11 +1,9 @@
 //! Parties at their stack, and threads that act through them: what each does, turn by turn, and how they are started
 //! and watched.
-ghost use Rattle.std.specs.Prelude.{◌≡◌};
-
-use crate::compared::{at_most, made, same};
-use crate::items::{Handle, element, pops, stock};
-use crate::seats::{Call, has_room, pushes};
-use cordyceps_stack::stack::{Party, Stack, TransferStack};
+use crate::compared::{made, same};
+use crate::items::{Handle, put_on, stock};
+use crate::seats::Seat;
+use cordyceps_stack::stack::Stack;
 use std::alloc::Global;
 use std::process::Abort;
 use std::sync::Wait;
@@ -13,7 +11,6 @@ use std::sync::atomic::{AtomicU64, Ordering};
 use std::thread;
 use std::thread::Threads;
 use test_support::counted::{Counted, Drops};
-use test_support::nodes::number;
 
 /// How many turns a thread has at most.
 const TURNS: u64 = 20_000_000;
@@ -89,138 +86,89 @@ impl Meeting {
     }
 }
 
+/// What calls have told.
+#[derive(Clone, Copy)]
+pub struct Told {
+    /// How many pushes told that nothing was held before.
+    pub first: u64,
+    /// How many pushes told nothing.
+    untold: u64,
+    /// How often something was taken.
+    takes: u64,
+}
+
+impl Told {
+    /// Counts what a push told.
+    fn push(&mut self, first: bool) {
+        if first {
+            self.first = self.first.wrapping_add(1);
+        }
+    }
+
+    /// Counts a take of this.
+    fn take(&mut self, taken: &Stack<Counted>) {
+        if !taken.is_empty() {
+            self.takes = self.takes.wrapping_add(1);
+        }
+    }
+
+    /// Adds what others have counted.
+    fn add(&mut self, other: Told) {
+        self.first = self.first.wrapping_add(other.first);
+        self.untold = self.untold.wrapping_add(other.untold);
+        self.takes = self.takes.wrapping_add(other.takes);
+    }
+}
+
 /// A party at its stack, and the thread that acts through it.
 #[derive(Drop)]
 pub struct Worker<'s> {
-    stack: &'s TransferStack<Counted>,
-    party: Party<Counted>,
-    /// A party that makes no call until the thread has ended.
-    spare: Party<Counted>,
+    pub seat: Seat<'s>,
     task: Task,
     /// What it has to push, or has taken often enough.
     pub left: Stack<Counted>,
     /// How often it has pushed by a call that may wait.
     pushed: u64,
-    /// How many of its pushes told that nothing was held before.
-    pub first: u64,
-    /// How many of its pushes told nothing.
-    untold: u64,
-    /// How often it took something.
-    takes: u64,
+    pub told: Told,
     /// How many rooms the parties had whose threads have ended.
     pub rooms: usize,
-    ghost seated: { (party.table ≡ stack.now) × (spare.table ≡ stack.now) },
 }
 
 impl<'s> Worker<'s> {
-    /// Returns a party of this stack, which has nothing to push.
-    pub fn at(stack: &'s TransferStack<Counted>, mut party: Party<Counted>) -> Worker<'s>
-        requires { party.table ≡ stack.now }
-    {
-        let spare = stack.split(&mut party, 0);
-        Worker {
-            stack,
-            party,
-            spare,
-            task: Task::Watch,
-            left: Stack::new(),
-            pushed: 0,
+    /// Returns a party that has this to do with these elements.
+    pub fn new(seat: Seat<'s>, task: Task, left: Stack<Counted>) -> Worker<'s> {
+        let told = Told {
             first: 0,
             untold: 0,
             takes: 0,
+        };
+        Worker {
+            seat,
+            task,
+            left,
+            pushed: 0,
+            told,
             rooms: 0,
-        }
-    }
-
-    /// Gives some of the rooms, which must be there, to a new party.
-    pub fn split(&mut self, rt: &impl Abort, rooms: usize) -> Worker<'s> {
-        at_most(rt, rooms, self.party.rooms());
-        let party = self.stack.split(&mut self.party, rooms);
-        Worker::at(self.stack, party)
-    }
-
-    /// Pushes elements into the rooms of its party, at most this many, each by one try, which nobody overtakes. Their
-    /// numbers rise from the first. Returns the number after the last. Only before the number 0 nothing is held.
-    pub fn fill(
-        &mut self,
-        rt: &impl Abort,
-        alloc: Global,
-        (first, most): (u64, u64),
-        drops: &Drops,
-    ) -> u64 {
-        let end = first.wrapping_add(most.min(self.party.rooms() as u64));
-        for number in first..end {
-            let handle = element(rt, alloc, number, drops);
-            pushes(rt, self.stack, &mut self.party, handle, number == 0);
-        }
-        end
-    }
-
-    /// Takes all that is held at once: this many elements, whose numbers fall to 0, and whose rooms its party gets.
-    pub fn take_down(&mut self, rt: &impl Abort, count: u64) {
-        let rooms = self.party.rooms();
-        let mut held = self.stack.take_all(&mut self.party);
-        for wanted in (0..count).rev() {
-            same(rt, number(held.pop()), Some(wanted));
-        }
-        same(rt, held.is_empty(), true);
-        same(rt, self.party.rooms(), rooms.wrapping_add(count as usize));
-    }
-
-    /// Makes these calls, one after the other, and asserts what they return. They push what the stock pops.
-    pub fn calls(&mut self, rt: &impl Abort, stock: &mut Stack<Counted>, calls: &[Call<'_>]) {
-        for call in calls {
-            match *call {
-                Call::Rooms(wanted) => same(rt, self.party.rooms(), wanted),
-                Call::IsEmpty(wanted) => {
-                    same(rt, self.stack.is_empty(&mut self.party), wanted);
-                }
-                Call::Push(first) => match stock.pop() {
-                    Some(handle) => pushes(rt, self.stack, &mut self.party, handle, first),
-                    None => panic!(rt; "the stock has no element left"),
-                },
-                Call::Take(wanted) => pops(rt, self.stack.take_all(&mut self.party), wanted),
-            }
-        }
-    }
-
-    /// Counts what a push told.
-    fn told(&mut self, first: bool) {
-        if first {
-            self.first = self.first.wrapping_add(1);
         }
     }
 
     /// Pushes an element by a call that may wait.
     fn push<R: Wait + Abort>(&mut self, rt: &R, way: Way, node: Handle) {
         self.pushed = self.pushed.wrapping_add(1);
-        has_room(rt, self.party.rooms());
         match way {
             Way::Push => {
-                self.stack.push(rt, &mut self.party, node);
-                self.untold = self.untold.wrapping_add(1);
+                self.seat.push(rt, node);
+                self.told.untold = self.told.untold.wrapping_add(1);
             }
-            Way::PushWasEmpty => {
-                let first = self.stack.push_was_empty(rt, &mut self.party, node);
-                self.told(first);
-            }
+            Way::PushWasEmpty => self.told.push(self.seat.push_was_empty(rt, node)),
         }
     }
 
     /// Takes all that is held.
     fn take_held(&mut self) -> Stack<Counted> {
-        let held = self.stack.take_all(&mut self.party);
-        if !held.is_empty() {
-            self.takes = self.takes.wrapping_add(1);
-        }
+        let held = self.seat.take_all();
+        self.told.take(&held);
         held
-    }
-
-    /// Takes all that is held, to push it again.
-    fn take(&mut self) {
-        for node in self.take_held() {
-            self.left.push(node);
-        }
     }
 
     /// Takes all that is held, and pushes it again into the rooms that came with it, or keeps what was taken often
@@ -240,9 +188,8 @@ impl<'s> Worker<'s> {
 
     /// Pushes an element by one try. Where that missed, it pushes by a call that may wait, or keeps it.
     fn try_push<R: Wait + Abort>(&mut self, rt: &R, node: Handle, meeting: &Meeting) {
-        has_room(rt, self.party.rooms());
-        let back = match self.stack.try_push(&mut self.party, node) {
-            Ok(first) => return self.told(first),
+        let back = match self.seat.try_push(rt, node) {
+            Ok(first) => return self.told.push(first),
             Err(back) => back,
         };
         let Task::Miss(way) = self.task else {
@@ -263,7 +210,8 @@ impl<'s> Worker<'s> {
             return;
         }
         let Some(node) = self.left.pop() else {
-            self.take();
+            let held = self.take_held();
+            put_on(&mut self.left, held);
             return;
         };
         match self.task {
@@ -314,28 +262,17 @@ impl<'s> Worker<'s> {
     /// held.
     fn add(&mut self, ended: Worker<'s>) {
         let Worker {
-            stack,
-            party,
-            mut spare,
+            seat,
             left,
-            first,
-            untold,
-            takes,
+            told,
             ..
         } = ended;
-        stack.absorb(&mut spare, party);
-        let held = stack.take_all(&mut spare);
-        let taken = if held.is_empty() { 0 } else { 1 };
-        self.first = self.first.wrapping_add(first);
-        self.untold = self.untold.wrapping_add(untold);
-        self.takes = self.takes.wrapping_add(takes).wrapping_add(taken);
-        self.rooms = self.rooms.wrapping_add(spare.rooms());
-        for node in held {
-            self.left.push(node);
-        }
-        for node in left {
-            self.left.push(node);
-        }
+        let (held, rooms) = seat.end();
+        self.told.add(told);
+        self.told.take(&held);
+        self.rooms = self.rooms.wrapping_add(rooms);
+        put_on(&mut self.left, held);
+        put_on(&mut self.left, left);
     }
 
     /// Starts a thread for each part, with rooms of this one's, and one that watches them, and takes in what they have
@@ -350,12 +287,12 @@ impl<'s> Worker<'s> {
     ) {
         let mut workers = Vec::new(alloc);
         for (task, first, count) in parts {
-            let mut worker = self.split(rt, *count as usize);
-            worker.task = *task;
-            worker.left = stock(rt, alloc, (*first, *count), drops);
-            made(rt, workers.push(worker));
+            let seat = self.seat.split(rt, *count as usize);
+            let elements = stock(rt, alloc, (*first, *count), drops);
+            made(rt, workers.push(Worker::new(seat, *task, elements)));
         }
-        made(rt, workers.push(self.split(rt, 0)));
+        let watch = Worker::new(self.seat.split(rt, 0), Task::Watch, Stack::new());
+        made(rt, workers.push(watch));
         let ended = thread::map_vec(rt, workers, &|worker: Worker<'_>| worker.run(rt, meeting));
         for worker in made(rt, ended) {
             self.add(worker);
@@ -364,7 +301,15 @@ impl<'s> Worker<'s> {
 
     /// Asserts that each take of something follows one push that found nothing held.
     pub fn is_counted(&self, rt: &impl Abort) {
-        same(rt, self.first <= self.takes, true);
-        same(rt, self.takes <= self.first.wrapping_add(self.untold), true);
+        let Told {
+            first,
+            untold,
+            takes,
+        } = self.told;
+        same(
+            rt,
+            (first <= takes, takes <= first.wrapping_add(untold)),
+            (true, true),
+        );
     }
 }
