@@ -1,6 +1,6 @@
 //! Calls of the parties at a queue, and what they reply.
 use crate::compared::same;
-use crate::items::{Handle, append, element, number, numbers};
+use crate::items::{Handle, append, element, number, numbers, sum};
 use crate::seats::{Claim, Seat};
 use cordyceps_queue::mpsc_queue::TryDequeueError;
 use std::alloc::Global;
@@ -122,7 +122,7 @@ fn stays(rt: &impl Abort, count: &AtomicU64, wanted: u64) {
 
 /// Enqueues elements from a number on, and how many.
 fn put_many(rt: &impl Abort, stage: &Stage, seat: &mut Seat<'_>, (first, count): (u64, u64)) {
-    for number in first..first.wrapping_add(count) {
+    for number in first..sum(first, count) {
         seat.put(rt, element(rt, stage.alloc, number, &stage.drops));
     }
 }

@@ -1,13 +1,13 @@
 //! Crowds at a queue: many that enqueue elements, and one or more that dequeue them.
 use crate::compared::{made, same};
-use crate::items::{append, elements};
+use crate::items::{append, elements, nothing};
 use crate::seats::{Claim, Seat, queue_of, shared};
 use crate::tasks::{Task, run_all};
 use crate::workers::{Crowd, Meeting, Producer, Taker, Way};
 use std::alloc::Global;
 use std::process::Abort;
 use std::sync::Wait;
-use std::sync::atomic::{AtomicU64, Ordering};
+use std::sync::atomic::Ordering;
 use std::thread::Threads;
 use test_support::counted::Drops;
 
@@ -19,13 +19,13 @@ impl Crowd {
     fn meeting(self, rt: &impl Abort, alloc: Global) -> Meeting {
         let mut times = Vec::new(alloc);
         for _ in 0..self.all() {
-            append(rt, &mut times, AtomicU64::new(0));
+            append(rt, &mut times, nothing());
         }
         Meeting {
             crowd: self,
             times,
-            out: AtomicU64::new(0),
-            ended: AtomicU64::new(0),
+            out: nothing(),
+            ended: nothing(),
         }
     }
 
@@ -67,7 +67,7 @@ impl Crowd {
         let (mut seat, mut other) = seats;
         let mut tasks = Vec::new(alloc);
         for index in 0..self.producers {
-            let first = index.wrapping_mul(self.each);
+            let first = self.first_of(index);
             let producer = self.producer(rt, alloc, &mut seat, first, drops);
             append(rt, &mut tasks, Task::Put(producer));
         }

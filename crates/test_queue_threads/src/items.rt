@@ -4,17 +4,30 @@ use cordyceps_base::node::Node;
 use cordyceps_queue::mpsc_queue::{Batch, Links};
 use std::alloc::Global;
 use std::process::Abort;
+use std::sync::atomic::AtomicU64;
 use test_support::counted::{Counted, Drops, counted_node};
 
 /// What a queue takes and returns.
 pub type Handle = Node<Counted, Links<Counted>>;
 
+/// Returns the sum of two counts. No clause says so, which keeps the proofs of those that count short.
+pub fn sum(count: u64, more: u64) -> u64 {
+    count.wrapping_add(more)
+}
+
+/// Returns a count of nothing.
+pub fn nothing() -> AtomicU64 {
+    AtomicU64::new(0)
+}
+
+/// Returns the value of an element of this number: ten times as much.
+fn value_of(number: u64) -> u64 {
+    number.wrapping_mul(10)
+}
+
 /// Returns an element of this number, with ten times as much as its value.
 pub fn element(rt: &impl Abort, alloc: Global, number: u64, drops: &Drops) -> Handle {
-    made(
-        rt,
-        counted_node(alloc, number, number.wrapping_mul(10), drops),
-    )
+    made(rt, counted_node(alloc, number, value_of(number), drops))
 }
 
 /// Returns this many elements, with this number and the next ones.
@@ -27,18 +40,14 @@ pub fn elements(
 ) -> Vec<Handle> {
     let mut all = Vec::new(alloc);
     for index in 0..count {
-        append(
-            rt,
-            &mut all,
-            element(rt, alloc, first.wrapping_add(index), drops),
-        );
+        append(rt, &mut all, element(rt, alloc, sum(first, index), drops));
     }
     all
 }
 
 /// Returns the number of an element that was made so. Its value has to be ten times as much.
 pub fn number(rt: &impl Abort, node: &Handle) -> u64 {
-    same(rt, node.get().value, node.id().wrapping_mul(10));
+    same(rt, node.get().value, value_of(node.id()));
     node.id()
 }
 
@@ -69,7 +78,7 @@ pub fn numbers(rt: &impl Abort, elements: Batch<Counted>) -> (u64, usize) {
         if taken == 0 {
             first = node.id();
         }
-        same(rt, number(rt, &node), first.wrapping_add(taken as u64));
+        same(rt, number(rt, &node), sum(first, taken as u64));
     }
     has_left(rt, &left, 0);
     same(

@@ -1,7 +1,7 @@
 //! Rooms that come back by the pool: calls one after the other, and two threads that enqueue beside one that dequeues.
 use crate::calls::{Call, Line, Reply};
 use crate::compared::{made, same};
-use crate::items::{Handle, append, elements, number};
+use crate::items::{Handle, append, elements, nothing, number, sum};
 use crate::scenes::alone;
 use crate::seats::{Claim, Seat, queue_of, shared};
 use crate::tasks::{Task, run_all};
@@ -156,10 +156,10 @@ impl Drainer<'_> {
         let number = number(rt, node);
         if number < EACH {
             same(rt, number, self.next.0);
-            self.next.0 = self.next.0.wrapping_add(1);
+            self.next.0 = sum(self.next.0, 1);
         } else {
             same(rt, number, self.next.1);
-            self.next.1 = self.next.1.wrapping_add(1);
+            self.next.1 = sum(self.next.1, 1);
         }
     }
 
@@ -185,7 +185,7 @@ impl Drainer<'_> {
 /// Lets the threads meet at a new queue, whose rooms are in its pool, and asserts that none is lost.
 fn meet<R: Threads + Wait + Abort + Sync>(rt: &R, alloc: Global) {
     let drops = made(rt, Drops::new(alloc));
-    let left = AtomicU64::new(0);
+    let left = nothing();
     let (queue, party) = queue_of(rt, alloc, None, ROOMS);
     let queue = shared(rt, alloc, queue);
     let mut seat = Seat::new(&queue, party);
@@ -207,11 +207,7 @@ fn meet<R: Threads + Wait + Abort + Sync>(rt: &R, alloc: Global) {
     append(rt, &mut tasks, Task::Drain(drainer));
     run_all(rt, tasks);
     let found = seat.refill(rt) as u64;
-    same(
-        rt,
-        found.wrapping_add(left.load(Ordering::SeqCst)),
-        ROOMS as u64,
-    );
+    same(rt, sum(found, left.load(Ordering::SeqCst)), ROOMS as u64);
     same(rt, drops.count(), 2 * EACH);
 }
 

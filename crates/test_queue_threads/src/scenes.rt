@@ -1,13 +1,12 @@
 //! What the parties of a queue do, alone and on threads.
 use crate::calls::{Actor, Line, Stage};
 use crate::compared::{made, same};
-use crate::items::{append, element};
+use crate::items::{append, element, nothing, sum};
 use crate::seats::{Seat, queue_of, shared};
 use crate::tasks::{Task, run_all};
 use std::alloc::Global;
 use std::process::Abort;
 use std::sync::Wait;
-use std::sync::atomic::AtomicU64;
 use std::thread::Threads;
 use test_support::counted::Drops;
 
@@ -43,14 +42,14 @@ impl Scene<'_> {
         let stage = Stage {
             alloc,
             drops: made(rt, Drops::new(alloc)),
-            told: AtomicU64::new(0),
+            told: nothing(),
         };
         let stub = element(rt, alloc, STUB, &stage.drops);
         let (queue, party) = queue_of(rt, alloc, Some(stub), self.rooms);
         let queue = shared(rt, alloc, queue);
         self.act(rt, &stage, Seat::new(&queue, party));
         drop(queue);
-        same(rt, stage.drops.count(), self.elements.wrapping_add(1));
+        same(rt, stage.drops.count(), sum(self.elements, 1));
     }
 
     /// Makes the calls, those of parts on threads of their own.

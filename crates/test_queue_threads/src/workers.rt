@@ -2,7 +2,7 @@
 ghost use Rattle.std.specs.Prelude.{◌≤◌};
 
 use crate::compared::same;
-use crate::items::{Handle, append, number};
+use crate::items::{Handle, append, number, sum};
 use crate::seats::{Claim, Seat};
 use cordyceps_queue::mpsc_queue::TryDequeueError;
 use std::process::Abort;
@@ -172,16 +172,21 @@ impl Crowd {
         self.producers.wrapping_mul(self.each)
     }
 
+    /// Returns the first number of a producer.
+    pub fn first_of(self, producer: u64) -> u64 {
+        producer.wrapping_mul(self.each)
+    }
+
     /// Asserts that each producer's numbers among these rise.
     fn in_order(self, rt: &impl Abort, numbers: &[u64]) {
         for producer in 0..self.producers {
-            let first = producer.wrapping_mul(self.each);
-            let end = first.wrapping_add(self.each);
+            let first = self.first_of(producer);
+            let end = sum(first, self.each);
             let mut least = first;
             for number in numbers {
                 if first <= *number && *number < end {
                     same(rt, least <= *number, true);
-                    least = number.wrapping_add(1);
+                    least = sum(*number, 1);
                 }
             }
         }
