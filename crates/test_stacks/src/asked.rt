@@ -5,6 +5,7 @@ ghost use Rattle.std.proofs.Common.{subst, sym};
 ghost use Rattle.test_stacks.specs.ByNumber.{by_number_lawful};
 ghost use Rattle.cordyceps_single.specs.Preorder.{IsPreorder};
 
+use crate::blocks::sum;
 use crate::compared::{made, same};
 use cordyceps_base::linked::Linked;
 use cordyceps_base::node::Node;
@@ -29,6 +30,16 @@ struct Counts {
     order: Cell<u64>,
 }
 
+/// Returns an order of drops with one more number behind the others.
+fn followed(order: u64, number: u64) -> u64 {
+    order.wrapping_mul(100).wrapping_add(number)
+}
+
+/// Returns a count of nothing.
+fn nothing() -> Cell<u64> {
+    Cell::new(0)
+}
+
 /// A number whose comparisons and whose drop are counted.
 struct Asked {
     value: u64,
@@ -38,9 +49,8 @@ struct Asked {
 impl Drop for Asked {
     fn drop(self) {
         let Asked { value, counts } = self;
-        counts.dropped.set(counts.dropped.get().wrapping_add(1));
-        let order = counts.order.get().wrapping_mul(100);
-        counts.order.set(order.wrapping_add(value));
+        counts.dropped.set(sum(counts.dropped.get(), 1));
+        counts.order.set(followed(counts.order.get(), value));
     }
 }
 
@@ -75,7 +85,7 @@ impl Order<Asked> for ByNumber {
 
     fn compare(&self, first: &Asked, second: &Asked) -> Ordering {
         let compared = &first.counts.compared;
-        compared.set(compared.get().wrapping_add(1));
+        compared.set(sum(compared.get(), 1));
         first.value.cmp(&second.value)
     }
 }
@@ -94,9 +104,9 @@ fn node(
 /// Returns new counts, of nothing.
 fn no_counts(rt: &impl Abort, alloc: Global) -> Rc<Counts, Global> {
     let counts = Counts {
-        compared: Cell::new(0),
-        dropped: Cell::new(0),
-        order: Cell::new(0),
+        compared: nothing(),
+        dropped: nothing(),
+        order: nothing(),
     };
     made(rt, Rc::new(alloc, counts))
 }

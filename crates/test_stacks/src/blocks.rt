@@ -12,6 +12,11 @@ use test_support::nodes::number;
 /// What a free list returns, and takes back.
 pub type Handle = Node<Counted, Links<Counted>>;
 
+/// Returns the sum of two numbers. No clause says so, which keeps the proofs of its callers short.
+pub fn sum(number: u64, more: u64) -> u64 {
+    number.wrapping_add(more)
+}
+
 /// Returns a count of no drops.
 pub fn no_drops(rt: &impl Abort, alloc: Global) -> Drops {
     made(rt, Drops::new(alloc))
@@ -25,7 +30,7 @@ pub fn block(alloc: Global, number: u64, drops: &Drops) -> Result<Handle, AllocE
 /// Returns two blocks, of this number and the next.
 pub fn pair(rt: &impl Abort, alloc: Global, first: u64, drops: &Drops) -> (Handle, Handle) {
     let one = made(rt, block(alloc, first, drops));
-    let two = made(rt, block(alloc, first.wrapping_add(1), drops));
+    let two = made(rt, block(alloc, sum(first, 1), drops));
     (one, two)
 }
 

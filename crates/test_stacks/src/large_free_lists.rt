@@ -27,10 +27,9 @@ fn gets_down(rt: &impl Abort, mut local: Local<'_, Counted>, count: u64) {
 fn shares(rt: &impl Abort, alloc: Global, rooms: usize, blocks: u64) {
     at_most(rt, rooms, MAX_ROOMS);
     let drops = no_drops(rt, alloc);
-    let (list, mut party) = made(rt, FreeList::new(alloc, rooms));
-    let mut first = Remote::at(&list, list.split(&mut party, rooms / 3));
-    let mut second = Remote::at(&list, list.split(&mut party, rooms / 3));
+    let (list, party) = made(rt, FreeList::new(alloc, rooms));
     let mut last = Remote::at(&list, party);
+    let (mut first, mut second) = (last.split(rt, rooms / 3), last.split(rt, rooms / 3));
     let put = first.fill(rt, alloc, (0, MOST), &drops);
     let put = second.fill(rt, alloc, (put, MOST), &drops);
     last.fill(rt, alloc, (put, MOST), &drops);

@@ -1,4 +1,5 @@
 //! Stacks: the order in which they pop what they hold, and drops.
+use crate::blocks::sum;
 use crate::compared::{made, same};
 use crate::number::{Number, make};
 use cordyceps_stack::stack::Stack;
@@ -38,13 +39,13 @@ fn unsync(rt: HostRuntime) {
     let mut taken = stack.take_all();
     for value in [3u64, 2, 1] {
         same(&rt, number(taken.next()), Some(value));
-        stack.push(make(&rt, rt.alloc(), value.wrapping_add(10)));
+        stack.push(make(&rt, rt.alloc(), sum(value, 10)));
     }
     same(&rt, number(taken.next()), None);
     let mut wanted = 11u64;
     for entry in stack.take_all() {
         same(&rt, entry.id(), wanted);
-        wanted = wanted.wrapping_add(1);
+        wanted = sum(wanted, 1);
     }
     same(&rt, (wanted, stack.is_empty()), (14, true));
 }

@@ -1,10 +1,11 @@
 //! Threads that put blocks back, while their owner gets them.
-ghost use Rattle.std.specs.Prelude.{◌≡◌};
+ghost use Rattle.std.specs.Prelude.{⊤};
 
 use crate::blocks::{blocks, dropped, each_once, no_drops};
 use crate::compared::made;
 use crate::users::{Remote, get_all};
-use freelist::{FreeList, Local, Party, Stack};
+use freelist::{FreeList, Local, Stack};
+use std::alloc::Global;
 use std::process::Abort;
 use std::thread;
 use std::thread::Threads;
@@ -13,35 +14,59 @@ use test_support::counted::Counted;
 /// How often each test's threads run.
 const ROUNDS: u64 = 10;
 
-/// Puts the blocks back by two threads, while a third gets this many.
-fn put_and_get<R: Threads + Abort + Sync>(
-    rt: &R,
-    local: Local<'_, Counted>,
-    remotes: (Remote<'_>, Remote<'_>),
-    halves: (Stack<Counted>, Stack<Counted>),
-    wanted: usize,
-) -> Stack<Counted> {
-    let (first, second) = remotes;
-    let (low, high) = halves;
-    let put_low = move || first.put_all(rt, low);
-    let put_high = move || second.put_all(rt, high);
-    let put = move || thread::join(rt, put_low, put_high);
-    let get = move || get_all(rt, local, wanted);
-    thread::join(rt, put, get).1
+/// What a thread does.
+#[derive(Drop)]
+enum Task<'f> {
+    /// It puts these blocks back.
+    Put(Remote<'f>, Stack<Counted>),
+    /// It gets this many blocks.
+    Get(Local<'f, Counted>, usize),
 }
 
-/// Returns what the owner gets back, where two others have the 64 rooms and put a half back each.
+/// Does what a thread is to do, and returns the blocks that it has got.
+fn run_task(rt: &impl Abort, task: Task<'_>) -> Stack<Counted> {
+    match task {
+        Task::Put(remote, blocks) => {
+            remote.put_all(rt, blocks);
+            Stack::new()
+        }
+        Task::Get(local, wanted) => get_all(rt, local, wanted),
+    }
+}
+
+/// Runs each task on a thread of its own, and returns what the last one got. The clauses say nothing of what a task does,
+/// which keeps its proof short.
+fn run_all<R: Threads + Abort + Sync>(
+    rt: &R,
+    alloc: Global,
+    tasks: [Task<'_>; 3],
+) -> Stack<Counted> {
+    let tasks = made(rt, Vec::from_array(alloc, tasks));
+    let ran = thread::map_vec(
+        rt,
+        tasks,
+        &|task: Task<'_>| -> Stack<Counted>
+            requires { ⊤ }
+            ensures { ⊤ }
+        { run_task(rt, task) },
+    );
+    match made(rt, ran).pop() {
+        Some(all) => all,
+        None => panic!(rt; "three tasks ran"),
+    }
+}
+
+/// Returns what the owner gets back, where two others have 32 rooms each and put 32 blocks back each.
 fn come_back<R: Threads + Abort + Sync>(
     rt: &R,
-    list: &FreeList<Counted>,
-    mut party: Party<Counted>,
+    alloc: Global,
+    mut owner: Remote<'_>,
     halves: (Stack<Counted>, Stack<Counted>),
-) -> Stack<Counted>
-    requires { (party.table ≡ list.now) × (party.rooms ≡ 64) }
-{
-    let first = Remote::at(list, list.split(&mut party, 32));
-    let second = Remote::at(list, list.split(&mut party, 32));
-    put_and_get(rt, list.local(party), (first, second), halves, 64)
+) -> Stack<Counted> {
+    let (low, high) = halves;
+    let first = Task::Put(owner.split(rt, 32), low);
+    let second = Task::Put(owner.split(rt, 32), high);
+    run_all(rt, alloc, [first, second, Task::Get(owner.local(), 64)])
 }
 
 #[test]
@@ -51,7 +76,8 @@ fn what_threads_put_back_comes_once(rt: HostRuntime) {
         let low = blocks(&rt, rt.alloc(), 0, 32, &drops);
         let high = blocks(&rt, rt.alloc(), 32, 64, &drops);
         let (list, party) = made(&rt, FreeList::new(rt.alloc(), 64));
-        let all = come_back(&rt, &list, party, (low, high));
+        let owner = Remote::at(&list, party);
+        let all = come_back(&rt, rt.alloc(), owner, (low, high));
         dropped(&rt, &drops, 0);
         each_once(&rt, rt.alloc(), all, 64);
         dropped(&rt, &drops, 64);

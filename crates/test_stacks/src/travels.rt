@@ -1,7 +1,9 @@
 //! Stacks and sorted lists that go to other threads, and that threads share.
 //!
 //! A generic function says for every type of value what can be sent and shared: it is refused where that is not so.
-use crate::compared::same;
+ghost use Rattle.std.specs.Prelude.{⊤};
+
+use crate::compared::{made, same};
 use crate::number::{Number, make};
 use cordyceps_stack::sorted_list::{Least, SortedList, SortedListIter};
 use cordyceps_stack::stack::Stack;
@@ -60,14 +62,22 @@ fn threads_read_one_sorted_list_and_pop_from_a_stack_that_was_sent(rt: HostRunti
     }
     let (stack, mut list) = travel(stack, list);
     let read = are_shared(&stack, &list);
-    let (first, (second, mut stack)) = thread::join(
+    let stacks = made(&rt, Vec::from_array(rt.alloc(), [Stack::new(), stack]));
+    let ran = thread::map_vec(
         &rt,
-        || sum(read),
-        || (sum(read), popped(stack)),
+        stacks,
+        &|stack: Stack<Number>| -> (u64, Stack<Number>)
+            requires { ⊤ }
+            ensures { ⊤ }
+        { (sum(read), popped(stack)) },
     );
-    same(&rt, (first, second), (321, 321));
+    let mut left = Stack::new();
+    for (sum, stack) in made(&rt, ran) {
+        same(&rt, sum, 321);
+        left = stack;
+    }
     same(&rt, number(list.pop_front()), Some(1));
-    for left in [Some(1), Some(300), None] {
-        same(&rt, number(stack.pop()), left);
+    for wanted in [Some(1), Some(300), None] {
+        same(&rt, number(left.pop()), wanted);
     }
 }

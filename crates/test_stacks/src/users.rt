@@ -1,7 +1,7 @@
 //! Users of a free list: parties that put blocks back for all, and owners of a local part.
 ghost use Rattle.std.specs.Prelude.{◌≡◌, ◌<◌, length};
 
-use crate::blocks::{Handle, block};
+use crate::blocks::{Handle, block, sum};
 use crate::compared::{at_most, made, same};
 use freelist::{FreeList, Local, Party, Stack, TryPushError};
 use std::alloc::Global;
@@ -33,45 +33,21 @@ pub fn puts(
     }
 }
 
-/// Puts a block back by one try that takes the rooms of the pool if the party has none, and compares whether nothing was
-/// shared before with what is wanted. `None`: there is no room, and the block comes back and is dropped.
-pub fn refills_and_puts(
+/// Compares how many rooms two parties have with what is wanted. It says nothing of them, which keeps the proofs of its
+/// callers short.
+pub fn have_rooms(
     rt: &impl Abort,
-    list: &FreeList<Counted>,
-    party: &mut Party<Counted>,
-    handle: Handle,
-    wanted: Option<bool>,
-)
-    requires { party.old.table ≡ list.now }
-    ensures { party.new.table ≡ list.now }
-{
-    let number = handle.id();
-    match list.refill_and_put_remote(party, handle) {
-        Ok(first) => same(rt, Some(first), wanted),
-        Err(TryPushError::Full(back)) => same(rt, (back.id(), None), (number, wanted)),
-        Err(TryPushError::Contended(_)) => panic!(rt; "nobody else puts a block back or takes"),
-    }
+    parties: (&Party<Counted>, &Party<Counted>),
+    wanted: (usize, usize),
+) {
+    same(rt, (parties.0.rooms(), parties.1.rooms()), wanted);
 }
 
-/// Puts so many blocks back by one try, which nobody overtakes, and compares whether nothing was shared before with what
-/// is wanted.
-pub fn puts_all(
-    rt: &impl Abort,
-    list: &FreeList<Counted>,
-    party: &mut Party<Counted>,
-    count: usize,
-    blocks: Stack<Counted>,
-    first: bool,
-)
-    requires table { party.old.table ≡ list.now }
-    requires count { length blocks ≡ count }
-    ensures { party.new.table ≡ list.now }
-{
-    at_most(rt, count, party.rooms());
-    match list.put_remote_all(party, blocks) {
-        Ok(was_empty) => same(rt, was_empty, first),
-        Err(_) => panic!(rt; "nobody else puts a block back or takes"),
-    }
+/// Puts two blocks into a local part.
+pub fn puts_own(local: &mut Local<'_, Counted>, own: (Handle, Handle)) {
+    let (one, two) = own;
+    local.put(one);
+    local.put(two);
 }
 
 /// Asserts the numbers of the blocks that are got one after the other.
@@ -128,13 +104,67 @@ impl<'f> Remote<'f> {
         puts(rt, self.list, &mut self.party, handle, first);
     }
 
+    /// Puts a block back by one try that takes the rooms of the pool if the party has none, and compares whether nothing
+    /// was shared before with what is wanted. `None`: there is no room, and the block comes back and is dropped.
+    pub fn refills_and_puts(&mut self, rt: &impl Abort, handle: Handle, wanted: Option<bool>) {
+        let number = handle.id();
+        match self.list.refill_and_put_remote(&mut self.party, handle) {
+            Ok(first) => same(rt, Some(first), wanted),
+            Err(TryPushError::Full(back)) => same(rt, (back.id(), None), (number, wanted)),
+            Err(TryPushError::Contended(_)) => panic!(rt; "nobody else puts a block back or takes"),
+        }
+    }
+
+    /// Puts so many blocks back by one try, which nobody overtakes, and compares whether nothing was shared before with
+    /// what is wanted.
+    pub fn puts_all(&mut self, rt: &impl Abort, count: usize, blocks: Stack<Counted>, first: bool)
+        requires { length blocks ≡ count }
+    {
+        at_most(rt, count, self.party.rooms());
+        match self.list.put_remote_all(&mut self.party, blocks) {
+            Ok(was_empty) => same(rt, was_empty, first),
+            Err(_) => panic!(rt; "nobody else puts a block back or takes"),
+        }
+    }
+
+    /// Gives some of the rooms, which must be there, to a new party.
+    pub fn split(&mut self, rt: &impl Abort, rooms: usize) -> Remote<'f> {
+        at_most(rt, rooms, self.party.rooms());
+        let party = self.list.split(&mut self.party, rooms);
+        Remote::at(self.list, party)
+    }
+
+    /// Returns how many rooms the party has.
+    pub fn rooms(&self) -> usize {
+        self.party.rooms()
+    }
+
+    /// Takes the rooms of the pool, and returns how many they are.
+    pub fn refill(&mut self) -> usize {
+        self.list.refill(&mut self.party)
+    }
+
+    /// Gives some of the rooms, which must be there, to the pool, and returns whether it has taken them.
+    pub fn give_back(&mut self, rt: &impl Abort, rooms: usize) -> bool {
+        at_most(rt, rooms, self.party.rooms());
+        self.list.give_back(&mut self.party, rooms)
+    }
+
+    /// Puts a block back into a room that must be there, by one try.
+    fn try_put(&mut self, rt: &impl Abort, block: Handle) -> Result<(), Handle> {
+        has_room(rt, self.party.rooms());
+        match self.list.put_remote(&mut self.party, block) {
+            Ok(_) => Ok(()),
+            Err(back) => Err(back),
+        }
+    }
+
     /// Puts a block back into a room that must be there, try after try.
     fn put(&mut self, rt: &impl Abort, handle: Handle) {
         let mut block = handle;
         for _ in 0..TURNS {
-            has_room(rt, self.party.rooms());
-            match self.list.put_remote(&mut self.party, block) {
-                Ok(_) => return,
+            match self.try_put(rt, block) {
+                Ok(()) => return,
                 Err(back) => block = back,
             }
             thread::yield_now();
@@ -151,7 +181,7 @@ impl<'f> Remote<'f> {
         (first, most): (u64, u64),
         drops: &Drops,
     ) -> u64 {
-        let end = first.wrapping_add(most.min(self.party.rooms() as u64));
+        let end = sum(first, most.min(self.rooms() as u64));
         for number in first..end {
             self.puts(rt, made(rt, block(alloc, number, drops)), number == 0);
         }
