@@ -12,6 +12,11 @@ use test_support::nodes::number;
 /// What a stack takes and returns. Its value says how often it was taken.
 pub type Handle = Node<Counted, Links<Counted>>;
 
+/// Returns the sum of two counts. No clause says so, which keeps the proofs of those that count short.
+pub fn sum(count: u64, more: u64) -> u64 {
+    count.wrapping_add(more)
+}
+
 /// Returns a count of no drops.
 pub fn no_drops(rt: &impl Abort, alloc: Global) -> Drops {
     made(rt, Drops::new(alloc))
@@ -30,7 +35,7 @@ pub fn stock(
     drops: &Drops,
 ) -> Stack<Counted> {
     let mut stock = Stack::new();
-    for number in (first..first.wrapping_add(count)).rev() {
+    for number in (first..sum(first, count)).rev() {
         stock.push(element(rt, alloc, number, drops));
     }
     stock
@@ -48,7 +53,7 @@ pub fn batch(
 {
     let mut batch = Stack::new();
     for pushed in 0..count {
-        let number = first.wrapping_add((count - 1 - pushed) as u64);
+        let number = sum(first, (count - 1 - pushed) as u64);
         batch.push(element(rt, alloc, number, drops));
     }
     batch

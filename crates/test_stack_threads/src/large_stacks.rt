@@ -1,6 +1,6 @@
 //! Stacks of many rooms: as many as a stack can have, and fewer.
 use crate::compared::same;
-use crate::items::{dropped, element, falls, no_drops};
+use crate::items::{dropped, element, falls, no_drops, sum};
 use crate::seats::{Seat, new_stack};
 use cordyceps_stack::stack::MAX_ROOMS;
 use std::alloc::Global;
@@ -22,7 +22,7 @@ const MOST: u64 = 4_000;
 /// Pushes elements into the rooms of a party, at most `MOST`, each by one try, which nobody overtakes. Their numbers rise
 /// from the first. Returns the number after the last. Only before the number 0 nothing is held.
 fn fill(rt: &impl Abort, alloc: Global, seat: &mut Seat<'_>, first: u64, drops: &Drops) -> u64 {
-    let end = first.wrapping_add(MOST.min(seat.rooms() as u64));
+    let end = sum(first, MOST.min(seat.rooms() as u64));
     for number in first..end {
         seat.pushes(rt, element(rt, alloc, number, drops), number == 0);
     }
@@ -38,9 +38,9 @@ fn holds(rt: &impl Abort, alloc: Global, rooms: usize, elements: u64) {
     let pushed = fill(rt, alloc, &mut first, 0, &drops);
     let pushed = fill(rt, alloc, &mut second, pushed, &drops);
     fill(rt, alloc, &mut last, pushed, &drops);
-    let before = last.rooms();
+    let before = last.rooms() as u64;
     falls(rt, last.take_all(), elements.wrapping_sub(1), elements);
-    same(rt, last.rooms(), before.wrapping_add(elements as usize));
+    same(rt, last.rooms() as u64, sum(before, elements));
     dropped(rt, &drops, elements);
 }
 

@@ -2,7 +2,7 @@
 ghost use Rattle.std.specs.Prelude.{◌≡◌};
 
 use crate::compared::{made, same};
-use crate::items::{dropped, falls, no_drops, pops, stock};
+use crate::items::{dropped, falls, no_drops, pops, stock, sum};
 use crate::seats::{Call, Seat, make, new_stack};
 use cordyceps_stack::stack::{MAX_ROOMS, Party, Stack, TransferStack};
 use std::alloc::Global;
@@ -245,17 +245,17 @@ fn pass_through<R: Threads + Abort + Sync>(rt: &R, alloc: Global) {
     falls(rt, all.take_all(), 0, 0);
     all.give_all_back();
     let ended = thread::map_vec(rt, members, &|member: Member<'_>| member.run(rt));
-    let mut sum: u64 = 0;
     let mut count: u64 = 0;
+    let mut numbers: u64 = 0;
     for member in made(rt, ended) {
         for node in member.elements {
-            sum = sum.wrapping_add(node.id());
-            count = count.wrapping_add(1);
+            count = sum(count, 1);
+            numbers = sum(numbers, node.id());
         }
     }
     same(
         rt,
-        (count, sum),
+        (count, numbers),
         (2 * ELEMENTS, ELEMENTS * (2 * ELEMENTS + 1)),
     );
     dropped(rt, &drops, 2 * ELEMENTS);

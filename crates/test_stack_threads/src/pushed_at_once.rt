@@ -2,7 +2,7 @@
 ghost use Rattle.std.specs.Prelude.{◌≡◌, ◌≤◌, length};
 
 use crate::compared::{at_most, made, same};
-use crate::items::{batch, dropped, element, no_drops};
+use crate::items::{batch, dropped, element, no_drops, sum};
 use crate::seats::{Seat, new_stack, pushes};
 use crate::workers::Meeting;
 use cordyceps_stack::stack::{Party, Stack, TransferStack};
@@ -21,6 +21,25 @@ enum Way {
     TryPushAll,
 }
 
+/// Pushes all elements of a batch by one try, which nobody overtakes, and compares whether nothing was held before with
+/// what is wanted.
+fn tries_all(
+    rt: &impl Abort,
+    stack: &TransferStack<Counted>,
+    party: &mut Party<Counted>,
+    batch: Stack<Counted>,
+    first: bool,
+)
+    requires table { party.old.table ≡ stack.now }
+    requires rooms { length batch ≤ party.old.rooms }
+    ensures { party.new.table ≡ stack.now }
+{
+    match stack.try_push_all(party, batch) {
+        Ok(was_empty) => same(rt, was_empty, first),
+        Err(_) => panic!(rt; "nobody else pushes or takes"),
+    }
+}
+
 /// Pushes all elements of a batch, which nobody overtakes, and compares whether nothing was held before with what is
 /// wanted.
 fn pushes_all<R: Wait + Abort>(
@@ -37,10 +56,7 @@ fn pushes_all<R: Wait + Abort>(
 {
     match way {
         Way::PushAll => same(rt, stack.push_all(rt, party, batch), first),
-        Way::TryPushAll => match stack.try_push_all(party, batch) {
-            Ok(was_empty) => same(rt, was_empty, first),
-            Err(_) => panic!(rt; "nobody else pushes or takes"),
-        },
+        Way::TryPushAll => tries_all(rt, stack, party, batch, first),
     }
 }
 
@@ -73,8 +89,8 @@ fn come_in_order<R: Wait + Abort>(rt: &R, alloc: Global, way: Way, row: Row) {
     let above = batch(rt, alloc, below, count, &drops);
     at_most(rt, count, party.rooms());
     pushes_all(rt, &stack, &mut party, way, above, below == 0);
-    let end = below.wrapping_add(count as u64);
-    same(rt, (party.rooms() as u64).wrapping_add(end), rooms as u64);
+    let end = sum(below, count as u64);
+    same(rt, sum(party.rooms() as u64, end), rooms as u64);
     turns_over(rt, &stack, &mut party, way);
     let mut held = stack.take_all(&mut party);
     for wanted in below..end {
@@ -144,7 +160,7 @@ fn push_batches<R: Wait + Abort>(
     drops: &Drops,
 ) {
     for number in 0..BATCHES {
-        let first = first.wrapping_add(number.wrapping_mul(BATCH));
+        let first = sum(first, number.wrapping_mul(BATCH));
         let batch = batch(rt, alloc, first, BATCH as usize, drops);
         if number % 2 == 0 {
             seat.try_and_push_all(rt, BATCH as usize, batch);
@@ -165,7 +181,7 @@ impl<'s> Member<'s> {
                 same(rt, number % BATCH, 0);
             }
             same(rt, number, next);
-            next = next.wrapping_add(1);
+            next = sum(next, 1);
             made(rt, self.taken.push(number));
         }
         same(rt, next % BATCH, 0);

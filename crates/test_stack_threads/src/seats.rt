@@ -43,6 +43,16 @@ pub fn pushes(
     }
 }
 
+/// Compares how many rooms two parties have with what is wanted. It says nothing of them, which keeps the proofs of its
+/// callers short.
+pub fn have_rooms(
+    rt: &impl Abort,
+    parties: (&Party<Counted>, &Party<Counted>),
+    wanted: (usize, usize),
+) {
+    same(rt, (parties.0.rooms(), parties.1.rooms()), wanted);
+}
+
 /// Returns a stack of 3 rooms that holds the elements 1, 2 and 3, and its whole party.
 pub fn three_held(
     rt: &impl Abort,
@@ -249,14 +259,14 @@ impl<'s> Seat<'s> {
 
     /// Lets the spare party absorb the other, and take what is held. Returns that, and how many rooms the party has
     /// then.
-    pub fn end(self) -> (Stack<Counted>, usize) {
+    pub fn end(self) -> (Stack<Counted>, u64) {
         let Seat {
             stack,
             party,
             mut spare,
         } = self;
         stack.absorb(&mut spare, party);
-        (stack.take_all(&mut spare), spare.rooms())
+        (stack.take_all(&mut spare), spare.rooms() as u64)
     }
 }
 

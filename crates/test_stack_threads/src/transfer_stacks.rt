@@ -1,9 +1,10 @@
 //! Calls of a transfer stack, one after the other.
+ghost use Rattle.std.specs.Prelude.{◌≡◌};
 
 use crate::compared::same;
 use crate::items::{dropped, element, no_drops, pops, stock};
-use crate::seats::{Call, Seat, new_stack, pushes};
-use cordyceps_stack::stack::{Stack, TransferStack};
+use crate::seats::{Call, Seat, have_rooms, new_stack, pushes};
+use cordyceps_stack::stack::{Party, Stack, TransferStack};
 use std::alloc::{AllocError, Global};
 use std::process::Abort;
 use test_support::counted::Counted;
@@ -77,14 +78,14 @@ fn rooms_are_split_and_absorbed(rt: HostRuntime) {
     let drops = no_drops(&rt, rt.alloc());
     let (stack, mut party) = new_stack(&rt, rt.alloc(), 5);
     let mut other = stack.split(&mut party, 2);
-    same(&rt, (party.rooms(), other.rooms()), (3, 2));
+    have_rooms(&rt, (&party, &other), (3, 2));
     let one = element(&rt, rt.alloc(), 1, &drops);
     pushes(&rt, &stack, &mut other, one, true);
     let two = element(&rt, rt.alloc(), 2, &drops);
     pushes(&rt, &stack, &mut party, two, false);
-    same(&rt, (party.rooms(), other.rooms()), (2, 1));
+    have_rooms(&rt, (&party, &other), (2, 1));
     stack.absorb(&mut party, other);
-    same(&rt, party.rooms(), 3);
+    have_rooms(&rt, (&party, &party), (3, 3));
     pops(&rt, stack.close(party), &[2, 1]);
 }
 
@@ -98,16 +99,24 @@ fn calls_that_may_wait_return_alone(rt: HostRuntime) {
     pops(&rt, stack.take_all(&mut party), &[2, 1]);
 }
 
+/// Asserts that a party takes nothing, and finds that nothing is held.
+fn holds_nothing(rt: &impl Abort, stack: &TransferStack<Counted>, party: &mut Party<Counted>)
+    requires { party.old.table ≡ stack.now }
+    ensures { (party.new.table ≡ party.old.table) × (party.new.share ≡ party.old.share) }
+{
+    pops(rt, stack.take_all(party), &[]);
+    same(rt, stack.is_empty(party), true);
+}
+
 #[test]
 fn a_stack_without_rooms_returns_nothing(rt: HostRuntime) {
     let (stack, mut party) = new_stack(&rt, rt.alloc(), 0);
     let mut other = stack.split(&mut party, 0);
-    same(&rt, (party.rooms(), other.rooms()), (0, 0));
-    pops(&rt, stack.take_all(&mut other), &[]);
+    have_rooms(&rt, (&party, &other), (0, 0));
+    holds_nothing(&rt, &stack, &mut other);
     stack.absorb(&mut party, other);
-    pops(&rt, stack.take_all(&mut party), &[]);
-    let is_empty = stack.is_empty(&mut party);
-    same(&rt, (is_empty, party.rooms()), (true, 0));
+    holds_nothing(&rt, &stack, &mut party);
+    have_rooms(&rt, (&party, &party), (0, 0));
     pops(&rt, stack.close(party), &[]);
 }
 

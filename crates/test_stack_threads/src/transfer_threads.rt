@@ -22,18 +22,19 @@ const PUSHES: u64 = 10_000;
 /// The numbers of the elements that threads push.
 const FOUR: [u64; 4] = [10, 11, 20, 21];
 
+/// What a thread does, and how many pushes have told by then that nothing was held before.
+const EACH_WAY: [(Part, u64); 3] = [
+    ((Task::Push(Way::PushWasEmpty, 1), 1, 1), 1),
+    ((Task::Push(Way::Push, 2), 2, 2), 1),
+    ((Task::Push(Way::PushWasEmpty, 2), 4, 2), 2),
+];
+
 /// Pushes elements by each call that may wait, from threads of their own, and takes them when each thread has ended.
 fn push_each_way<R: Threads + Wait + Abort + Sync>(rt: &R, alloc: Global) {
     let drops = no_drops(rt, alloc);
     let (stack, party) = new_stack(rt, alloc, 5);
     let mut all = Worker::new(Seat::new(&stack, party), Task::Watch, Stack::new());
-    // each with how many pushes have told that nothing was held before
-    let parts = [
-        ((Task::Push(Way::PushWasEmpty, 1), 1, 1), 1),
-        ((Task::Push(Way::Push, 2), 2, 2), 1),
-        ((Task::Push(Way::PushWasEmpty, 2), 4, 2), 2),
-    ];
-    for (part, first) in parts {
+    for (part, first) in EACH_WAY {
         all.start(rt, alloc, &[part], &Meeting::new(1, 0), &drops);
         same(rt, all.told.first, first);
     }

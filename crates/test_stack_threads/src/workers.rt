@@ -1,7 +1,7 @@
 //! Parties at their stack, and threads that act through them: what each does, turn by turn, and how they are started
 //! and watched.
 use crate::compared::{made, same};
-use crate::items::{Handle, put_on, stock};
+use crate::items::{Handle, put_on, stock, sum};
 use crate::seats::Seat;
 use cordyceps_stack::stack::Stack;
 use std::alloc::Global;
@@ -62,10 +62,10 @@ impl Meeting {
         Meeting {
             threads,
             takings,
-            here: AtomicU64::new(0),
-            missed: AtomicU64::new(0),
-            arrived: AtomicU64::new(0),
-            ended: AtomicU64::new(0),
+            here: nothing(),
+            missed: nothing(),
+            arrived: nothing(),
+            ended: nothing(),
         }
     }
 
@@ -97,26 +97,31 @@ pub struct Told {
     takes: u64,
 }
 
+/// Returns a count of nothing.
+fn nothing() -> AtomicU64 {
+    AtomicU64::new(0)
+}
+
 impl Told {
     /// Counts what a push told.
     fn push(&mut self, first: bool) {
         if first {
-            self.first = self.first.wrapping_add(1);
+            self.first = sum(self.first, 1);
         }
     }
 
     /// Counts a take of this.
     fn take(&mut self, taken: &Stack<Counted>) {
         if !taken.is_empty() {
-            self.takes = self.takes.wrapping_add(1);
+            self.takes = sum(self.takes, 1);
         }
     }
 
     /// Adds what others have counted.
     fn add(&mut self, other: Told) {
-        self.first = self.first.wrapping_add(other.first);
-        self.untold = self.untold.wrapping_add(other.untold);
-        self.takes = self.takes.wrapping_add(other.takes);
+        self.first = sum(self.first, other.first);
+        self.untold = sum(self.untold, other.untold);
+        self.takes = sum(self.takes, other.takes);
     }
 }
 
@@ -131,7 +136,7 @@ pub struct Worker<'s> {
     pushed: u64,
     pub told: Told,
     /// How many rooms the parties had whose threads have ended.
-    pub rooms: usize,
+    pub rooms: u64,
 }
 
 impl<'s> Worker<'s> {
@@ -154,11 +159,11 @@ impl<'s> Worker<'s> {
 
     /// Pushes an element by a call that may wait.
     fn push<R: Wait + Abort>(&mut self, rt: &R, way: Way, node: Handle) {
-        self.pushed = self.pushed.wrapping_add(1);
+        self.pushed = sum(self.pushed, 1);
         match way {
             Way::Push => {
                 self.seat.push(rt, node);
-                self.told.untold = self.told.untold.wrapping_add(1);
+                self.told.untold = sum(self.told.untold, 1);
             }
             Way::PushWasEmpty => self.told.push(self.seat.push_was_empty(rt, node)),
         }
@@ -175,7 +180,7 @@ impl<'s> Worker<'s> {
     /// enough.
     fn push_on<R: Wait + Abort>(&mut self, rt: &R, meeting: &Meeting) {
         for mut node in self.take_held() {
-            let taken = node.get().value.wrapping_add(1);
+            let taken = sum(node.get().value, 1);
             node.get_mut().value = taken;
             if taken < meeting.takings {
                 self.push(rt, Way::Push, node);
@@ -270,7 +275,7 @@ impl<'s> Worker<'s> {
         let (held, rooms) = seat.end();
         self.told.add(told);
         self.told.take(&held);
-        self.rooms = self.rooms.wrapping_add(rooms);
+        self.rooms = sum(self.rooms, rooms);
         put_on(&mut self.left, held);
         put_on(&mut self.left, left);
     }
