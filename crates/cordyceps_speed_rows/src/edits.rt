@@ -4,7 +4,7 @@ ghost use Rattle.std.specs.Prelude.{◌≡◌, ◌+◌, ◌<◌, ◌≤◌, [], 
 use crate::ends::{pop_all_front, push_all_back};
 use crate::nodes::ListNode;
 use crate::stopwatch::Stopwatch;
-use crate::table::Round;
+use crate::table::{Round, added};
 use crate::vectors::keep;
 use cordyceps_commands::Item;
 use cordyceps_list::cursor_mut::CursorMut;
@@ -70,7 +70,7 @@ pub fn splice(rt: &impl Clock, list: &mut List<Item>, seen: &mut u64) -> Round {
     let mut stopwatch = Stopwatch::start(rt);
     let sum = splice_and_look(&mut cursor, SPLICES);
     let time = stopwatch.look(rt);
-    *seen = seen.wrapping_add(sum);
+    *seen = added(*seen, sum);
     (SPLICES, time)
 }
 

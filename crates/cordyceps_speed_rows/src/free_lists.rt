@@ -6,7 +6,7 @@ use crate::fault::Fault;
 use crate::nodes::{make_nodes, sum_numbers};
 use crate::stacks::{StackNode, pop_all};
 use crate::stopwatch::Stopwatch;
-use crate::table::{Bench, Entry, Round, Table};
+use crate::table::{Bench, Entry, Round, Table, added};
 use crate::vectors::keep;
 use cordyceps_commands::Item;
 use cordyceps_single::stack::Stack;
@@ -218,5 +218,5 @@ pub fn show_free_lists<R: Clock + Print>(
     let own = show_own(rt, alloc, table, local)?;
     let others = Shared::new(alloc, shared)?;
     let others = table.measure(rt, others, shared, &SHARED)?;
-    Ok(own.wrapping_add(others))
+    Ok(added(own, others))
 }

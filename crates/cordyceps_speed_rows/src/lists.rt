@@ -6,7 +6,7 @@ use crate::ends::{pass_mixed, pass_through, pop_all_front, push_all_back, turn};
 use crate::fault::Fault;
 use crate::nodes::{ListNode, make_nodes, shuffle, sum_numbers};
 use crate::splits::{Part, append, split};
-use crate::table::{Bench, Entry, Round, Table};
+use crate::table::{Bench, Entry, Round, Table, added};
 use crate::vectors::with_room;
 use crate::walks::{change, look, walk};
 use cordyceps_commands::Item;
@@ -232,7 +232,7 @@ pub fn show_lists<R: Clock + Print>(
     let mut sum: u64 = 0;
     for (is_scattered, kinds) in GROUPS {
         let lists = Lists::new(alloc, elements, is_scattered)?;
-        sum = sum.wrapping_add(table.measure(rt, lists, elements, kinds)?);
+        sum = added(sum, table.measure(rt, lists, elements, kinds)?);
     }
     Ok(sum)
 }

@@ -5,7 +5,7 @@ ghost use Rattle.cordyceps_shared.specs.Shares.{whole};
 use crate::fault::Fault;
 use crate::nodes::{make_nodes, sum_numbers};
 use crate::stopwatch::Stopwatch;
-use crate::table::{Bench, Entry, Round, Table};
+use crate::table::{Bench, Entry, Round, Table, added};
 use crate::vectors::{keep, with_room};
 use cordyceps_base::mpsc_queue::Links;
 use cordyceps_base::node::Node;
@@ -310,7 +310,7 @@ pub fn show_queues<R: Clock + Print>(
     let mut sum: u64 = 0;
     for kinds in GROUPS {
         let queues = Queues::new(alloc, elements)?;
-        sum = sum.wrapping_add(table.measure(rt, queues, elements, kinds)?);
+        sum = added(sum, table.measure(rt, queues, elements, kinds)?);
     }
     Ok(sum)
 }

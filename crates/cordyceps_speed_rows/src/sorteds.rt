@@ -22,12 +22,17 @@ pub enum Values {
     Random,
 }
 
+/// Returns by how much a number is greater than another, modulo 2 to the 64.
+fn beyond(number: u64, other: u64) -> u64 {
+    number.wrapping_sub(other)
+}
+
 impl Values {
     /// The value of the element with a number, of so many.
     pub fn of(self, count: usize, id: u64) -> u64 {
         match self {
             Values::Ascending => id,
-            Values::Descending => (count as u64).wrapping_sub(id),
+            Values::Descending => beyond(count as u64, id),
             Values::Random => mix(id),
         }
     }

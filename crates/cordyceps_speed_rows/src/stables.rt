@@ -159,6 +159,13 @@ struct Stables {
     order: Vec<usize>,
 }
 
+/// Takes all elements out of a list, one after another.
+fn pop_all_front(list: &mut StableList<Item>, nodes: &mut Vec<ListNode>) {
+    while let Some(node) = list.pop_front() {
+        keep(nodes, node);
+    }
+}
+
 /// Measures pushes of all elements, which then come out again.
 fn measure_pushes(rt: &impl Clock, nodes: &mut Vec<ListNode>) -> Duration {
     let mut list: StableList<Item> = StableList::new();
@@ -167,9 +174,7 @@ fn measure_pushes(rt: &impl Clock, nodes: &mut Vec<ListNode>) -> Duration {
         list.push_back(node);
     }
     let time = stopwatch.look(rt);
-    while let Some(node) = list.pop_front() {
-        keep(nodes, node);
-    }
+    pop_all_front(&mut list, nodes);
     time
 }
 

@@ -1,7 +1,8 @@
 //! The table that is printed: a row for each kind of call, which is measured in rounds.
 
-use crate::cost::Cost;
+use crate::cost::{Cost, Tenths};
 use crate::fault::Fault;
+use std::fmt;
 use std::time::{Clock, Duration};
 
 /// What is shown of each kind of call.
@@ -13,6 +14,24 @@ pub enum Shown {
     Times,
 }
 
+/// The figures in a row.
+#[derive(Clone, Copy)]
+enum Figures {
+    /// How many calls were measured.
+    Count(u64),
+    /// How long one takes, on the mean and in the quickest round.
+    Times(Tenths, Tenths),
+}
+
+impl fmt::Display for Figures {
+    fn fmt<W: fmt::Write>(&self, f: &mut fmt::Formatter<W>) -> fmt::Result {
+        match self {
+            Figures::Count(count) => write!(f, "{count:>10}"),
+            Figures::Times(mean, least) => write!(f, " {mean} {least}"),
+        }
+    }
+}
+
 /// One kind of call: its name, what it costs, and what is counted as one.
 pub type Row<'a> = (&'a str, Cost, &'a str);
 
@@ -21,6 +40,11 @@ pub type Entry<C> = (&'static str, C, &'static str);
 
 /// What a round measured: how many calls, and how long they took.
 pub type Round = (usize, Duration);
+
+/// Returns the sum of two numbers, modulo 2 to the 64. No clause says so, which keeps the proofs of its callers short.
+pub fn added(sum: u64, more: u64) -> u64 {
+    sum.wrapping_add(more)
+}
 
 /// Elements and the collections that they go into, at which kinds of call are measured.
 pub trait Bench<C>: Drop {
@@ -78,16 +102,14 @@ impl Table {
         if !cost.is_timed() {
             return Err(Fault::Clock);
         }
-        let count = cost.operations;
-        let (mean, least) = (cost.mean(), cost.quickest());
-        let written = match self.shown {
-            Shown::Counts => println!(rt; "{name:<36}{elements:>8}{count:>10}  {what}"),
-            Shown::Times => println!(rt; "{name:<36}{elements:>8} {mean} {least}  {what}"),
+        let figures = match self.shown {
+            Shown::Counts => Figures::Count(cost.operations),
+            Shown::Times => Figures::Times(cost.mean(), cost.quickest()),
         };
-        if written.is_err() {
-            return Err(Fault::Write);
+        match println!(rt; "{name:<36}{elements:>8}{figures}  {what}") {
+            Ok(()) => Ok(()),
+            Err(_) => Err(Fault::Write),
         }
-        Ok(())
     }
 
     /// Writes the rows of kinds of call, each with this many elements in the collection.
@@ -116,7 +138,7 @@ impl Table {
                 bench = next;
                 cost.add(count, time);
             }
-            sum = sum.wrapping_add(bench.seen(*calls)?);
+            sum = added(sum, bench.seen(*calls)?);
             self.row(rt, name, elements, &cost, what)?;
         }
         Ok(sum)

@@ -8,7 +8,7 @@ use crate::numbered::{ByNumber, Numbered};
 use crate::numbered_clock::NumberedClock;
 use crate::numbered_heap::NumberedHeap;
 use crate::stopwatch::Stopwatch;
-use crate::table::{Bench, Entry, Round, Table};
+use crate::table::{Bench, Entry, Round, Table, added};
 use crate::vectors::{keep, with_room};
 use cordyceps_commands::Item;
 use std::alloc::Global;
@@ -57,7 +57,8 @@ impl<C: ByNumber> WithSpots<C> {
 
 impl<C: ByNumber> Timers for WithSpots<C> {
     fn restart(&mut self) -> Result<(), Fault> {
-        self.running = C::new(self.alloc, self.idle.len())?;
+        let running = C::new(self.alloc, self.idle.len())?;
+        self.running = running;
         Ok(())
     }
 
@@ -288,13 +289,30 @@ impl Deadlines {
     }
 }
 
+/// The collections with spots.
+#[derive(Drop)]
+struct Spotted {
+    list: WithSpots<Numbered>,
+    heap: WithSpots<NumberedHeap>,
+    clock: WithSpots<NumberedClock>,
+}
+
+impl Spotted {
+    /// No timers, and nodes for so many.
+    fn new(alloc: Global, count: usize) -> Result<Spotted, Fault> {
+        Ok(Spotted {
+            list: WithSpots::new(alloc, count)?,
+            heap: WithSpots::new(alloc, count)?,
+            clock: WithSpots::new(alloc, count)?,
+        })
+    }
+}
+
 /// Timers to start, and the collections that they go into.
 #[derive(Drop)]
 struct Planned {
     plan: Plan,
-    list: WithSpots<Numbered>,
-    heap: WithSpots<NumberedHeap>,
-    clock: WithSpots<NumberedClock>,
+    spotted: Spotted,
     map: BTreeMap<Item, ()>,
     binary_heap: InHeap,
     /// A number over the timers that came out last.
@@ -306,9 +324,9 @@ impl Bench<Calls> for Planned {
         let mut planned = self;
         let count = planned.plan.started.len();
         let ran = match calls {
-            Calls::List => planned.plan.run(rt, &mut planned.list),
-            Calls::Heap => planned.plan.run(rt, &mut planned.heap),
-            Calls::Clock => planned.plan.run(rt, &mut planned.clock),
+            Calls::List => planned.plan.run(rt, &mut planned.spotted.list),
+            Calls::Heap => planned.plan.run(rt, &mut planned.spotted.heap),
+            Calls::Clock => planned.plan.run(rt, &mut planned.spotted.clock),
             Calls::Map => planned.plan.run(rt, &mut planned.map),
             Calls::BinaryHeap => planned.plan.run(rt, &mut planned.binary_heap),
         };
@@ -332,9 +350,7 @@ fn show<R: Clock + Print>(
 ) -> Result<u64, Fault> {
     let planned = Planned {
         plan: Plan::new(alloc, count, deadlines)?,
-        list: WithSpots::new(alloc, count)?,
-        heap: WithSpots::new(alloc, count)?,
-        clock: WithSpots::new(alloc, count)?,
+        spotted: Spotted::new(alloc, count)?,
         map: BTreeMap::new(alloc),
         binary_heap: InHeap::new(alloc, count)?,
         seen: 0,
@@ -352,5 +368,5 @@ pub fn show_timers<R: Clock + Print>(
 ) -> Result<u64, Fault> {
     let rising = show(rt, alloc, table, count, Deadlines::Timeouts)?;
     let random = show(rt, alloc, table, count, Deadlines::Random)?;
-    Ok(rising.wrapping_add(random))
+    Ok(added(rising, random))
 }

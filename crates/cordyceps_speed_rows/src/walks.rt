@@ -2,7 +2,7 @@
 ghost use Rattle.std.specs.Prelude.{◌≡◌, ◌+◌, ◌≤◌, [], length};
 
 use crate::stopwatch::Stopwatch;
-use crate::table::Round;
+use crate::table::{Round, added};
 use cordyceps_commands::Item;
 use cordyceps_list::list::List;
 use std::time::Clock;
@@ -15,7 +15,7 @@ pub fn walk(rt: &impl Clock, list: &List<Item>, seen: &mut u64) -> Round {
         sum = sum.wrapping_add(item.value);
     }
     let time = stopwatch.look(rt);
-    *seen = seen.wrapping_add(sum);
+    *seen = added(*seen, sum);
     (list.len(), time)
 }
 
@@ -29,7 +29,7 @@ pub fn look(rt: &impl Clock, list: &List<Item>, seen: &mut u64) -> Round {
         cursor.move_next();
     }
     let time = stopwatch.look(rt);
-    *seen = seen.wrapping_add(sum);
+    *seen = added(*seen, sum);
     (list.len(), time)
 }
 

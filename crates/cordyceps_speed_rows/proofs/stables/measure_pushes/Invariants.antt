@@ -6,6 +6,3 @@ invariant-loop-node g l = length l.list + length l.nodes.items ≡ length l.fn.n
 
 abbrev pub decreases-loop-node : goal.decreases-loop-node
 decreases-loop-node g l = vec_len l.nodes
-
-abbrev pub decreases-loop-node-2 : goal.decreases-loop-node-2
-decreases-loop-node-2 g l = length l.list
