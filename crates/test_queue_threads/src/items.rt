@@ -15,19 +15,19 @@ pub fn sum(count: u64, more: u64) -> u64 {
     count.wrapping_add(more)
 }
 
+/// Returns so many times a count, also without a clause.
+pub fn times(count: u64, each: u64) -> u64 {
+    count.wrapping_mul(each)
+}
+
 /// Returns a count of nothing.
 pub fn nothing() -> AtomicU64 {
     AtomicU64::new(0)
 }
 
-/// Returns the value of an element of this number: ten times as much.
-fn value_of(number: u64) -> u64 {
-    number.wrapping_mul(10)
-}
-
 /// Returns an element of this number, with ten times as much as its value.
 pub fn element(rt: &impl Abort, alloc: Global, number: u64, drops: &Drops) -> Handle {
-    made(rt, counted_node(alloc, number, value_of(number), drops))
+    made(rt, counted_node(alloc, number, times(10, number), drops))
 }
 
 /// Returns this many elements, with this number and the next ones.
@@ -47,7 +47,7 @@ pub fn elements(
 
 /// Returns the number of an element that was made so. Its value has to be ten times as much.
 pub fn number(rt: &impl Abort, node: &Handle) -> u64 {
-    same(rt, node.get().value, value_of(node.id()));
+    same(rt, node.get().value, times(10, node.id()));
     node.id()
 }
 

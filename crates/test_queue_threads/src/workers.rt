@@ -2,7 +2,7 @@
 ghost use Rattle.std.specs.Prelude.{◌≤◌};
 
 use crate::compared::same;
-use crate::items::{Handle, append, number, sum};
+use crate::items::{Handle, append, number, sum, times};
 use crate::seats::{Claim, Seat};
 use cordyceps_queue::mpsc_queue::TryDequeueError;
 use std::process::Abort;
@@ -48,6 +48,17 @@ pub struct Meeting {
     pub out: AtomicU64,
     /// How many of those that take have ended.
     pub ended: AtomicU64,
+}
+
+impl Meeting {
+    /// Counts an element of this number that came out.
+    fn count(&self, rt: &impl Abort, number: u64) {
+        match self.times.get(number as usize) {
+            Some(times) => times.fetch_add(1, Ordering::SeqCst),
+            None => panic!(rt; "no such number was put in"),
+        };
+        self.out.fetch_add(1, Ordering::SeqCst);
+    }
 }
 
 /// A thread that enqueues elements.
@@ -99,11 +110,7 @@ impl Taker<'_> {
     fn count(&mut self, rt: &impl Abort, node: Handle) {
         let number = number(rt, &node);
         append(rt, &mut self.numbers, number);
-        match self.meeting.times.get(number as usize) {
-            Some(times) => times.fetch_add(1, Ordering::SeqCst),
-            None => panic!(rt; "no such number was put in"),
-        };
-        self.meeting.out.fetch_add(1, Ordering::SeqCst);
+        self.meeting.count(rt, number);
     }
 
     /// Puts an element into the other queue, and counts what comes out there.
@@ -169,12 +176,12 @@ impl Taker<'_> {
 impl Crowd {
     /// Returns how many elements are enqueued.
     pub fn all(self) -> u64 {
-        self.producers.wrapping_mul(self.each)
+        times(self.producers, self.each)
     }
 
     /// Returns the first number of a producer.
     pub fn first_of(self, producer: u64) -> u64 {
-        producer.wrapping_mul(self.each)
+        times(producer, self.each)
     }
 
     /// Asserts that each producer's numbers among these rise.
