@@ -1,17 +1,19 @@
 //! A run queue: one thread submits jobs, and two workers run them.
-ghost use Rattle.std.specs.Prelude.{◌≡◌, ◌≤◌, ◌*◌, [], ◌++◌, length, map, reverse, IfOk, IfErr};
+ghost use Rattle.std.specs.Prelude.{◌≡◌, ◌≤◌, ◌*◌, [], ◌∷◌, ◌++◌, map, reverse, IfOk, IfErr, MatchResult};
 ghost use Rattle.std.specs.Thread.{IsSync};
 ghost use Rattle.cordyceps.specs.Parties.Counts.{Same};
 ghost use Rattle.cordyceps.specs.Transfers.Moves.{Moves};
 ghost use Rattle.cordyceps_shared_uses.specs.RunQueue.{ran, Worked};
 
-use crate::tries::Tries;
 use cordyceps::stack::{Links, MAX_ROOMS, Party};
 use cordyceps::{Linked, Node, Stack, TransferStack};
-use std::alloc::Global;
+use crossbeam_utils::sync::{Parker, Unparker};
+use std::alloc::{AllocError, Global};
+use std::snapshot::Snapshot;
 use std::sync::Wait;
+use std::sync::atomic::{AtomicBool, Ordering};
 use std::thread;
-use std::thread::Threads;
+use std::thread::{Promise, Threads};
 
 /// A job, which is to square a number.
 #[derive(Drop)]
@@ -51,18 +53,67 @@ impl Job {
     }
 }
 
+/// What wakes the two workers.
+#[derive(Drop)]
+struct Alarm {
+    first: Unparker,
+    second: Unparker,
+}
+
+impl Alarm {
+    /// Wakes both workers. A worker that is awake does not sleep the next time that it is about to.
+    fn ring(&self) {
+        self.first.unpark();
+        self.second.unpark();
+    }
+}
+
+/// Submits a job, and wakes the workers if the stack was empty. While no room is free, it yields to other threads and
+/// tries again.
+///
+/// No job waits for long while all workers sleep: a worker takes all jobs at once, so one that finds none and then
+/// sleeps is woken by the next push, which finds the stack empty. A wake-up before the sleep ends the sleep at once.
+/// Nor does a submitter that finds no room wait for a sleeping worker: each room has a job, or is with a worker that
+/// took its job and has still to give it back. This is tested, but no contract states it.
+fn submit<R: Wait>(
+    rt: &R,
+    queue: &TransferStack<Job>,
+    alarm: &Alarm,
+    party: &mut Party<Job>,
+    job: Handle,
+)
+    requires { party.old.table ≡ queue.now }
+    ensures { Moves ran (ran job ∷ []) [] party.old party.new }
+{
+    let mut job = job;
+    for _ in rt.forever() {
+        match queue.refill_and_try_push(party, job) {
+            Ok(was_empty) => {
+                if was_empty {
+                    alarm.ring();
+                }
+                return;
+            }
+            Err(error) => job = error.into_inner(),
+        }
+        thread::yield_now();
+    }
+    unreachable!()
+}
+
 /// Submits jobs, one after the other.
 fn submit_all<R: Wait>(
     rt: &R,
     queue: &TransferStack<Job>,
+    alarm: &Alarm,
     mut party: Party<Job>,
     jobs: Stack<Job>,
 ) -> Party<Job>
-    requires { (party.table ≡ queue.now) × (length jobs ≤ party.rooms) }
+    requires { party.table ≡ queue.now }
     ensures { Moves ran (map ran jobs) [] party result }
 {
     for job in jobs {
-        queue.push(rt, &mut party, job);
+        submit(rt, queue, alarm, &mut party, job);
     }
     party
 }
@@ -77,80 +128,127 @@ fn run_each(mut jobs: Stack<Job>, done: &mut Stack<Job>)
     }
 }
 
-/// What a worker returns: its party, the jobs that it has done, and the number of its tries.
+/// What a worker returns: its party, and the jobs that it has done.
 #[derive(Drop)]
 struct Shift {
     party: Party<Job>,
     done: Stack<Job>,
-    tries: Tries,
 }
 
-/// Takes jobs from the queue and runs them, with one try in each of `turns` turns.
-fn work(queue: &TransferStack<Job>, mut party: Party<Job>, turns: u64) -> Shift
-    requires { party.table ≡ queue.now }
-    ensures worked { Worked result.done party result.party }
-    ensures tries { result.tries ≡ turns }
-{
-    let mut done = Stack::new();
-    let mut tries = Tries::new();
-    for _turn in 0..turns {
-        run_each(tries.take_all(queue, &mut party), &mut done);
-    }
-    Shift { party, done, tries }
+/// The promise of a worker that starts with a party.
+#[derive(Drop)]
+struct Works {
+    party: Snapshot<Party<Job>>,
 }
 
-/// Runs two workers, each on a thread.
-fn work_both<R: Threads>(
+impl Promise<Shift> for Works {
+    ghost kept_by = { λ works shift. Worked shift.done works.party.value shift.party };
+}
+
+/// Takes jobs from the queue and runs them, until all jobs were submitted and none is left in the queue. It gives the
+/// rooms of the jobs that it took to the pool at once, and sleeps while the queue is empty.
+fn work<R: Wait>(
     rt: &R,
     queue: &TransferStack<Job>,
-    parties: (Party<Job>, Party<Job>),
-    turns: u64,
-) -> (Shift, Shift)
-    requires { (parties.0.table ≡ queue.now) × (parties.1.table ≡ queue.now) }
-    ensures worked { Worked result.0.done parties.0 result.0.party × Worked result.1.done parties.1 result.1.party }
-    ensures tries { (result.0.tries ≡ turns) × (result.1.tries ≡ turns) }
+    mut party: Party<Job>,
+    sleep: &Parker,
+    have_ended: &AtomicBool,
+) -> Shift
+    requires { party.table ≡ queue.now }
+    ensures { Worked result.done party result.party }
 {
-    let (one, two) = parties;
-    thread::join(
-        rt,
-        || -> Shift
-            requires { one.table ≡ queue.now }
-            ensures { Worked result.done one result.party × (result.tries ≡ turns) }
-        { work(queue, one, turns) },
-        || -> Shift
-            requires { two.table ≡ queue.now }
-            ensures { Worked result.done two result.party × (result.tries ≡ turns) }
-        { work(queue, two, turns) },
-    )
+    let mut done = Stack::new();
+    for _ in rt.forever() {
+        // The flag is read before the take. If all jobs were submitted by now, none comes after those that the take
+        // finds.
+        let is_end = have_ended.load(Ordering::SeqCst);
+        let batch = queue.take_all(&mut party);
+        let rooms = party.rooms();
+        queue.give_back(&mut party, rooms);
+        if !batch.is_empty() {
+            run_each(batch, &mut done);
+        } else if is_end {
+            return Shift { party, done };
+        } else {
+            sleep.park(rt);
+        }
+    }
+    unreachable!()
 }
 
-/// Runs a submitter and two workers, each on a thread.
+/// What the three threads return: the submitter's party, and what each worker has done.
+#[derive(Drop)]
+struct Ended {
+    submitter: Party<Job>,
+    workers: (Shift, Shift),
+}
+
+/// Submits jobs, while two workers run them, each on a thread. If no thread can be started, the jobs are returned. If
+/// only one can be started, the second worker begins once all jobs are submitted.
 fn run_threads<R: Threads + Wait + Sync>(
     rt: &R,
     queue: &TransferStack<Job>,
     submitter: Party<Job>,
-    workers: (Party<Job>, Party<Job>),
+    parties: (Party<Job>, Party<Job>),
+    beds: (Parker, Parker),
+    alarm: Alarm,
     jobs: Stack<Job>,
-    turns: u64,
-) -> (Party<Job>, (Shift, Shift))
-    requires submitter { (submitter.table ≡ queue.now) × (length jobs ≤ submitter.rooms) }
-    requires workers { (workers.0.table ≡ queue.now) × (workers.1.table ≡ queue.now) }
-    ensures submitted { Moves ran (map ran jobs) [] submitter result.0 }
-    ensures worked { Worked result.1.0.done workers.0 result.1.0.party
-        × Worked result.1.1.done workers.1 result.1.1.party }
-    ensures tries { (result.1.0.tries ≡ turns) × (result.1.1.tries ≡ turns) }
+) -> Result<Ended, Stack<Job>>
+    requires submitter { submitter.table ≡ queue.now }
+    requires workers { (parties.0.table ≡ queue.now) × (parties.1.table ≡ queue.now) }
+    ensures ended { IfOk result (λ e. Moves ran (map ran jobs) [] submitter e.submitter
+        × Worked e.workers.0.done parties.0 e.workers.0.party
+        × Worked e.workers.1.done parties.1 e.workers.1.party) }
+    ensures back { IfErr result (λ back. back ≡ jobs) }
 {
-    thread::join(
+    let (one, two) = parties;
+    let (first_bed, second_bed) = beds;
+    let flag = AtomicBool::new(false);
+    let have_ended = &flag;
+    thread::scope(
+        thread::scope_env(),
         rt,
-        || -> Party<Job>
-            requires { IsSync R.row × (submitter.table ≡ queue.now) × (length jobs ≤ submitter.rooms) }
-            ensures { Moves ran (map ran jobs) [] submitter result }
-        { submit_all(rt, queue, submitter, jobs) },
-        || -> (Shift, Shift)
-            requires { IsSync R.row × (workers.0.table ≡ queue.now) × (workers.1.table ≡ queue.now) }
-            ensures { Worked result.0.done workers.0 result.0.party × Worked result.1.done workers.1 result.1.party
-                × (result.0.tries ≡ turns) × (result.1.tries ≡ turns) }
-        { work_both(rt, queue, workers, turns) },
+        move |scope| -> Result<Ended, Stack<Job>>
+            requires { IsSync R.row × (submitter.table ≡ queue.now) × (one.table ≡ queue.now) × (two.table ≡ queue.now) }
+            ensures ended { IfOk result (λ e. Moves ran (map ran jobs) [] submitter e.submitter
+                × Worked e.workers.0.done one e.workers.0.party × Worked e.workers.1.done two e.workers.1.party) }
+            ensures back { IfErr result (λ back. back ≡ jobs) }
+        {
+            let promise = Works {
+                party: Snapshot::of(&one),
+            };
+            let work_on = move || -> Shift
+                requires { IsSync R.row × (one.table ≡ queue.now) }
+                ensures { Worked result.done one result.party }
+            { work(rt, queue, one, &first_bed, have_ended) };
+            let Ok(first) = scope.spawn_with(promise, work_on) else {
+                return Err(jobs);
+            };
+            let promise = Works {
+                party: Snapshot::of(&two),
+            };
+            let work_on = move || -> Shift
+                requires { IsSync R.row × (two.table ≡ queue.now) }
+                ensures { Worked result.done two result.party }
+            { work(rt, queue, two, &second_bed, have_ended) };
+            let second = scope.spawn_with(promise, work_on);
+            let submitter = submit_all(rt, queue, &alarm, submitter, jobs);
+            have_ended.store(true, Ordering::SeqCst);
+            alarm.ring();
+            match second {
+                Ok(second) => Ok(Ended {
+                    submitter,
+                    workers: (first.join(rt), second.join(rt)),
+                }),
+                Err(refused) => {
+                    let second = (refused.value)();
+                    Ok(Ended {
+                        submitter,
+                        workers: (first.join(rt), second),
+                    })
+                }
+            }
+        },
     )
 }
 
@@ -168,59 +266,65 @@ fn add_all(done: &mut Stack<Job>, mut more: Stack<Job>)
 pub struct Done {
     /// The jobs, all of which were run.
     pub jobs: Stack<Job>,
-    /// The number of times that each of the two workers tried to take jobs.
-    pub tries: (Tries, Tries),
 }
 
-/// Runs all jobs and returns them. One thread submits the jobs, and two workers take what is there and run it, with one
-/// try in each of `turns` turns. The jobs that are left then are run at the end. Each job is run once, and none is
-/// lost.
+/// Creates what two workers sleep on, and what wakes them.
+fn make_beds(alloc: Global) -> Result<((Parker, Parker), Alarm), AllocError> {
+    let beds = (Parker::new(alloc)?, Parker::new(alloc)?);
+    let alarm = Alarm {
+        first: beds.0.unparker().clone()?,
+        second: beds.1.unparker().clone()?,
+    };
+    Ok((beds, alarm))
+}
+
+/// Runs all jobs and returns them. One thread submits the jobs, and two workers run them, until all jobs were submitted
+/// and none is left. Each job is run once, and none is lost.
 ///
-/// Each job needs a room of the queue: requires that `rooms` is at least the number of jobs, and at most `MAX_ROOMS`.
-/// Allocates only the queue.
+/// The queue has `rooms` rooms, which bound the number of jobs that wait for a worker. The room of a job that a worker
+/// took is used again, so the number of jobs has no bound. Requires that `rooms` is at least 1 and at most `MAX_ROOMS`.
+/// Allocates the queue, and what the two workers sleep on.
 ///
 /// # Errors
-/// If memory for the queue is refused, the jobs are returned, none of which was run.
+/// If memory is refused, or no thread can be started, the jobs are returned, none of which was run.
 ///
 /// # Complexity
-/// O(`rooms` + `turns`), in all threads together. A push is tried again at most once for each try of a worker.
+/// O(`rooms` + n), for n jobs, in all threads together, besides the tries of a submitter that waits.
 ///
 /// # Waits
-/// For the threads that it starts. The one that submits tries again while a worker takes between the steps of its push.
+/// For the threads that it starts. The one that submits tries again while no room is free, and while a worker takes
+/// between the steps of its push. A worker sleeps while the queue is empty. If only one thread can be started, one worker
+/// runs all jobs.
 pub fn run_all<R: Threads + Wait + Sync>(
     rt: &R,
     alloc: Global,
     jobs: Stack<Job>,
     rooms: usize,
-    turns: u64,
 ) -> Result<Done, Stack<Job>>
-    requires room { length jobs ≤ rooms }
+    requires room { 1 ≤ rooms }
     requires few { rooms ≤ MAX_ROOMS }
     ensures each_once { IfOk result (λ done. Same (map ran jobs) done.jobs) }
-    ensures tries { IfOk result (λ done. (done.tries.0 ≡ turns) × (done.tries.1 ≡ turns)) }
     ensures back { IfErr result (λ back. back ≡ jobs) }
 {
     let Ok((queue, mut party)) = TransferStack::new(alloc, rooms) else {
         return Err(jobs);
     };
+    let Ok((beds, alarm)) = make_beds(alloc) else {
+        return Err(jobs);
+    };
     let submitter = queue.split(&mut party, rooms);
     let other = queue.split(&mut party, 0);
-    let (submitter, (first, second)) = run_threads(
-        rt,
-        &queue,
+    let parties = (party, other);
+    let ended = run_threads(rt, &queue, submitter, parties, beds, alarm, jobs)?;
+    let Ended {
         submitter,
-        (party, other),
-        jobs,
-        turns,
-    );
+        workers: (first, second),
+    } = ended;
     let (mut party, mut done) = (first.party, first.done);
     queue.absorb(&mut party, second.party);
     queue.absorb(&mut party, submitter);
     let rest = queue.close(party);
     run_each(rest, &mut done);
     add_all(&mut done, second.done);
-    Ok(Done {
-        jobs: done,
-        tries: (first.tries, second.tries),
-    })
+    Ok(Done { jobs: done })
 }

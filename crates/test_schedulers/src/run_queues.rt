@@ -1,80 +1,63 @@
 //! Jobs that threads run.
-ghost use Rattle.std.specs.Prelude.{◌≡◌, length};
+ghost use Rattle.std.specs.Prelude.{◌≤◌};
 
-use crate::compared::same;
+use crate::compared::{made, same};
 use crate::made::node;
 use cordyceps::Stack;
+use cordyceps::stack::MAX_ROOMS;
 use cordyceps_shared_uses::run_queue::{Job, run_all};
 use std::alloc::Global;
 use std::process::Abort;
+use std::sync::Wait;
+use std::thread::Threads;
 
-/// How often the threads run.
-const ROUNDS: u64 = 20;
+/// How often the threads run with one number of rooms. All are a thousand runs.
+const ROUNDS: u64 = 250;
 
-/// Returns jobs of the numbers 1 to 4 that were not run.
-fn four_jobs(rt: &impl Abort, alloc: Global) -> Stack<Job>
-    ensures { length result ≡ 4 }
-{
+/// The number of jobs of a run.
+const JOBS: usize = 8;
+
+/// Returns jobs of the numbers 0 to 7 that were not run.
+fn eight_jobs(rt: &impl Abort, alloc: Global) -> Stack<Job> {
     let mut jobs = Stack::new();
-    jobs.push(node(
-        rt,
-        alloc,
-        0,
-        Job {
-            number: 1,
-            square: 0,
-        },
-    ));
-    jobs.push(node(
-        rt,
-        alloc,
-        0,
-        Job {
-            number: 2,
-            square: 0,
-        },
-    ));
-    jobs.push(node(
-        rt,
-        alloc,
-        0,
-        Job {
-            number: 3,
-            square: 0,
-        },
-    ));
-    jobs.push(node(
-        rt,
-        alloc,
-        0,
-        Job {
-            number: 4,
-            square: 0,
-        },
-    ));
+    for number in 0..JOBS as u32 {
+        jobs.push(node(rt, alloc, 0, Job { number, square: 0 }));
+    }
     jobs
 }
 
-#[test]
-fn each_job_is_run_once(rt: HostRuntime) {
-    for round in 0..ROUNDS {
-        let jobs = four_jobs(&rt, rt.alloc());
-        let Ok(done) = run_all(&rt, rt.alloc(), jobs, 4, round) else {
-            panic!(rt; "no memory for a stack");
-        };
-        // the sum of the squares of each number
-        let mut squares = [0u64; 5];
-        same(
-            &rt,
-            (done.tries.0.count(), done.tries.1.count()),
-            (round, round),
-        );
-        for job in done.jobs {
-            let job = job.get();
-            if let Some(square) = squares.get_mut(job.number as usize) {
-                *square = square.wrapping_add(job.square);
-            }
+/// Runs eight jobs on a queue of this many rooms, and compares what comes of each. Where memory or a thread was refused,
+/// it runs them again.
+fn run_eight<R: Abort + Threads + Wait + Sync>(rt: &R, alloc: Global, rooms: usize)
+    requires { (1 ≤ rooms) × (rooms ≤ MAX_ROOMS) }
+{
+    let done = match run_all(rt, alloc, eight_jobs(rt, alloc), rooms) {
+        Ok(done) => done,
+        Err(back) => made(rt, run_all(rt, alloc, back, rooms)),
+    };
+    // the sum of the squares of each number
+    let mut squares = [0u64; JOBS];
+    let mut count = 0u64;
+    for job in done.jobs {
+        let job = job.get();
+        count = count.wrapping_add(1);
+        if let Some(square) = squares.get_mut(job.number as usize) {
+            *square = square.wrapping_add(job.square);
         }
-        same(&rt, squares, [0, 1, 4, 9, 16]);
     }
+    same(rt, (count, squares), (8, [0, 1, 4, 9, 16, 25, 36, 49]));
+}
+
+#[test]
+fn each_job_is_run_once_and_no_wakeup_is_lost(rt: HostRuntime) {
+    for rooms in 1..5usize {
+        for _round in 0..ROUNDS {
+            run_eight(&rt, rt.alloc(), rooms);
+        }
+    }
+}
+
+#[test]
+fn jobs_come_back_where_memory_is_refused(rt: HostRuntime) {
+    run_eight(&rt, rt.alloc(), 4);
 }

@@ -1,22 +1,37 @@
-use Rattle.std.proofs.Common.{rules, List, ◌++◌, map, reverse, ap, sym, ◌∙◌, subst, arith}
+use Rattle.std.proofs.Common.{List, ◌++◌, map, reverse, sym, ◌∙◌, subst}
 use Rattle.std.proofs.lemmas.List.{map-id}
 use Rattle.cordyceps.specs.Elements.Element.{Element}
 use Rattle.cordyceps_shared_uses.specs.RunQueue.{ran, Worked}
 use Rattle.cordyceps_shared_uses.specs.declared.run_queue.Job.{Job}
-use Rattle.cordyceps_shared_uses.proofs.Working.{worked_none, worked_turn}
+use Rattle.cordyceps_shared_uses.proofs.Working.{worked_none, worked_turn, worked_idle}
 use Rattle.cordyceps_shared_uses.proofs.run_queue.work.Goals as goal
 
-pub loop-turn-init : goal.loop-turn-init
-loop-turn-init c = (subst (λ z. Worked z c.args.party c.args.party) (sym c.new-done.ensures) (worked_none c.args.party), c.new-tries.ensures)
+pub loop-init : goal.loop-init
+loop-init g c = subst (λ z. Worked z c.args.party c.args.party) (sym c.new-done.ensures) (worked_none c.args.party)
 
-pub loop-turn-preserved : goal.loop-turn-preserved
-loop-turn-preserved c =
-    let batch = c.take_all.ensures.taken.0 in
-    let same = ap (λ (z : List (Element Job)). reverse (map ran z) ++ c.loop-turn.done) (c.take_all.ensures.taken.1 ∙ map-id batch) in (
-      subst (λ z. Worked z c.args.party c.take_all.new.party) (sym (c.run_each.ensures ∙ same))
-          (worked_turn c.loop-turn.done batch c.args.party c.loop-turn.party c.take_all.new.party c.loop-turn.invariant.0 c.take_all.ensures.taken.2),
-      omega (arith, c.take_all.ensures.counted, c.loop-turn.invariant.1),
-    )
+pub take_all-batch-requires : goal.take_all-batch-requires
+take_all-batch-requires g c = c.loop.invariant.took.acts.table ∙ c.requires
 
-pub returns-clause-tries : goal.returns-clause-tries
-returns-clause-tries c = search rules
+pub loop-preserved-then-not-is_empty : goal.loop-preserved-then-not-is_empty
+loop-preserved-then-not-is_empty g c =
+    let (batch, is, takes) = c.take_all-batch.ensures in
+    let all = worked_turn c.loop.done batch c.rooms-rooms.result c.give_back.result c.args.party c.loop.party c.take_all-batch.new.party c.give_back.new.party c.loop.invariant takes
+    c.give_back.ensures.answer in
+    let turn = subst (λ (z : List (Element Job)). Worked (reverse (map ran z) ++ c.loop.done) c.args.party c.give_back.new.party) (sym (is ∙ map-id batch)) all in
+    subst (λ (z : List (Element Job)). Worked z c.args.party c.give_back.new.party) (sym c.run_each.ensures) turn
+
+pub returns-then-is_end : goal.returns-then-is_end
+returns-then-is_end g c =
+    let (batch, is, takes) = c.take_all-batch.ensures in
+    let all = worked_turn c.loop.done batch c.rooms-rooms.result c.give_back.result c.args.party c.loop.party c.take_all-batch.new.party c.give_back.new.party c.loop.invariant takes
+    c.give_back.ensures.answer in
+    let turn = subst (λ (z : List (Element Job)). Worked (reverse (map ran z) ++ c.loop.done) c.args.party c.give_back.new.party) (sym (is ∙ map-id batch)) all in
+    worked_idle c.loop.done c.take_all-batch.result c.args.party c.give_back.new.party (sym c.is_empty.ensures ∙ c.if-not-is_empty.false) turn
+
+pub loop-preserved : goal.loop-preserved
+loop-preserved g c =
+    let (batch, is, takes) = c.take_all-batch.ensures in
+    let all = worked_turn c.loop.done batch c.rooms-rooms.result c.give_back.result c.args.party c.loop.party c.take_all-batch.new.party c.give_back.new.party c.loop.invariant takes
+    c.give_back.ensures.answer in
+    let turn = subst (λ (z : List (Element Job)). Worked (reverse (map ran z) ++ c.loop.done) c.args.party c.give_back.new.party) (sym (is ∙ map-id batch)) all in
+    worked_idle c.loop.done c.take_all-batch.result c.args.party c.give_back.new.party (sym c.is_empty.ensures ∙ c.if-not-is_empty.false) turn
