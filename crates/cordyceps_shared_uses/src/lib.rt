@@ -8,4 +8,3 @@ pub mod pool;
 pub mod run_queue;
 pub mod scheduler;
 pub mod timers;
-pub mod tries;

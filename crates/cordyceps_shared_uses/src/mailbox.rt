@@ -1,17 +1,21 @@
 //! A mailbox: many threads send messages, and one thread receives them.
-ghost use Rattle.std.specs.Prelude.{◌≡◌, ◌≤◌, [], ◌∷◌, ◌++◌, length, IfOk};
+ghost use Rattle.std.specs.Prelude.{◌≡◌, ◌≤◌, [], ◌∷◌, ◌++◌, None, IfOk, IfSome};
 ghost use Rattle.std.specs.Thread.{IsSync};
-ghost use Rattle.cordyceps.specs.Parties.Sending.{how_many, Delivers, MaySend};
-ghost use Rattle.cordyceps.specs.Queues.Moves.{Moves, got_by_try};
+ghost use Rattle.cordyceps.specs.Parties.Sending.{Delivers};
+ghost use Rattle.cordyceps.specs.Parties.Shares.{IsShare};
+ghost use Rattle.cordyceps.specs.Queues.Moves.{Moves};
 ghost use Rattle.cordyceps.specs.Queues.Sending.{Sends};
 ghost use Rattle.cordyceps_shared_uses.specs.Mailbox.{contents, value_of};
 
-use crate::tries::Tries;
 use cordyceps::mpsc_queue::{Links, MAX_ROOMS, Party, TryDequeueError};
 use cordyceps::{Linked, MpscQueue, Node, Refused};
+use crossbeam_utils::sync::{Parker, Unparker};
 use std::alloc::{AllocError, Global};
+use std::snapshot::Snapshot;
+use std::sync::Wait;
+use std::sync::atomic::{AtomicBool, Ordering};
 use std::thread;
-use std::thread::Threads;
+use std::thread::{Promise, Threads};
 
 /// A message, which is a number.
 #[derive(Drop)]
@@ -48,153 +52,291 @@ fn letter(alloc: Global, value: u64) -> Result<Letter, AllocError>
     }
 }
 
-/// Sends the values of a list, in order. Allocates one node for each.
-fn send_all(
+/// Sends a letter, and wakes the receiver. While no room is free, it yields to other threads and tries again.
+fn send<R: Wait>(
+    rt: &R,
+    queue: &MpscQueue<Message>,
+    receiver: &Unparker,
+    party: &mut Party<Message>,
+    letter: Letter,
+)
+    requires { party.old.table ≡ queue.now.table }
+    ensures { Moves value_of (letter.value.value ∷ []) [] party.old party.new }
+{
+    let mut letter = letter;
+    for _ in rt.forever() {
+        let sent = queue.try_enqueue(party, letter);
+        // The receiver is woken whether or not the queue accepted the letter. A superfluous wake-up does no harm.
+        receiver.unpark();
+        match sent {
+            Ok(()) => return,
+            Err(back) => letter = back,
+        }
+        thread::yield_now();
+    }
+    unreachable!()
+}
+
+/// Gives all rooms of a party to the pool, together with those that other parties gave to it meanwhile.
+fn give_all_back<R: Wait>(rt: &R, queue: &MpscQueue<Message>, party: &mut Party<Message>)
+    requires { party.old.table ≡ queue.now.table }
+    ensures moves { Moves value_of [] [] party.old party.new }
+    ensures gives { party.new.rooms ≡ 0 }
+{
+    for _ in rt.forever() {
+        let rooms = party.rooms();
+        if queue.give_back(party, rooms) {
+            return;
+        }
+        queue.refill(party);
+    }
+    unreachable!()
+}
+
+/// Sends the values of a list, in order. Allocates one node for each. If memory is refused, it sends no more.
+fn send_values<R: Wait>(
+    rt: &R,
     alloc: Global,
     queue: &MpscQueue<Message>,
+    receiver: &Unparker,
+    party: &mut Party<Message>,
+    values: &[u64],
+) -> Result<(), AllocError>
+    requires { party.old.table ≡ queue.now.table }
+    ensures table { party.new.table ≡ queue.now.table }
+    ensures sent { IfOk result (λ _. Moves value_of values.now [] party.old party.new) }
+{
+    for value in values {
+        send(rt, queue, receiver, party, letter(alloc, *value)?);
+    }
+    Ok(())
+}
+
+/// Sends the values of a list, in order, and then gives the rooms that the party has left to the pool, also if memory
+/// is refused.
+fn send_all<R: Wait>(
+    rt: &R,
+    alloc: Global,
+    queue: &MpscQueue<Message>,
+    receiver: &Unparker,
     mut party: Party<Message>,
     values: &[u64],
 ) -> Result<Party<Message>, AllocError>
-    requires { (party.table ≡ queue.now.table) × (length values.now ≤ party.rooms) }
+    requires { party.table ≡ queue.now.table }
     ensures { IfOk result (λ back. Moves value_of values.now [] party back) }
 {
-    for value in values {
-        queue.enqueue(&mut party, letter(alloc, *value)?);
-    }
+    let sent = send_values(rt, alloc, queue, receiver, &mut party, values);
+    give_all_back(rt, queue, &mut party);
+    sent?;
     Ok(party)
 }
 
 /// Sends each list on a thread of its own.
-fn send_each<R: Threads + Sync>(
+fn send_each<R: Threads + Wait + Sync>(
     rt: &R,
     alloc: Global,
     queue: &MpscQueue<Message>,
+    receiver: &Unparker,
     mut party: Party<Message>,
     lists: &[Vec<u64>],
 ) -> Result<Party<Message>, AllocError>
-    requires { MaySend (contents lists.now) queue.now.table party }
+    requires { (party.table ≡ queue.now.table) × IsShare party.share }
     ensures { IfOk result (λ back. Sends value_of (contents lists.now) party back) }
 {
     let Some((first, rest)) = lists.split_first() else {
         return Ok(party);
     };
-    let mine = queue.split(&mut party, first.len());
+    let mine = queue.split(&mut party, 0);
     let (sent, others) = thread::join(
         rt,
         || -> Result<Party<Message>, AllocError>
-            requires { (mine.table ≡ queue.now.table) × (length first.now.items ≤ mine.rooms) }
+            requires { IsSync R.row × (mine.table ≡ queue.now.table) }
             ensures { IfOk result (λ back. Moves value_of first.entry.now.items [] mine back) }
-        { send_all(alloc, queue, mine, first.as_slice()) },
+        { send_all(rt, alloc, queue, receiver, mine, first.as_slice()) },
         || -> Result<Party<Message>, AllocError>
-            requires { IsSync R.row × MaySend (contents rest.now) queue.now.table party }
+            requires { IsSync R.row × (party.table ≡ queue.now.table) × IsShare party.share }
             ensures { IfOk result (λ back. Sends value_of (contents rest.entry.now) party back) }
-        { send_each(rt, alloc, queue, party, rest) },
+        { send_each(rt, alloc, queue, receiver, party, rest) },
     );
     let mut back = others?;
     queue.absorb(&mut back, sent?);
     Ok(back)
 }
 
-/// Appends the message that a try found, if any, to those that were received.
-fn note(received: &mut Vec<u64>, found: Result<Letter, TryDequeueError>) -> Result<(), AllocError>
-    ensures { IfOk result (λ _. received.new.items ≡ received.old.items ++ got_by_try value_of found) }
+/// Appends a message to those that were received and returns them. If memory is refused or was refused before, it
+/// returns `None`.
+fn note(received: Option<Vec<u64>>, letter: Letter) -> Option<Vec<u64>>
+    ensures none { received ≡ None → result ≡ None }
+    ensures noted { IfSome result (λ after. IfSome received (λ before.
+        after.items ≡ before.items ++ letter.value.value ∷ [])) }
 {
-    let Ok(letter) = found else {
-        return Ok(());
-    };
-    received.push(letter.get().value)?;
-    Ok(())
+    let mut received = received?;
+    received.push(letter.get().value).ok()?;
+    Some(received)
 }
 
-/// What the receiver returns: its party, the messages that it received, and the number of its tries.
+/// What the receiver returns: its party, and the messages that it received, or `None` if memory was refused.
 #[derive(Drop)]
 struct Inbox {
     party: Party<Message>,
-    received: Vec<u64>,
-    tries: Tries,
+    received: Option<Vec<u64>>,
 }
 
-/// Receives messages in `turns` turns, in each of which it tries once.
-fn receive(
+/// The promise of a receiver that starts with a party.
+#[derive(Drop)]
+struct Receives {
+    party: Snapshot<Party<Message>>,
+}
+
+impl Promise<Inbox> for Receives {
+    ghost kept_by = { λ receives inbox.
+        IfSome inbox.received (λ all. Moves value_of [] all.items receives.party.value inbox.party) };
+}
+
+/// Sleeps until a sender wakes this thread, if the queue was empty, and otherwise yields to other threads.
+///
+/// No wake-up is lost: a sender wakes this thread after it has enqueued its letter, and a wake-up before the sleep ends
+/// the sleep at once. This is tested, but no contract states it.
+fn pause<R: Wait>(rt: &R, sleep: &Parker, why: TryDequeueError) {
+    match why {
+        TryDequeueError::Empty => sleep.park(rt),
+        _ => thread::yield_now(),
+    }
+}
+
+/// Receives messages until all senders have ended and no message is left. It gives the room of each message to the pool
+/// at once, and sleeps while the queue is empty. If memory is refused, it goes on, and drops what it receives, so that
+/// no sender waits for a room for good.
+fn receive<R: Wait>(
+    rt: &R,
     alloc: Global,
     queue: &MpscQueue<Message>,
     mut party: Party<Message>,
-    turns: u64,
-) -> Result<Inbox, AllocError>
+    sleep: Parker,
+    have_ended: &AtomicBool,
+) -> Inbox
     requires { party.table ≡ queue.now.table }
-    ensures moves { IfOk result (λ back. Moves value_of [] back.received.items party back.party) }
-    ensures tries { IfOk result (λ back. back.tries ≡ turns) }
+    ensures { IfSome result.received (λ all. Moves value_of [] all.items party result.party) }
 {
-    let mut received = Vec::new(alloc);
-    let mut tries = Tries::new();
-    for _turn in 0..turns {
-        note(&mut received, tries.try_dequeue(queue, &mut party))?;
+    let mut received = Some(Vec::new(alloc));
+    for _ in rt.forever() {
+        // The flag is read before the try. If all senders have ended by now, no message comes after those that the
+        // tries find from here on.
+        let is_end = have_ended.load(Ordering::SeqCst);
+        match queue.try_dequeue(&mut party) {
+            Ok(letter) => {
+                received = note(received, letter);
+                let rooms = party.rooms();
+                queue.give_back(&mut party, rooms);
+            }
+            Err(why) => {
+                if is_end {
+                    return Inbox { party, received };
+                }
+                pause(rt, &sleep, why);
+            }
+        }
     }
-    Ok(Inbox {
-        party,
-        received,
-        tries,
-    })
+    unreachable!()
 }
 
-/// The messages that were delivered, and the tries of the receiver.
+/// Sends each list on a thread of its own, while one thread receives. If no thread can be started to receive, nothing is
+/// sent.
+fn exchange<R: Threads + Wait + Sync>(
+    rt: &R,
+    alloc: Global,
+    queue: &MpscQueue<Message>,
+    receiver: Party<Message>,
+    sender: Party<Message>,
+    lists: &[Vec<u64>],
+) -> Result<(Inbox, Party<Message>), AllocError>
+    requires receiver { receiver.table ≡ queue.now.table }
+    requires sender { (sender.table ≡ queue.now.table) × IsShare sender.share }
+    ensures received { IfOk result (λ both.
+        IfSome both.0.received (λ all. Moves value_of [] all.items receiver both.0.party)) }
+    ensures sent { IfOk result (λ both. Sends value_of (contents lists.now) sender both.1) }
+{
+    let sleep = Parker::new(alloc)?;
+    let wake = sleep.unparker().clone()?;
+    let flag = AtomicBool::new(false);
+    let have_ended = &flag;
+    thread::scope(
+        thread::scope_env(),
+        rt,
+        move |scope| -> Result<(Inbox, Party<Message>), AllocError>
+            requires { IsSync R.row × (receiver.table ≡ queue.now.table) × (sender.table ≡ queue.now.table)
+                × IsShare sender.share }
+            ensures received { IfOk result (λ both.
+                IfSome both.0.received (λ all. Moves value_of [] all.items receiver both.0.party)) }
+            ensures sent { IfOk result (λ both. Sends value_of (contents lists.entry.now) sender both.1) }
+        {
+            let promise = Receives {
+                party: Snapshot::of(&receiver),
+            };
+            let receive_on = move || -> Inbox
+                requires { IsSync R.row × (receiver.table ≡ queue.now.table) }
+                ensures { IfSome result.received (λ all. Moves value_of [] all.items receiver result.party) }
+            { receive(rt, alloc, queue, receiver, sleep, have_ended) };
+            let inbox = scope.spawn_with(promise, receive_on)?;
+            let sent = send_each(rt, alloc, queue, &wake, sender, lists);
+            have_ended.store(true, Ordering::SeqCst);
+            wake.unpark();
+            let inbox = inbox.join(rt);
+            Ok((inbox, sent?))
+        },
+    )
+}
+
+/// The messages that were delivered.
 #[derive(Drop)]
 pub struct Delivered {
     /// The messages, in the order in which they were received.
     pub messages: Vec<u64>,
-    /// The number of tries while messages were sent.
-    pub tries: Tries,
 }
 
 /// Delivers messages and returns them in the order in which they were received. Each list is sent by a thread of its
-/// own, and one thread receives, with one try in each of `turns` turns. The messages that are left then are received at
-/// the end. The messages of each list come in order, and none is lost or duplicated.
+/// own, and one thread receives until all senders have ended and no message is left. The messages of each list come in
+/// order, and none is lost or duplicated.
 ///
-/// Each message needs a room: requires that `rooms` is at least the number of messages, and at most `MAX_ROOMS`.
-/// Allocates the queue, a node for each message, and the vector of the messages.
+/// The queue has `rooms` rooms, which bound the number of messages that wait to be received. The room of a message that
+/// was received is used again, so the number of messages has no bound. Requires that `rooms` is at least 1 and at most
+/// `MAX_ROOMS`. Allocates the queue, what the receiver sleeps on, a node for each message, and the vector of the
+/// messages.
 ///
 /// # Errors
-/// If memory is refused, it returns `AllocError`, and all messages are dropped.
+/// If memory is refused, or no thread can be started to receive, it returns `AllocError`, and all messages are dropped.
 ///
 /// # Complexity
-/// O(`rooms` + `turns` + l), for l lists, in all threads together.
+/// O(`rooms` + n + l), for n messages in l lists, in all threads together, besides the tries of threads that wait.
 ///
 /// # Waits
-/// For the threads that it starts, and for nothing else.
-pub fn deliver<R: Threads + Sync>(
+/// For the threads that it starts. A sender that finds the queue full tries again until a room is free. The receiver
+/// sleeps while the queue is empty. If no thread can be started for a list, it is sent after others.
+pub fn deliver<R: Threads + Wait + Sync>(
     rt: &R,
     alloc: Global,
     lists: &[Vec<u64>],
     rooms: usize,
-    turns: u64,
 ) -> Result<Delivered, AllocError>
-    requires room { how_many (contents lists.now) ≤ rooms }
+    requires room { 1 ≤ rooms }
     requires few { rooms ≤ MAX_ROOMS }
     ensures delivers { IfOk result (λ all. Delivers (contents lists.now) all.messages.items) }
-    ensures tries { IfOk result (λ all. all.tries ≡ turns) }
 {
     let (queue, mut receiver) = MpscQueue::new(alloc, rooms)?;
-    let sender = queue.split(&mut receiver, rooms);
-    let (got, sent) = thread::join(
-        rt,
-        || -> Result<Inbox, AllocError>
-            requires { receiver.table ≡ queue.table }
-            ensures { IfOk result (λ back. Moves value_of [] back.received.items receiver back.party
-                × (back.tries ≡ turns)) }
-        { receive(alloc, &queue, receiver, turns) },
-        || -> Result<Party<Message>, AllocError>
-            requires { IsSync R.row × MaySend (contents lists.now) queue.table sender }
-            ensures { IfOk result (λ back. Sends value_of (contents lists.entry.now) sender back) }
-        { send_each(rt, alloc, &queue, sender, lists) },
-    );
-    let inbox = got?;
-    let (mut party, mut received) = (inbox.party, inbox.received);
-    queue.absorb(&mut party, sent?);
+    queue.give_back(&mut receiver, rooms);
+    let sender = queue.split(&mut receiver, 0);
+    let both = exchange(rt, alloc, &queue, receiver, sender, lists)?;
+    let (inbox, sent) = both;
+    let Inbox {
+        mut party,
+        received,
+    } = inbox;
+    let Some(mut messages) = received else {
+        return Err(AllocError);
+    };
+    queue.absorb(&mut party, sent);
     for letter in queue.close(party).elements {
-        received.push(letter.get().value)?;
+        messages.push(letter.get().value)?;
     }
-    Ok(Delivered {
-        messages: received,
-        tries: inbox.tries,
-    })
+    Ok(Delivered { messages })
 }

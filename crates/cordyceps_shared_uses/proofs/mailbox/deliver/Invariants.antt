@@ -4,4 +4,4 @@ use Rattle.cordyceps_shared_uses.specs.Mailbox.{contents, value_of}
 use Rattle.cordyceps_shared_uses.proofs.mailbox.deliver.Given as goal
 
 abbrev pub invariant-loop-letter : goal.invariant-loop-letter
-invariant-loop-letter g l = Delivers (contents l.fn.lists) (l.received.items ++ map value_of l.letter-iterator)
+invariant-loop-letter g l = Delivers (contents l.fn.lists) (l.messages.items ++ map value_of l.letter-iterator)

@@ -1,7 +1,8 @@
-use Rattle.std.proofs.Common.{◌≡◌, []}
+use Rattle.std.proofs.Common.{◌≡◌, List, ℕ, []}
+use Rattle.std.specs.Prelude.{IfSome}
 use Rattle.cordyceps.specs.Queues.Moves.{Moves}
 use Rattle.cordyceps_shared_uses.specs.Mailbox.{value_of}
 use Rattle.cordyceps_shared_uses.proofs.mailbox.receive.Given as goal
 
-abbrev pub invariant-loop-turn : goal.invariant-loop-turn
-invariant-loop-turn l = Moves value_of [] l.received.items l.fn.party l.party × (l.tries ≡ l._turn)
+abbrev pub invariant-loop : goal.invariant-loop
+invariant-loop g l = (got : List ℕ) × Moves value_of [] got l.fn.party l.party × IfSome l.received (λ all. all.items ≡ got)
