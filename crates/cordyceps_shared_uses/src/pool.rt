@@ -87,8 +87,9 @@ fn use_both<R: Threads>(
 /// the first thread, with the second, and in the pool: each block that the two had at the start is there once, and no
 /// other.
 ///
-/// Each thread starts with `rooms` rooms. A block that it puts back for all uses one, and the thread that takes the
-/// block gets the room. Requires that `rooms` is at most half of `MAX_ROOMS`.
+/// Each thread starts with `rooms` rooms, which bound the number of its blocks that wait in the pool, however many
+/// commands it has. A block that it puts back for all uses one, and the thread that takes the block gets the room. A
+/// thread without a room keeps the block. Requires that `rooms` is at most half of `MAX_ROOMS`.
 ///
 /// # Errors
 /// If memory for the rooms is refused, it returns `AllocError`, and the blocks are dropped.
