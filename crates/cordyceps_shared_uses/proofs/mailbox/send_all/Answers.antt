@@ -1,4 +1,3 @@
-use Rattle.std.proofs.Common.{◌∙◌}
 use Rattle.std.proofs.lemmas.Result.{IfOk-at_ok}
 use Rattle.cordyceps.proofs.Queues.Sending.{then_nothing}
 use Rattle.cordyceps_shared_uses.specs.Mailbox.{value_of}

@@ -1,4 +1,4 @@
-use Rattle.std.proofs.Common.{◌≡◌, [], ◌∷◌, refl, ◌∙◌, subst}
+use Rattle.std.proofs.Common.{[], ◌∷◌, refl, ◌∙◌, subst}
 use Rattle.cordyceps.specs.Elements.Element.{Element}
 use Rattle.cordyceps.specs.Transfers.Moves.{put_by, got_by, Moves}
 use Rattle.cordyceps.proofs.Parties.Moving.{moves_none, moves_then}
