@@ -6,8 +6,6 @@
 //! depend on the order in which the threads run.
 #![tactic(auto)]
 
-ghost use Rattle.std.specs.Prelude.{◌≤◌, length, IfSome};
-
 use cordyceps::{List, Stack};
 use cordyceps_shared_uses::scheduler::places::Task;
 use cordyceps_shared_uses::scheduler::{Outcome, birth, run};
@@ -21,16 +19,14 @@ const TASKS: u32 = 10_000;
 /// The number of rounds of each task.
 const ROUNDS: u32 = 5;
 
-/// The number of rooms of the queue: one for each round of each task.
-const ROOMS: usize = 50_000;
+/// The number of rooms of the queue, which bounds how many tasks are on their way at once.
+const ROOMS: usize = 256;
 
 /// The number of turns in which a thread looks for something to do, at most.
 const TURNS: u64 = 1_000_000_000;
 
 /// Creates the tasks, each in a node of its own, or returns `None` if memory is refused.
-fn births(alloc: Global) -> Option<List<Task>>
-    ensures { IfSome result (λ tasks. length tasks ≤ ROOMS) }
-{
+fn births(alloc: Global) -> Option<List<Task>> {
     let mut tasks = List::new();
     for number in 0..TASKS {
         let task = birth(alloc, number, ROUNDS, 1).ok()?;
@@ -76,7 +72,7 @@ fn show(rt: &HostRuntime, outcome: Outcome) -> io::Result<()> {
     println!(rt; "rounds {rounds}")
 }
 
-/// Exits with 0, with 2 if the output cannot be written, or with 4 if memory is refused.
+/// Exits with 0, with 2 if the output cannot be written, or with 4 if memory is refused or a thread cannot be started.
 fn main(rt: HostRuntime) -> ExitCode {
     let Some(tasks) = births(rt.alloc()) else {
         return out_of_memory(&rt);

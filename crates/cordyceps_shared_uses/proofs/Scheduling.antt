@@ -9,16 +9,16 @@ use Rattle.cordyceps.specs.Parties.Histories.{plain}
 use Rattle.cordyceps.specs.Parties.Seated.{TableId}
 use Rattle.cordyceps.specs.Parties.Sending.{Splits}
 use Rattle.cordyceps.specs.Parties.Shares.{whole}
-use Rattle.cordyceps.specs.Parties.Standings.{new_party, Absorbs}
+use Rattle.cordyceps.specs.Parties.Standings.{new_party, Absorbs, GivesBack}
 use Rattle.cordyceps.proofs.Parties.Counting.{tally_append}
-use Rattle.cordyceps.proofs.Parties.Moving.{moves_none, moves_then}
+use Rattle.cordyceps.proofs.Parties.Moving.{moves_none, moves_then, moves_given}
 use Rattle.cordyceps.proofs.Parties.Sending.{exchanged}
 use Rattle.cordyceps.specs.Queues.History.{held}
-use Rattle.cordyceps.specs.Queues.Calls.{Legal, same_name, Enqueues, Dequeues}
+use Rattle.cordyceps.specs.Queues.Calls.{Legal, same_name, Dequeues}
 use Rattle.cordyceps.specs.Queues.Moves.{put_by, got_by, Moves, got_by_try}
 use Rattle.cordyceps.specs.Queues.TryDequeueError.{TryDequeueError}
 use Rattle.cordyceps.proofs.Queues.PartyMoves.{all_kept, moves_dequeue}
-use Rattle.cordyceps.proofs.Queues.Sending.{then_enqueues}
+use Rattle.cordyceps.proofs.Queues.Sending.{then_nothing}
 use Rattle.cordyceps_shared_uses.specs.declared.timers.Timer.{Timer}
 use Rattle.cordyceps_shared_uses.specs.declared.scheduler.name.Name.{Name}
 use Rattle.cordyceps_shared_uses.specs.declared.scheduler.work.Work.{Work}
@@ -81,10 +81,10 @@ moved_none a = record { table = refl; parts = refl; got = λ f. omega arith; gav
 pub woken_none : (a : Entries) (u : Seat) → Woken a a u u
 woken_none a u = record { tasks = []; sent = moves_none (put_by name_of) (got_by name_of) u; moved = moved_none a }
 
-pub woken_more : {a b : Entries} {u v : Seat} (e : Element (Timer Work)) (c : Entries) (w : Seat) → Woken a b u v → c ≡ after_getting (name_of e) b → Enqueues e v w → Woken a c u w
-woken_more e c w is more at = record {
+pub woken_more : {a b : Entries} {u v : Seat} (e : Element (Timer Work)) (c : Entries) (w : Seat) → Woken a b u v → c ≡ after_getting (name_of e) b → Sent (name_of e ∷ []) v w → Woken a c u w
+woken_more {u = u} {v = v} e c w is more at = record {
   tasks = is.tasks ++ name_of e ∷ [];
-  sent = then_enqueues name_of e w is.sent at;
+  sent = moves_then (put_by name_of) (got_by name_of) is.tasks [] (name_of e ∷ []) [] u v w is.sent at;
   moved = record {
     table = ap (λ (z : Entries). z.table) more ∙ is.moved.table;
     parts = ap (λ (z : Entries). z.parts) more ∙ is.moved.parts;
@@ -135,6 +135,14 @@ came_one a c t u w e at =
       gave = λ f. omega (arith, ap (λ (z : Entries). tally f z.gave) e);
     })
     at
+
+-- and then it gave rooms to the pool
+pub came_given : {a b : Entries} {u v : Seat} → Came a b u v → (n : ℕ) (gave : Bool) (w : Seat) → GivesBack n gave v w → Came a b u w
+came_given {v = v} is n gave w given = record {
+  tasks = is.tasks;
+  took = then_nothing name_of w is.took (moves_given (put_by name_of) (got_by name_of) n gave v w given);
+  moved = is.moved;
+}
 
 -- ---- what a worker did
 -- t is done, maybe as the task e, which has its name

@@ -1,7 +1,7 @@
 //! A scheduler that runs tasks on four threads. A task waits for a worker, runs a round, sleeps until it is due again,
 //! and so on until all its rounds are done. It stays in the node in which it was created, which passes through a queue,
 //! a list, timers and a stack.
-ghost use Rattle.std.specs.Prelude.{◌≡◌, ℕ, ◌+◌, ◌≤◌, [], length, true, IfErr, IfOk};
+ghost use Rattle.std.specs.Prelude.{◌≡◌, ℕ, ◌+◌, ◌≤◌, [], true, IfErr, IfOk};
 ghost use Rattle.std.specs.Thread.{IsSync};
 ghost use Rattle.cordyceps.specs.Parties.Counts.{tally, Same};
 ghost use Rattle.cordyceps_shared_uses.specs.Accounts.{Holds, IsOpen, opened};
@@ -19,18 +19,20 @@ pub mod work;
 
 use crate::scheduler::accounts::{Account, Accounts};
 use crate::scheduler::places::{Run, Runnable, Sleepers, Task};
-use crate::scheduler::threads::{Shared, Worked, dispatch, submit, wake, work};
+use crate::scheduler::threads::{Alarms, Shared, Worked, dispatch, submit, wake, work};
 use crate::scheduler::work::Work;
 use crate::timers::{Timer, Timers};
 use cordyceps::list::Links;
 use cordyceps::mpsc_queue::{Batch, MAX_ROOMS, Party};
 use cordyceps::{List, MpscQueue, Node, Refused, Stack};
-use std::alloc::Global;
+use crossbeam_utils::sync::Parker;
+use std::alloc::{AllocError, Global};
 use std::marker::Brand;
-use std::sync::atomic::AtomicU64;
+use std::snapshot::Snapshot;
+use std::sync::atomic::{AtomicBool, AtomicU64};
 use std::sync::{Mutex, Wait};
 use std::thread;
-use std::thread::Threads;
+use std::thread::{Promise, Threads};
 
 /// The places of all tasks at the end.
 #[derive(Drop)]
@@ -111,6 +113,32 @@ struct Actor {
     account: Account,
 }
 
+/// What the four threads sleep on.
+#[derive(Drop)]
+struct Beds {
+    submitter: Parker,
+    dispatcher: Parker,
+    workers: (Parker, Parker),
+}
+
+/// Creates what the four threads sleep on, and what wakes them.
+fn make_beds(alloc: Global) -> Result<(Beds, Alarms), AllocError> {
+    let beds = Beds {
+        submitter: Parker::new(alloc)?,
+        dispatcher: Parker::new(alloc)?,
+        workers: (Parker::new(alloc)?, Parker::new(alloc)?),
+    };
+    let alarms = Alarms {
+        submitter: beds.submitter.unparker().clone()?,
+        dispatcher: beds.dispatcher.unparker().clone()?,
+        workers: (
+            beds.workers.0.unparker().clone()?,
+            beds.workers.1.unparker().clone()?,
+        ),
+    };
+    Ok((beds, alarms))
+}
+
 /// Sends all tasks to the dispatcher, and then wakes those that are due.
 fn submit_and_wake<L: Run, R: Wait>(
     rt: &R,
@@ -118,15 +146,24 @@ fn submit_and_wake<L: Run, R: Wait>(
     mut from: Actor,
     shared: &Shared<L>,
     tasks: List<Task>,
+    bed: &Parker,
     turns: u64,
 ) -> Actor
     requires table { from.party.table ≡ queue.now.table }
-    requires room { length tasks ≤ from.party.rooms }
     requires of { IsOpen L.accounts from.account }
     ensures { SentAll (names tasks) from.account result.account from.party result.party }
 {
-    submit(queue, &mut from.party, tasks);
-    wake(rt, queue, &mut from.party, shared, &mut from.account, turns);
+    submit(rt, queue, &mut from.party, shared, tasks);
+    wake(
+        rt,
+        queue,
+        &mut from.party,
+        shared,
+        &mut from.account,
+        bed,
+        turns,
+    );
+    shared.end_sending();
     from
 }
 
@@ -136,67 +173,46 @@ fn dispatch_all<L: Run, R: Wait>(
     queue: &MpscQueue<Task>,
     mut from: Actor,
     shared: &Shared<L>,
-    turns: u64,
+    bed: &Parker,
 ) -> Actor
     requires table { from.party.table ≡ queue.now.table }
     requires of { IsOpen L.accounts from.account }
     ensures { Came from.account result.account from.party result.party }
 {
-    dispatch(rt, queue, &mut from.party, shared, &mut from.account, turns);
+    dispatch(rt, queue, &mut from.party, shared, &mut from.account, bed);
     from
 }
 
-/// Runs two workers, each on a thread.
-fn work_both<L: Run + Send + Sync, R: Threads + Wait + Sync>(
-    rt: &R,
-    shared: &Shared<L>,
-    workers: (Account, Account),
-    turns: u64,
-) -> (Worked<L>, Worked<L>)
-    requires of { IsOpen L.accounts workers.0 × IsOpen L.accounts workers.1 }
-    requires none { Holds workers.0 [] × Holds workers.1 [] }
-{
-    let (first, second) = workers;
-    thread::join(
-        rt,
-        || -> Worked<L>
-            requires { IsSync R.row × IsOpen L.accounts first × Holds first [] }
-        { work(rt, shared, first, turns) },
-        || -> Worked<L>
-            requires { IsSync R.row × IsOpen L.accounts second × Holds second [] }
-        { work(rt, shared, second, turns) },
-    )
+/// The promise of a dispatcher.
+#[derive(Drop)]
+struct Dispatches {
+    from: Snapshot<Actor>,
 }
 
-/// Runs a dispatcher and two workers, each on a thread.
-fn run_three<L: Run + Send + Sync, R: Threads + Wait + Sync>(
-    rt: &R,
-    queue: &MpscQueue<Task>,
+impl Promise<Actor> for Dispatches {
+    ghost kept_by = { λ dispatches back.
+        Came dispatches.from.value.account back.account dispatches.from.value.party back.party };
+}
+
+/// What the four threads return.
+#[derive(Drop)]
+struct Ended<L: Run> {
+    submitter: Actor,
     dispatcher: Actor,
-    shared: &Shared<L>,
-    workers: (Account, Account),
-    turns: u64,
-) -> (Actor, (Worked<L>, Worked<L>))
-    requires dispatcher { (dispatcher.party.table ≡ queue.now.table) × IsOpen L.accounts dispatcher.account }
-    requires of { IsOpen L.accounts workers.0 × IsOpen L.accounts workers.1 }
-    requires none { Holds workers.0 [] × Holds workers.1 [] }
-    ensures { Came dispatcher.account result.0.account dispatcher.party result.0.party }
-{
-    thread::join(
-        rt,
-        || -> Actor
-            requires { IsSync R.row × (dispatcher.party.table ≡ queue.now.table)
-                × IsOpen L.accounts dispatcher.account }
-            ensures { Came dispatcher.account result.account dispatcher.party result.party }
-        { dispatch_all(rt, queue, dispatcher, shared, turns) },
-        || -> (Worked<L>, Worked<L>)
-            requires { IsSync R.row × IsOpen L.accounts workers.0 × IsOpen L.accounts workers.1
-                × Holds workers.0 [] × Holds workers.1 [] }
-        { work_both(rt, shared, workers, turns) },
-    )
+    workers: (Worked<L>, Worked<L>),
 }
 
-/// Runs a submitter, a dispatcher and two workers, each on a thread.
+/// Ends the threads that were started, where another one could not be. Nothing was sent before.
+fn give_up<L: Run>(shared: &Shared<L>, tasks: List<Task>) -> Result<Ended<L>, List<Task>>
+    ensures { result ≡ Err tasks }
+{
+    shared.end_sending();
+    shared.call_off();
+    Err(tasks)
+}
+
+/// Runs a dispatcher and two workers, each on a thread of its own, and then a submitter in this one. If a thread cannot
+/// be started, the tasks are returned, none of which was run.
 fn run_four<L: Run + Send + Sync, R: Threads + Wait + Sync>(
     rt: &R,
     queue: &MpscQueue<Task>,
@@ -205,30 +221,69 @@ fn run_four<L: Run + Send + Sync, R: Threads + Wait + Sync>(
     dispatcher: Actor,
     shared: &Shared<L>,
     workers: (Account, Account),
+    beds: Beds,
     turns: u64,
-) -> (Actor, (Actor, (Worked<L>, Worked<L>)))
+) -> Result<Ended<L>, List<Task>>
     requires submitter { (submitter.party.table ≡ queue.now.table) × IsOpen L.accounts submitter.account }
-    requires room { length tasks ≤ submitter.party.rooms }
     requires dispatcher { (dispatcher.party.table ≡ queue.now.table) × IsOpen L.accounts dispatcher.account }
     requires of { IsOpen L.accounts workers.0 × IsOpen L.accounts workers.1 }
     requires none { Holds workers.0 [] × Holds workers.1 [] }
-    ensures sent { SentAll (names tasks) submitter.account result.0.account submitter.party result.0.party }
-    ensures came { Came dispatcher.account result.1.0.account dispatcher.party result.1.0.party }
+    ensures sent { IfOk result (λ e.
+        SentAll (names tasks) submitter.account e.submitter.account submitter.party e.submitter.party) }
+    ensures came { IfOk result (λ e.
+        Came dispatcher.account e.dispatcher.account dispatcher.party e.dispatcher.party) }
+    ensures back { IfErr result (λ back. back ≡ tasks) }
 {
-    thread::join(
+    let (one, two) = workers;
+    let Beds {
+        submitter: own_bed,
+        dispatcher: bed,
+        workers: (first_bed, second_bed),
+    } = beds;
+    thread::scope(
+        thread::scope_env(),
         rt,
-        || -> Actor
+        move |scope| -> Result<Ended<L>, List<Task>>
             requires { IsSync R.row × (submitter.party.table ≡ queue.now.table)
-                × IsOpen L.accounts submitter.account × (length tasks ≤ submitter.party.rooms) }
-            ensures { SentAll (names tasks) submitter.account result.account submitter.party result.party }
-        { submit_and_wake(rt, queue, submitter, shared, tasks, turns) },
-        || -> (Actor, (Worked<L>, Worked<L>))
-            requires { IsSync R.row × (dispatcher.party.table ≡ queue.now.table)
-                × IsOpen L.accounts dispatcher.account
-                × IsOpen L.accounts workers.0 × IsOpen L.accounts workers.1
-                × Holds workers.0 [] × Holds workers.1 [] }
-            ensures { Came dispatcher.account result.0.account dispatcher.party result.0.party }
-        { run_three(rt, queue, dispatcher, shared, workers, turns) },
+                × IsOpen L.accounts submitter.account × (dispatcher.party.table ≡ queue.now.table)
+                × IsOpen L.accounts dispatcher.account × IsOpen L.accounts one × IsOpen L.accounts two
+                × Holds one [] × Holds two [] }
+            ensures sent { IfOk result (λ e.
+                SentAll (names tasks) submitter.account e.submitter.account submitter.party e.submitter.party) }
+            ensures came { IfOk result (λ e.
+                Came dispatcher.account e.dispatcher.account dispatcher.party e.dispatcher.party) }
+            ensures back { IfErr result (λ back. back ≡ tasks) }
+        {
+            let promise = Dispatches {
+                from: Snapshot::of(&dispatcher),
+            };
+            let dispatch_on = move || -> Actor
+                requires { IsSync R.row × (dispatcher.party.table ≡ queue.now.table)
+                    × IsOpen L.accounts dispatcher.account }
+                ensures { Came dispatcher.account result.account dispatcher.party result.party }
+            { dispatch_all(rt, queue, dispatcher, shared, &bed) };
+            let Ok(dispatching) = scope.spawn_with(promise, dispatch_on) else {
+                return give_up(shared, tasks);
+            };
+            let work_on = move || -> Worked<L>
+                requires { IsSync R.row × IsOpen L.accounts one × Holds one [] }
+            { work(rt, shared, one, &first_bed, turns) };
+            let Ok(first) = scope.spawn(work_on) else {
+                return give_up(shared, tasks);
+            };
+            let work_on = move || -> Worked<L>
+                requires { IsSync R.row × IsOpen L.accounts two × Holds two [] }
+            { work(rt, shared, two, &second_bed, turns) };
+            let Ok(second) = scope.spawn(work_on) else {
+                return give_up(shared, tasks);
+            };
+            let submitter = submit_and_wake(rt, queue, submitter, shared, tasks, &own_bed, turns);
+            Ok(Ended {
+                submitter,
+                dispatcher: dispatching.join(rt),
+                workers: (first.join(rt), second.join(rt)),
+            })
+        },
     )
 }
 
@@ -253,6 +308,9 @@ fn settle<L: Run>(
         runnable,
         accounts,
         unfinished: _,
+        is_called_off: _,
+        has_sent_all: _,
+        alarms: _,
     } = shared;
     let (asleep, mut account) = sleepers.into_inner().into_tasks();
     let (runnable, other) = runnable.into_inner().into_tasks();
@@ -272,7 +330,13 @@ fn settle<L: Run>(
 }
 
 /// Creates what the threads share, with no task in either place.
-fn open<L: Run>(accounts: Accounts, sleepers: Account, runnable: Account, tasks: usize) -> Shared<L>
+fn open<L: Run>(
+    accounts: Accounts,
+    sleepers: Account,
+    runnable: Account,
+    alarms: Alarms,
+    tasks: usize,
+) -> Shared<L>
     requires accounts { (accounts.table ≡ L.accounts) × (accounts.parts ≡ 6) }
     requires places { (sleepers ≡ opened accounts.table 1) × (runnable ≡ opened accounts.table 1) }
 {
@@ -281,6 +345,9 @@ fn open<L: Run>(accounts: Accounts, sleepers: Account, runnable: Account, tasks:
         runnable: Mutex::new(Runnable::<L>::new(runnable)),
         accounts,
         unfinished: AtomicU64::new(tasks as u64),
+        is_called_off: AtomicBool::new(false),
+        has_sent_all: AtomicBool::new(false),
+        alarms,
     }
 }
 
@@ -296,13 +363,16 @@ fn run_in<L: Run + Send + Sync, R: Threads + Wait + Sync>(
 ) -> Result<Outcome, List<Task>>
     requires accounts { (accounts.table ≡ L.accounts) × (accounts.parts ≡ 6) }
     requires account { account ≡ opened accounts.table 6 }
-    requires room { length tasks ≤ rooms }
+    requires room { 1 ≤ rooms }
     requires few { rooms ≤ MAX_ROOMS }
     ensures each_once { IfOk result (λ o. Same (names tasks) (everywhere o)) }
     ensures done { IfOk result (λ o. (all_done o.done.0 ≡ true) × (all_done o.done.1 ≡ true)) }
     ensures back { IfErr result (λ back. back ≡ tasks) }
 {
     let Ok((queue, mut party)) = MpscQueue::<Task>::new(alloc, rooms) else {
+        return Err(tasks);
+    };
+    let Ok((beds, alarms)) = make_beds(alloc) else {
         return Err(tasks);
     };
     let Opened {
@@ -312,7 +382,7 @@ fn run_in<L: Run + Send + Sync, R: Threads + Wait + Sync>(
         dispatcher,
         workers,
     } = cut(&accounts, account);
-    let shared = open::<L>(accounts, sleepers, runnable, tasks.len());
+    let shared = open::<L>(accounts, sleepers, runnable, alarms, tasks.len());
     let submitter = Actor {
         party: queue.split(&mut party, rooms),
         account: submitter,
@@ -321,9 +391,14 @@ fn run_in<L: Run + Send + Sync, R: Threads + Wait + Sync>(
         party,
         account: dispatcher,
     };
-    let (sent, (came, done)) = run_four(
-        rt, &queue, submitter, tasks, dispatcher, &shared, workers, turns,
-    );
+    let ended = run_four(
+        rt, &queue, submitter, tasks, dispatcher, &shared, workers, beds, turns,
+    )?;
+    let Ended {
+        submitter: sent,
+        dispatcher: came,
+        workers: done,
+    } = ended;
     let mut party = came.party;
     queue.absorb(&mut party, sent.party);
     let on_way = queue.close(party).elements;
@@ -335,21 +410,23 @@ fn run_in<L: Run + Send + Sync, R: Threads + Wait + Sync>(
 /// one round of a task at a time. At the end each task that was given is in one place: it sleeps, is on its way, waits
 /// for a worker, or is done. A task that is done has run all its rounds.
 ///
-/// Each thread ends when all tasks are done, or after `turns` turns. The submitter also ends when it has no room left
-/// in the queue. The queue has `rooms` rooms, and a task needs one for each of its rounds, and at least one. Requires
-/// that `rooms` is at least the number of tasks, and at most `MAX_ROOMS`.
+/// The run ends when all tasks are done, or when the submitter or a worker has used up its `turns` turns. A thread that
+/// finds nothing to do sleeps until another one wakes it. The queue has `rooms` rooms, which bound the number of tasks
+/// that are on their way. The room of a task that was dispatched is used again, so neither the tasks nor their rounds
+/// have a bound. Requires that `rooms` is at least 1 and at most `MAX_ROOMS`.
 ///
 /// # Errors
-/// If memory for the accounts or the queue is refused, the tasks are returned, none of which was run. Nothing else is
-/// allocated.
+/// If memory is refused, or a thread cannot be started, the tasks are returned, none of which was run. It allocates the
+/// accounts, the queue, and what the threads sleep on, and nothing else.
 ///
 /// # Complexity
-/// O(`rooms` + n), for n tasks, and at most `turns` turns of each thread. A turn is O(1) amortized, with two
-/// exceptions. If no task is due, a turn of the submitter costs as much as `Timers::first_deadline`. If `usize::MAX`
-/// tasks sleep, a worker runs all rounds of a task in one turn.
+/// O(`rooms` + n), for n tasks, and at most `turns` turns of the submitter and of each worker, besides the tries while
+/// no room is free. A turn is O(1) amortized, with two exceptions. If no task is due, a turn of the submitter costs as
+/// much as `Timers::first_deadline`. If `usize::MAX` tasks sleep, a worker runs all rounds of a task in one turn.
 ///
 /// # Waits
-/// For the threads that it starts, and for two locks. No thread waits for anything else while it holds a lock.
+/// For the threads that it starts, and for two locks. No thread waits for anything else while it holds a lock. The
+/// submitter tries again while no room is free, until the dispatcher gives one back.
 pub fn run<R: Threads + Wait + Sync>(
     rt: &R,
     alloc: Global,
@@ -357,7 +434,7 @@ pub fn run<R: Threads + Wait + Sync>(
     rooms: usize,
     turns: u64,
 ) -> Result<Outcome, List<Task>>
-    requires room { length tasks ≤ rooms }
+    requires room { 1 ≤ rooms }
     requires few { rooms ≤ MAX_ROOMS }
     ensures each_once { IfOk result (λ o. Same (names tasks) (everywhere o)) }
     ensures done { IfOk result (λ o. (all_done o.done.0 ≡ true) × (all_done o.done.1 ≡ true)) }

@@ -16,8 +16,11 @@ use std::process::Abort;
 use std::sync::Wait;
 use std::thread::Threads;
 
-/// How often the threads look for something to do, at most.
+/// How often a thread looks for something to do, at most.
 const TURNS: u64 = 1_000_000_000;
+
+/// The number of runs with one number of rooms. All are a thousand runs.
+const ROUNDS: u64 = 250;
 
 /// Makes a task, and asks again where memory was refused.
 fn task(
@@ -119,7 +122,7 @@ fn counted<R: Threads + Wait + Abort + Sync>(
     seen: &mut [bool],
     rounds: u32,
 ) -> Counts
-    requires { (length tasks ≤ rooms) × (rooms ≤ MAX_ROOMS) }
+    requires { (1 ≤ rooms) × (rooms ≤ MAX_ROOMS) }
 {
     let again = match run(rt, alloc, tasks, rooms, turns) {
         Ok(outcome) => return count(seen, outcome, rounds),
@@ -135,46 +138,61 @@ fn counted<R: Threads + Wait + Abort + Sync>(
 fn each_task_is_done_once(rt: HostRuntime) -> Result<(), AllocError> {
     let mut seen = Vec::from_elem(rt.alloc(), false, 10_000)?;
     let tasks = tasks(&rt, rt.alloc(), 10_000, 5, 1);
-    let counts = counted(&rt, rt.alloc(), tasks, 50_000, TURNS, &mut seen, 5);
+    let counts = counted(&rt, rt.alloc(), tasks, 256, TURNS, &mut seen, 5);
     same(&rt, counts, all_done(10_000));
     Ok(())
 }
 
-/// Makes eight tasks of three rounds each, runs them on a queue of this many rooms, for this many turns, and asserts
+/// Makes eight tasks of three rounds each, runs them on a queue of this many rooms, for this many turns, and returns
 /// where they are in the end.
 fn eight<R: Threads + Wait + Abort + Sync>(
     rt: &R,
     alloc: Global,
     rooms: usize,
     turns: u64,
-    wanted: Counts,
-)
-    requires { (8 ≤ rooms) × (rooms ≤ MAX_ROOMS) }
+) -> Counts
+    requires { (1 ≤ rooms) × (rooms ≤ MAX_ROOMS) }
 {
     let tasks = tasks(rt, alloc, 8, 3, 4);
-    let counts = counted(rt, alloc, tasks, rooms, turns, &mut [false; 8], 3);
-    same(rt, counts, wanted);
+    counted(rt, alloc, tasks, rooms, turns, &mut [false; 8], 3)
 }
 
 #[test]
 fn tasks_come_back_where_memory_is_refused(rt: HostRuntime) {
-    eight(&rt, rt.alloc(), 24, TURNS, all_done(8));
+    same(&rt, eight(&rt, rt.alloc(), 4, TURNS), all_done(8));
 }
 
 #[test]
-fn tasks_sleep_or_stay_on_their_way(rt: HostRuntime) {
-    // the queue has no room for a second round
-    let asleep = Counts {
-        asleep: 8,
+fn no_wakeup_is_lost(rt: HostRuntime) {
+    for rooms in 1..5usize {
+        for _round in 0..ROUNDS {
+            same(&rt, eight(&rt, rt.alloc(), rooms, TURNS), all_done(8));
+        }
+    }
+}
+
+#[test]
+fn tasks_stay_somewhere_where_the_turns_end(rt: HostRuntime) {
+    // no worker takes a task
+    let waiting = Counts {
+        runnable: 8,
         ..all_done(0)
     };
-    eight(&rt, rt.alloc(), 8, 100_000, asleep);
-    // nobody takes a task
-    let on_way = Counts {
-        on_way: 8,
-        ..all_done(0)
-    };
-    eight(&rt, rt.alloc(), 24, 0, on_way);
+    same(&rt, eight(&rt, rt.alloc(), 4, 0), waiting);
+    for turns in 1..16u64 {
+        let Counts {
+            asleep,
+            on_way,
+            runnable,
+            done,
+            wrong,
+        } = eight(&rt, rt.alloc(), 4, turns);
+        let places = [asleep, on_way as u64, runnable as u64, done];
+        let all = places
+            .iter()
+            .fold(0u64, |sum, count| sum.wrapping_add(*count));
+        same(&rt, (all, wrong), (8, 0));
+    }
 }
 
 /// What one thread has that runs tasks alone: the two places, its account, and the numbers of those that are done, in

@@ -1,7 +1,7 @@
 //! The work of the scheduler's four threads: one sends tasks and wakes them, one dispatches them, and two run them.
-ghost use Rattle.std.specs.Prelude.{◌≡◌, ◌≤◌, ◌<◌, [], ◌∷◌, length, true};
+ghost use Rattle.std.specs.Prelude.{◌≡◌, ◌<◌, [], ◌∷◌, true, MatchOption};
 ghost use Rattle.cordyceps.specs.Elements.Element.{Element};
-ghost use Rattle.cordyceps_shared_uses.specs.Accounts.{Holds, IsOpen};
+ghost use Rattle.cordyceps_shared_uses.specs.Accounts.{Holds, IsOpen, after_getting};
 ghost use Rattle.cordyceps_shared_uses.specs.Names.{names, name_of};
 ghost use Rattle.cordyceps_shared_uses.specs.Scheduler.{all_done, Ran};
 ghost use Rattle.cordyceps_shared_uses.specs.Ways.{Sent, Came, Settles, Woken};
@@ -10,14 +10,45 @@ ghost use Rattle.cordyceps_shared_uses.specs.declared.timers.Timer.{Timer};
 
 use crate::scheduler::accounts::{Account, Accounts};
 use crate::scheduler::places::{Run, Runnable, Sleepers, Task};
-use cordyceps::mpsc_queue::Party;
+use cordyceps::mpsc_queue::{Party, TryDequeueError};
 use cordyceps::{List, MpscQueue, Node, Stack, list};
+use crossbeam_utils::sync::{Parker, Unparker};
 use std::marker::PhantomData;
-use std::sync::atomic::{AtomicU64, Ordering};
+use std::sync::atomic::{AtomicBool, AtomicU64, Ordering};
 use std::sync::{Mutex, Wait};
 use std::thread;
 
+/// What wakes each thread. A thread that is awake does not sleep the next time that it is about to.
+#[derive(Drop)]
+pub struct Alarms {
+    /// What wakes the submitter.
+    pub submitter: Unparker,
+    /// What wakes the dispatcher.
+    pub dispatcher: Unparker,
+    /// What wakes each worker.
+    pub workers: (Unparker, Unparker),
+}
+
+impl Alarms {
+    /// Wakes both workers.
+    fn wake_workers(&self) {
+        self.workers.0.unpark();
+        self.workers.1.unpark();
+    }
+
+    /// Wakes all threads.
+    fn wake_all(&self) {
+        self.submitter.unpark();
+        self.dispatcher.unpark();
+        self.wake_workers();
+    }
+}
+
 /// What the threads share besides the queue.
+///
+/// A thread sleeps while it has nothing to do. No wake-up is lost: who puts a task into a place wakes the threads that
+/// take from it after that, who ends the run wakes all threads after that, and a wake-up before the sleep ends the sleep
+/// at once. This is tested, but no contract states it.
 #[derive(Drop)]
 pub struct Shared<L: Run> {
     /// The place where tasks sleep.
@@ -28,14 +59,32 @@ pub struct Shared<L: Run> {
     pub accounts: Accounts,
     /// The number of tasks that are not done.
     pub unfinished: AtomicU64,
+    /// Whether the run ends before all tasks are done.
+    pub is_called_off: AtomicBool,
+    /// Whether the submitter sends no more tasks.
+    pub has_sent_all: AtomicBool,
+    /// What wakes the threads.
+    pub alarms: Alarms,
     ghost of: { accounts.table ≡ L.accounts },
     ghost six: { accounts.parts ≡ 6 },
 }
 
 impl<L: Run> Shared<L> {
-    /// Returns `true` if all tasks are done.
+    /// Returns `true` if all tasks are done, or the run was called off.
     fn is_over(&self) -> bool {
-        self.unfinished.load(Ordering::SeqCst) == 0
+        self.is_called_off.load(Ordering::SeqCst) || self.unfinished.load(Ordering::SeqCst) == 0
+    }
+
+    /// Ends the run for all threads.
+    pub(crate) fn call_off(&self) {
+        self.is_called_off.store(true, Ordering::SeqCst);
+        self.alarms.wake_all();
+    }
+
+    /// Tells the dispatcher that no task is sent any more.
+    pub(crate) fn end_sending(&self) {
+        self.has_sent_all.store(true, Ordering::SeqCst);
+        self.alarms.dispatcher.unpark();
     }
 }
 
@@ -53,37 +102,87 @@ pub struct Worked<L: Run> {
     ghost finished: { all_done done ≡ true },
 }
 
-/// Sends new tasks to the dispatcher, in order. Requires that the party has a room for each. Allocates nothing.
+/// Sends a task to the dispatcher and wakes it. While no room is free, it yields to other threads and tries again.
+fn send<L: Run, R: Wait>(
+    rt: &R,
+    queue: &MpscQueue<Task>,
+    party: &mut Party<Task>,
+    shared: &Shared<L>,
+    task: Node<Task, list::Links<Task>>,
+)
+    requires { party.old.table ≡ queue.now.table }
+    ensures { Sent (name_of task ∷ []) party.old party.new }
+{
+    let mut handle = task.into_kind();
+    for _ in rt.forever() {
+        let sent = queue.try_enqueue(party, handle);
+        shared.alarms.dispatcher.unpark();
+        match sent {
+            Ok(()) => return,
+            Err(back) => handle = back,
+        }
+        thread::yield_now();
+    }
+    unreachable!()
+}
+
+/// Sends new tasks to the dispatcher, in order. Allocates nothing.
 ///
 /// # Complexity
-/// O(n), for n tasks.
+/// O(n), for n tasks, besides the tries while no room is free.
 ///
 /// # Waits
-/// Never.
-pub fn submit(queue: &MpscQueue<Task>, party: &mut Party<Task>, mut tasks: List<Task>)
+/// For the dispatcher, while no room is free.
+pub fn submit<L: Run, R: Wait>(
+    rt: &R,
+    queue: &MpscQueue<Task>,
+    party: &mut Party<Task>,
+    shared: &Shared<L>,
+    mut tasks: List<Task>,
+)
     requires table { party.old.table ≡ queue.now.table }
-    requires room { length tasks ≤ party.old.rooms }
     ensures { Sent (names tasks) party.old party.new }
 {
     while let Some(task) = tasks.pop_front() {
-        queue.enqueue(party, task.into_kind());
+        send(rt, queue, party, shared, task);
     }
 }
 
-/// Wakes tasks that are due, at most one in each of `turns` turns, and sends them to the dispatcher. It ends early if
-/// all tasks are done, or if the party has no room left.
+/// Wakes the task with the earliest deadline, which is due at once or after the time advanced. Returns `None` if no
+/// task sleeps.
+fn wake_first<L: Run, R: Wait>(
+    rt: &R,
+    shared: &Shared<L>,
+    mine: &mut Account,
+) -> Option<Node<Task, list::Links<Task>>>
+    requires { IsOpen L.accounts mine.old }
+    ensures { MatchOption result
+        (mine.new ≡ mine.old)
+        (λ task. mine.new ≡ after_getting (name_of task) mine.old) }
+{
+    let mut sleepers = shared.sleepers.lock(rt);
+    if let Some(task) = sleepers.wake(&shared.accounts, mine) {
+        return Some(task);
+    }
+    sleepers.wake(&shared.accounts, mine)
+}
+
+/// Wakes tasks that are due, at most one in each of `turns` turns, and sends them to the dispatcher. While no task
+/// sleeps, this thread sleeps. It ends early if all tasks are done, or the run was called off. After its last turn, it
+/// calls the run off.
 ///
 /// # Complexity
-/// That of `turns` calls of `Sleepers::wake`.
+/// That of 2 · `turns` calls of `Sleepers::wake`, besides the tries while no room is free.
 ///
 /// # Waits
-/// For the lock of the tasks that sleep.
+/// For the lock of the tasks that sleep, for a task that goes to sleep, and for the dispatcher, while no room is free.
 pub fn wake<L: Run, R: Wait>(
     rt: &R,
     queue: &MpscQueue<Task>,
     party: &mut Party<Task>,
     shared: &Shared<L>,
     mine: &mut Account,
+    bed: &Parker,
     turns: u64,
 )
     requires table { party.old.table ≡ queue.now.table }
@@ -91,67 +190,86 @@ pub fn wake<L: Run, R: Wait>(
     ensures { Woken mine.old mine.new party.old party.new }
 {
     for _turn in 0..turns {
-        if shared.is_over() || party.rooms() == 0 {
+        if shared.is_over() {
             break;
         }
-        let woken = shared.sleepers.lock(rt).wake(&shared.accounts, mine);
+        let woken = wake_first(rt, shared, mine);
         match woken {
-            Some(task) => queue.enqueue(party, task.into_kind()),
-            None => thread::yield_now(),
+            Some(task) => send(rt, queue, party, shared, task),
+            None => bed.park(rt),
         }
     }
+    shared.call_off();
 }
 
-/// Takes a task from the queue and appends it to those that wait for a worker. Returns `false` if it finds no task to
-/// take, or if `usize::MAX` tasks wait.
+/// Takes a task from the queue and appends it to those that wait for a worker. The workers are woken if no task waited.
+/// Gives the room of the task to the pool. Returns why, if it finds no task to take, and `Busy` if `usize::MAX` tasks
+/// wait.
 fn dispatch_one<L: Run, R: Wait>(
     rt: &R,
     queue: &MpscQueue<Task>,
     party: &mut Party<Task>,
     shared: &Shared<L>,
     mine: &mut Account,
-) -> bool
+) -> Result<(), TryDequeueError>
     requires table { party.old.table ≡ queue.now.table }
     requires of { IsOpen L.accounts mine.old }
     ensures { Came mine.old mine.new party.old party.new }
 {
     let mut runnable = shared.runnable.lock(rt);
     if !runnable.has_room() {
-        return false;
+        return Err(TryDequeueError::Busy);
     }
-    let Ok(task) = queue.try_dequeue(party) else {
-        return false;
-    };
+    let is_first = runnable.tasks.is_empty();
+    let task = queue.try_dequeue(party)?;
     runnable.put(&shared.accounts, mine, task.into_kind());
-    true
+    drop(runnable);
+    if is_first {
+        shared.alarms.wake_workers();
+    }
+    let rooms = party.rooms();
+    queue.give_back(party, rooms);
+    Ok(())
 }
 
-/// Dispatches tasks, at most one in each of `turns` turns. It ends early if all tasks are done.
+/// Dispatches tasks until the submitter sends no more and none is left in the queue. Sleeps while the queue is empty.
 ///
 /// # Complexity
-/// O(`turns`).
+/// O(n), for n tasks that it dispatches, besides the tries while `usize::MAX` tasks wait for a worker.
 ///
 /// # Waits
-/// For the lock of the tasks that wait for a worker.
+/// For the lock of the tasks that wait for a worker, and for the submitter.
 pub fn dispatch<L: Run, R: Wait>(
     rt: &R,
     queue: &MpscQueue<Task>,
     party: &mut Party<Task>,
     shared: &Shared<L>,
     mine: &mut Account,
-    turns: u64,
+    bed: &Parker,
 )
     requires table { party.old.table ≡ queue.now.table }
     requires of { IsOpen L.accounts mine.old }
     ensures { Came mine.old mine.new party.old party.new }
 {
-    for _turn in 0..turns {
-        if shared.is_over() {
-            break;
+    for _ in rt.forever() {
+        // The flag is read before the try. If the submitter has ended by now, no task comes after those that the tries
+        // find from here on.
+        let is_end = shared.has_sent_all.load(Ordering::SeqCst);
+        if let Err(why) = dispatch_one(rt, queue, party, shared, mine) {
+            if is_end {
+                return;
+            }
+            pause(rt, bed, why);
         }
-        if !dispatch_one(rt, queue, party, shared, mine) {
-            thread::yield_now();
-        }
+    }
+    unreachable!()
+}
+
+/// Sleeps until the submitter wakes this thread, if the queue was empty, and otherwise yields to other threads.
+fn pause<R: Wait>(rt: &R, bed: &Parker, why: TryDequeueError) {
+    match why {
+        TryDequeueError::Empty => bed.park(rt),
+        _ => thread::yield_now(),
     }
 }
 
@@ -176,12 +294,14 @@ fn run_rest(task: &mut Node<Task, list::Links<Task>>)
     task.get_mut().payload.finish();
 }
 
-/// Pushes a task onto those that are done, and counts it as done.
+/// Pushes a task onto those that are done, and counts it as done. The last one ends the run for all threads.
 fn retire<L: Run>(shared: &Shared<L>, done: &mut Stack<Task>, task: Node<Task, list::Links<Task>>)
     ensures { done.new ≡ task ∷ done.old }
 {
     done.push(task.into_kind());
-    shared.unfinished.fetch_sub(1, Ordering::SeqCst);
+    if shared.unfinished.fetch_sub(1, Ordering::SeqCst) == 1 {
+        shared.alarms.wake_all();
+    }
 }
 
 /// Runs all rounds of a task that are left, and retires it.
@@ -194,8 +314,8 @@ fn run_out<L: Run>(shared: &Shared<L>, done: &mut Stack<Task>, task: Node<Task, 
     retire(shared, done, awake);
 }
 
-/// Retires a task that is done, and puts another one to sleep. If `usize::MAX` tasks sleep, it runs the rounds that are
-/// left at once and retires the task.
+/// Retires a task that is done, and puts another one to sleep, which wakes the submitter. If `usize::MAX` tasks sleep, it
+/// runs the rounds that are left at once and retires the task.
 fn settle<L: Run, R: Wait>(
     rt: &R,
     shared: &Shared<L>,
@@ -214,6 +334,7 @@ fn settle<L: Run, R: Wait>(
     }
     let slept = shared.sleepers.lock(rt).sleep(&shared.accounts, mine, task);
     let Err(awake) = slept else {
+        shared.alarms.submitter.unpark();
         return;
     };
     run_out(shared, done, awake);
@@ -242,14 +363,21 @@ fn work_one<L: Run, R: Wait>(
 }
 
 /// Runs one round of one task in each of `turns` turns, and returns the tasks that are done. The others sleep until
-/// their next round. It ends early if all tasks are done.
+/// their next round. While no task waits, this thread sleeps. It ends early if all tasks are done, or the run was called
+/// off. After its last turn, it calls the run off.
 ///
 /// # Complexity
 /// O(`turns`), unless `usize::MAX` tasks sleep: it then runs all rounds of a task in one turn.
 ///
 /// # Waits
-/// For the locks of the two places.
-pub fn work<L: Run, R: Wait>(rt: &R, shared: &Shared<L>, mine: Account, turns: u64) -> Worked<L>
+/// For the locks of the two places, and for a task to take.
+pub fn work<L: Run, R: Wait>(
+    rt: &R,
+    shared: &Shared<L>,
+    mine: Account,
+    bed: &Parker,
+    turns: u64,
+) -> Worked<L>
     requires of { IsOpen L.accounts mine }
     requires none { Holds mine [] }
 {
@@ -260,9 +388,10 @@ pub fn work<L: Run, R: Wait>(rt: &R, shared: &Shared<L>, mine: Account, turns: u
             break;
         }
         if !work_one(rt, shared, &mut mine, &mut done) {
-            thread::yield_now();
+            bed.park(rt);
         }
     }
+    shared.call_off();
     Worked {
         done,
         account: mine,

@@ -13,8 +13,8 @@ use Rattle.cordyceps_shared_uses.proofs.scheduler.run_in.Goals as goal
 
 pub returns-clause-each_once : goal.returns-clause-each_once
 returns-clause-each_once g c =
-    let sent = c.run_four-sent.ensures.sent in
-    let came = c.run_four-sent.ensures.came in
+    let sent = c.in_ok-ended.ensures.sent in
+    let came = c.in_ok-ended.ensures.came in
     let left = held (plain c.absorb.new.party.seen) in
     let o = c.settle.result in
     let all = found c.in-Ok.ensures.1 c.split.ensures came.took sent.sent c.absorb.ensures in
