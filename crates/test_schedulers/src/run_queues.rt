@@ -2,14 +2,14 @@
 ghost use Rattle.std.specs.Prelude.{◌≤◌};
 
 use crate::compared::{made, same};
-use crate::made::node;
 use cordyceps::Stack;
 use cordyceps::stack::MAX_ROOMS;
 use cordyceps_shared_uses::run_queue::{Job, run_all};
-use std::alloc::Global;
+use std::alloc::{AllocError, Global};
 use std::process::Abort;
 use std::sync::Wait;
 use std::thread::Threads;
+use test_support::nodes::node_of;
 
 /// How often the threads run with one number of rooms. All are a thousand runs.
 const ROUNDS: u64 = 250;
@@ -18,20 +18,24 @@ const ROUNDS: u64 = 250;
 const JOBS: usize = 8;
 
 /// Returns jobs of the numbers 0 to 7 that were not run.
-fn eight_jobs(rt: &impl Abort, alloc: Global) -> Stack<Job> {
+fn eight_jobs(alloc: Global) -> Result<Stack<Job>, AllocError> {
     let mut jobs = Stack::new();
     for number in 0..JOBS as u32 {
-        jobs.push(node(rt, alloc, 0, Job { number, square: 0 }));
+        jobs.push(node_of(alloc, 0, Job { number, square: 0 })?);
     }
-    jobs
+    Ok(jobs)
 }
 
 /// Runs eight jobs on a queue of this many rooms, and compares what comes of each. Where memory or a thread was refused,
 /// it runs them again.
-fn run_eight<R: Abort + Threads + Wait + Sync>(rt: &R, alloc: Global, rooms: usize)
+fn run_eight<R: Abort + Threads + Wait + Sync>(
+    rt: &R,
+    alloc: Global,
+    rooms: usize,
+) -> Result<(), AllocError>
     requires { (1 ≤ rooms) × (rooms ≤ MAX_ROOMS) }
 {
-    let done = match run_all(rt, alloc, eight_jobs(rt, alloc), rooms) {
+    let done = match run_all(rt, alloc, eight_jobs(alloc)?, rooms) {
         Ok(done) => done,
         Err(back) => made(rt, run_all(rt, alloc, back, rooms)),
     };
@@ -46,18 +50,20 @@ fn run_eight<R: Abort + Threads + Wait + Sync>(rt: &R, alloc: Global, rooms: usi
         }
     }
     same(rt, (count, squares), (8, [0, 1, 4, 9, 16, 25, 36, 49]));
+    Ok(())
 }
 
 #[test]
-fn each_job_is_run_once_and_no_wakeup_is_lost(rt: HostRuntime) {
+fn each_job_is_run_once_and_no_wakeup_is_lost(rt: HostRuntime) -> Result<(), AllocError> {
     for rooms in 1..5usize {
         for _round in 0..ROUNDS {
-            run_eight(&rt, rt.alloc(), rooms);
+            run_eight(&rt, rt.alloc(), rooms)?;
         }
     }
+    Ok(())
 }
 
 #[test]
-fn jobs_come_back_where_memory_is_refused(rt: HostRuntime) {
-    run_eight(&rt, rt.alloc(), 4);
+fn jobs_come_back_where_memory_is_refused(rt: HostRuntime) -> Result<(), AllocError> {
+    run_eight(&rt, rt.alloc(), 4)
 }
