@@ -1,5 +1,5 @@
 //! A run queue: one thread submits jobs, and two workers run them.
-ghost use Rattle.std.specs.Prelude.{◌≡◌, ◌≤◌, ◌*◌, [], ◌∷◌, ◌++◌, map, reverse, IfOk, IfErr, MatchResult};
+ghost use Rattle.std.specs.Prelude.{◌≡◌, ◌≤◌, ◌*◌, [], ◌∷◌, ◌++◌, map, reverse, IfOk, IfErr};
 ghost use Rattle.std.specs.Thread.{IsSync};
 ghost use Rattle.cordyceps.specs.Parties.Counts.{Same};
 ghost use Rattle.cordyceps.specs.Transfers.Moves.{Moves};
