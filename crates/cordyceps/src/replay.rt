@@ -4,7 +4,8 @@
 //! reply.
 
 pub use cordyceps_commands::{
-    CursorCommand, Filter, Item, ListCommand, ListEnd, Reply, SortedCommand, StackCommand, Turn,
+    Act, CursorCall, CursorCommand, Filter, Item, ListCall, ListCommand, ListEnd, ListMove, Reply,
+    Side, SortedCommand, StackCommand, Turn,
 };
 pub use cordyceps_tables::replay::{
     Lists, Played, Sorteds, Stacks, replay_lists, replay_sorted, replay_stacks,

@@ -5,7 +5,7 @@ use Rattle.std.proofs.lemmas.List.{set-set, set-get_or, get_or-set_same, get_or-
 use Rattle.std.proofs.lemmas.Bool.{cases_lt}
 use Rattle.std.proofs.lemmas.Bool.Decides.{nat_tests}
 use Rattle.cordyceps_base.specs.Runs.{after, replies_to}
-use Rattle.cordyceps_base.specs.Element.{Elements, values, with_value}
+use Rattle.cordyceps_base.specs.Element.{Element, Elements, values, with_value}
 use Rattle.cordyceps_list.specs.declared.cursor_mut.CursorMut.{CursorMut}
 use Rattle.cordyceps_list.specs.Cursor.{Stands, elements, place}
 use Rattle.cordyceps_list.proofs.Lent.{same_value}
@@ -14,10 +14,12 @@ use Rattle.cordyceps_commands.specs.declared.item.Item.{Item}
 use Rattle.cordyceps_commands.specs.declared.reply.Reply.{Reply}
 use Rattle.cordyceps_commands.specs.declared.list_command.ListEnd.{ListEnd}
 use Rattle.cordyceps_commands.specs.declared.list_command.CursorCommand.{CursorCommand}
-use Rattle.cordyceps_commands.specs.declared.list_command.CursorCommand.TheVariants.{SplitAfter, SplitBefore, SpliceAfter, SpliceBefore}
+use Rattle.cordyceps_commands.specs.declared.list_command.CursorCommand.TheVariants.{Split, Splice}
+use Rattle.cordyceps_commands.specs.declared.list_command.Side.{Side}
+use Rattle.cordyceps_commands.specs.declared.list_command.Side.TheVariants.{After}
 use Rattle.cordyceps_commands.specs.Replies.{Line, lines_of, done, found_or_nothing}
 use Rattle.cordyceps_tables.specs.Tables.{Table, held_at}
-use Rattle.cordyceps_tables.specs.Blocks.{Spot, State, run_lines, first_place, set_at, Goes, Obeys, line_on, line_step, state_of, LineRuns, cut_after, cut_before, put_after, put_before, split_to, splice_from}
+use Rattle.cordyceps_tables.specs.Blocks.{Spot, State, run_lines, first_place, set_at, Goes, line_step, moved_to, state_of, Cuts, LineRuns, cut_beside, put_beside, split_to, splice_from}
 
 pub goes_written : (old new : CursorMut Item) (s : Elements Item) (k at : ℕ) (o : Option Item) (item : Item) (value : ℕ) (reply : Reply) →
     Stands old new (with_value s at (record item { value = value })) k → Some item ≡ o → lines_of reply ≡ done ∷ [] → Goes old new (set_at s k at o value) reply
@@ -52,16 +54,11 @@ set_over (row ∷ table) zero (suc m) s t u = refl
 set_over (row ∷ table) (suc n) zero s t u = ap (λ (rows : Table). t ∷ rows) (set-set table n s u)
 set_over (row ∷ table) (suc n) (suc m) s t u = ap (λ (rows : Table). row ∷ rows) (set_over table n m s t u)
 
--- a split cut this off, and kept this
-pub record Cuts (old new : CursorMut Item) (gone : Elements Item) (cut : Spot × Elements Item) : Type 0 where
-  pub stands : Stands old new cut.0.0 cut.0.1
-  pub cut_off : gone ≡ cut.1
-
 pub cuts_after : (old new : CursorMut Item) (gone : Elements Item) → place old ≤ length (elements old) →
     (place old < length (elements old) → gone ≡ drop (place old + 1) (elements old)) →
     (place old < length (elements old) → Stands old new (take (place old + 1) (elements old)) (place old)) →
     (place old ≡ length (elements old) → gone ≡ elements old) → (place old ≡ length (elements old) → Stands old new [] 0) →
-    Cuts old new gone (cut_after (elements old) (place old))
+    Cuts old new gone (cut_beside After (elements old) (place old))
 cuts_after old new gone within inside inside_stands null null_stands = elim (cases_lt (place old) (length (elements old))) [
   | inl lt ↦
       let is : nat_lt (place old) (length (elements old)) ≡ true = grind (arith, nat_tests) in
@@ -75,7 +72,7 @@ cuts_after old new gone within inside inside_stands null null_stands = elim (cas
 pub is_after : (old new : CursorMut Item) (more : Elements Item) → place old ≤ length (elements old) →
     (place old < length (elements old) → Stands old new (take (place old + 1) (elements old) ++ more ++ drop (place old + 1) (elements old)) (place old)) →
     (place old ≡ length (elements old) → Stands old new (more ++ elements old) (length (elements old) + length more)) →
-    Stands old new (put_after (elements old) (place old) more).0 (put_after (elements old) (place old) more).1
+    let put = put_beside After (elements old) (place old) more in Stands old new put.0 put.1
 is_after old new more within inside null = elim (cases_lt (place old) (length (elements old))) [
   | inl lt ↦
       let is : nat_lt (place old) (length (elements old)) ≡ true = grind (arith, nat_tests) in
@@ -98,17 +95,10 @@ module _ (n m : ℕ) (table : Table) (old new : CursorMut Item) (reply : Reply) 
       rw (held_at_other table n m (elements old) (λ t. nat_eq (length t) 0), ← free, set_over table n m (elements old) cut.1 cut.0.0) refl in
       (rw done_so (same_state (set table m gone) (set table m cut.1) n (elements new) cut.0.0 (place new) cut.0.1 (ap (λ t. set table m t) cuts.cut_off) cuts.stands.elements_are cuts.stands.place_is), rw done_so told)
 
-  pub split_after_steps : (gone : Elements Item) → true ≡ (not (nat_eq n m) && nat_eq (length (held_at table m)) 0) → Cuts old new gone (cut_after (elements old) (place old)) → lines_of reply ≡ done ∷ [] →
-      LineRuns n table (set table m gone) old new (SplitAfter m) reply
-  split_after_steps gone free cuts told =
-      let run = split_run gone (cut_after (elements old) (place old)) free cuts told in
-      let held = put_back table n (elements old) within in
-      record { same_reference = cuts.stands.same_reference; state_is = rw held run.0; told = rw held run.1 }
-
-  pub split_before_steps : (gone : Elements Item) → true ≡ (not (nat_eq n m) && nat_eq (length (held_at table m)) 0) → Cuts old new gone (cut_before (elements old) (place old)) → lines_of reply ≡ done ∷ [] →
-      LineRuns n table (set table m gone) old new (SplitBefore m) reply
-  split_before_steps gone free cuts told =
-      let run = split_run gone (cut_before (elements old) (place old)) free cuts told in
+  pub split_steps : (side : Side) (gone : Elements Item) → true ≡ (not (nat_eq n m) && nat_eq (length (held_at table m)) 0) → Cuts old new gone (cut_beside side (elements old) (place old)) → lines_of reply ≡ done ∷ [] →
+      LineRuns n table (set table m gone) old new (Split side m) reply
+  split_steps side gone free cuts told =
+      let run = split_run gone (cut_beside side (elements old) (place old)) free cuts told in
       let held = put_back table n (elements old) within in
       record { same_reference = cuts.stands.same_reference; state_is = rw held run.0; told = rw held run.1 }
 
@@ -119,44 +109,33 @@ module _ (n m : ℕ) (table : Table) (old new : CursorMut Item) (reply : Reply) 
       rw (put_back table n (elements old) within, held_at_other table n m (elements old) (λ t. nat_le (length (elements old) + length t) 18446744073709551615), ← fits, set_over table n m (elements old) [] joined.0) refl in
       (rw done_so (same_state (set table m []) (set table m []) n (elements new) joined.0 (place new) joined.1 refl stands.elements_are stands.place_is), rw done_so told)
 
-  pub splice_after_steps : true ≡ (not (nat_eq n m) && nat_le (length (elements old) + length (held_at table m)) 18446744073709551615) →
-      Stands old new (put_after (elements old) (place old) (held_at table m)).0 (put_after (elements old) (place old) (held_at table m)).1 → lines_of reply ≡ done ∷ [] →
-      LineRuns n table (set table m []) old new (SpliceAfter m) reply
-  splice_after_steps fits stands told =
-      let run = splice_run (put_after (elements old) (place old) (held_at table m)) fits stands told in
-      let held = put_back table n (elements old) within in
-      let other = get_or-set_other table n m (elements old) [] (not_the_other n m _ (sym fits)) in
-      record { same_reference = stands.same_reference; state_is = rw (held, other) (rw (held, other) at run.0); told = rw (held, other) (rw (held, other) at run.1) }
-
-  pub splice_before_steps : true ≡ (not (nat_eq n m) && nat_le (length (elements old) + length (held_at table m)) 18446744073709551615) →
-      Stands old new (put_before (elements old) (place old) (held_at table m)).0 (put_before (elements old) (place old) (held_at table m)).1 → lines_of reply ≡ done ∷ [] →
-      LineRuns n table (set table m []) old new (SpliceBefore m) reply
-  splice_before_steps fits stands told =
-      let run = splice_run (put_before (elements old) (place old) (held_at table m)) fits stands told in
+  pub splice_steps : (side : Side) → true ≡ (not (nat_eq n m) && nat_le (length (elements old) + length (held_at table m)) 18446744073709551615) →
+      Stands old new (put_beside side (elements old) (place old) (held_at table m)).0 (put_beside side (elements old) (place old) (held_at table m)).1 → lines_of reply ≡ done ∷ [] →
+      LineRuns n table (set table m []) old new (Splice side m) reply
+  splice_steps side fits stands told =
+      let run = splice_run (put_beside side (elements old) (place old) (held_at table m)) fits stands told in
       let held = put_back table n (elements old) within in
       let other = get_or-set_other table n m (elements old) [] (not_the_other n m _ (sym fits)) in
       record { same_reference = stands.same_reference; state_is = rw (held, other) (rw (held, other) at run.0); told = rw (held, other) (rw (held, other) at run.1) }
 
 -- a line on the cursor's list alone
-alone_step : (n : ℕ) (table : Table) (s : Elements Item) (k : ℕ) (line : CursorCommand) → n < length table →
-    ((m : ℕ) → line ≡ SplitAfter m → ⊥) → ((m : ℕ) → line ≡ SplitBefore m → ⊥) → ((m : ℕ) → line ≡ SpliceAfter m → ⊥) → ((m : ℕ) → line ≡ SpliceBefore m → ⊥) →
-    line_step n (set table n s, k) line ≡ ((set table n (line_on s k line).0.0, (line_on s k line).0.1), (line_on s k line).1)
-alone_step n table s k (SplitAfter m) within a b c d = absurd (a m refl)
-alone_step n table s k (SplitBefore m) within a b c d = absurd (b m refl)
-alone_step n table s k (SpliceAfter m) within a b c d = absurd (c m refl)
-alone_step n table s k (SpliceBefore m) within a b c d = absurd (d m refl)
-alone_step n table s k line within a b c d = rw (put_back table n s within, set-set) refl
-
-pub alone_steps : (n : ℕ) (table : Table) (old new : CursorMut Item) (line : CursorCommand) (reply : Reply) → n < length table →
-    ((m : ℕ) → line ≡ SplitAfter m → ⊥) → ((m : ℕ) → line ≡ SplitBefore m → ⊥) → ((m : ℕ) → line ≡ SpliceAfter m → ⊥) → ((m : ℕ) → line ≡ SpliceBefore m → ⊥) →
-    Obeys old new line reply → LineRuns n table table old new line reply
-alone_steps n table old new line reply within a b c d obeys =
-    let step = alone_step n table (elements old) (place old) line within a b c d in
+pub alone_steps : (n : ℕ) (table : Table) (old new : CursorMut Item) (line : CursorCommand) (to : Spot × Line) (reply : Reply) → line_step n (state_of table n old) line ≡ moved_to (table, place old) n to →
+    Goes old new to reply → LineRuns n table table old new line reply
+alone_steps n table old new line to reply step goes =
     record {
-      same_reference = obeys.stands.same_reference;
-      state_is = rw step (same_state table table n (elements new) (line_on (elements old) (place old) line).0.0 (place new) (line_on (elements old) (place old) line).0.1 refl obeys.stands.elements_are obeys.stands.place_is);
-      told = rw step obeys.told;
+      same_reference = goes.stands.same_reference;
+      state_is = rw step (same_state table table n (elements new) to.0.0 (place new) to.0.1 refl goes.stands.elements_are goes.stands.place_is);
+      told = rw step goes.told;
     }
+
+-- it sees what the list holds
+pub sees_list : (n : ℕ) (table : Table) (s : Elements Item) (k : ℕ) (to : Elements Item → Spot × Line) → n < length table → moved_to (set table n s, k) n (to (held_at (set table n s) n)) ≡ moved_to (table, k) n (to s)
+sees_list n table s k to within = rw (put_back table n s within, set-set) refl
+
+-- the first of the nodes that were made is the one that is put in
+pub first_made : (nodes rest : Elements Item) (e made : Element Item) → nodes ≡ e ∷ rest → take 1 nodes ≡ made ∷ [] → e ≡ made
+first_made [] rest e made is same = absurd cc
+first_made (node ∷ nodes) rest e made is same = cc
 
 -- the lines of a block were run on the list that was taken out, and it was put back
 pub block_done : (n : ℕ) (table left : Table) (first last : CursorMut Item) (end : ListEnd) (lines : List CursorCommand) (before told : List Line) → n < length table →

@@ -10,6 +10,10 @@ pub use Rattle.cordyceps_commands.specs.ListCommands.{OtherFits, EndsBlock, Bloc
 use Rattle.cordyceps_commands.specs.declared.item.Item.{Item}
 use Rattle.cordyceps_commands.specs.declared.list_command.ListEnd.{ListEnd}
 use Rattle.cordyceps_commands.specs.declared.list_command.ListEnd.TheVariants as ends
+use Rattle.cordyceps_commands.specs.declared.list_command.Side.{Side}
+use Rattle.cordyceps_commands.specs.declared.list_command.Side.TheVariants as sides
+use Rattle.cordyceps_commands.specs.declared.list_command.CursorCall.{CursorCall}
+use Rattle.cordyceps_commands.specs.declared.list_command.CursorCall.TheVariants as calls
 use Rattle.cordyceps_commands.specs.declared.list_command.CursorCommand.{CursorCommand}
 use Rattle.cordyceps_commands.specs.declared.list_command.CursorCommand.TheVariants as lines
 use Rattle.cordyceps_commands.specs.declared.reply.Reply.{Reply}
@@ -36,67 +40,57 @@ set_at s k at (Some item) value = ((with_value s at (record item { value = value
 abbrev pub remove : Elements Item → ℕ → Spot × Line
 remove s at = ((all_but s at, at), found_or_nothing (slice_get (values s) at))
 
--- more elements after the cursor's, at the null place first
-abbrev pub put_after : Elements Item → ℕ → Elements Item → Spot
-put_after s k more =
+-- more elements on a side of the cursor's; at the null place, those after it are first, and those before it last
+abbrev pub put_beside : Side → Elements Item → ℕ → Elements Item → Spot
+put_beside sides.After s k more =
     if nat_lt k (length s) then (take (k + 1) s ++ more ++ drop (k + 1) s, k) else (more ++ s, k + length more)
+put_beside sides.Before s k more = (take k s ++ more ++ drop k s, k + length more)
 
--- more elements before the cursor's, at the null place last
-abbrev pub put_before : Elements Item → ℕ → Elements Item → Spot
-put_before s k more = (take k s ++ more ++ drop k s, k + length more)
+-- one more element there, where the length is below the largest `usize`
+abbrev pub insert : Side → Elements Item → ℕ → Element Item → Spot × Line
+insert side s k e =
+    if nat_lt (length s) 18446744073709551615 then (put_beside side s k (e ∷ []), done) else ((s, k), not_there)
 
--- one more element, where the length is below the largest `usize`
-abbrev pub insert : Elements Item → ℕ → Spot → Spot × Line
-insert s k more = if nat_lt (length s) 18446744073709551615 then (more, done) else ((s, k), not_there)
-
-abbrev pub insert_after : Elements Item → ℕ → Element Item → Spot × Line
-insert_after s k e = insert s k (put_after s k (e ∷ []))
-
-abbrev pub insert_before : Elements Item → ℕ → Element Item → Spot × Line
-insert_before s k e = insert s k (put_before s k (e ∷ []))
-
--- The elements and the cursor's place after a line on its list alone, and the reply. The other lines are not run so.
-abbrev pub line_on : Elements Item → ℕ → CursorCommand → Spot × Line
-line_on s k lines.MoveNext = ((s, next_place (length s) k), done)
-line_on s k lines.MovePrev = ((s, prev_place (length s) k), done)
-line_on s k lines.Current = ((s, k), found_or_nothing (slice_get (values s) k))
-line_on s k lines.PeekNext = ((s, k), found_or_nothing (slice_get (values s) (next_place (length s) k)))
-line_on s k lines.PeekPrev = ((s, k), found_or_nothing (slice_get (values s) (prev_place (length s) k)))
-line_on s k lines.Index = ((s, k), index_or_nothing (index_at (length s) k))
-line_on s k lines.Len = ((s, k), len (length s))
-line_on s k (lines.Set value) = set_at s k k (slice_get (values s) k) value
-line_on s k (lines.SetNext value) =
+-- the elements and the cursor's place after a call on its list alone, and the reply
+abbrev pub call_on : Elements Item → ℕ → CursorCall → Spot × Line
+call_on s k calls.MoveNext = ((s, next_place (length s) k), done)
+call_on s k calls.MovePrev = ((s, prev_place (length s) k), done)
+call_on s k calls.Current = ((s, k), found_or_nothing (slice_get (values s) k))
+call_on s k calls.PeekNext = ((s, k), found_or_nothing (slice_get (values s) (next_place (length s) k)))
+call_on s k calls.PeekPrev = ((s, k), found_or_nothing (slice_get (values s) (prev_place (length s) k)))
+call_on s k calls.Index = ((s, k), index_or_nothing (index_at (length s) k))
+call_on s k calls.Len = ((s, k), len (length s))
+call_on s k (calls.Set value) = set_at s k k (slice_get (values s) k) value
+call_on s k (calls.SetNext value) =
     set_at s k (next_place (length s) k) (slice_get (values s) (next_place (length s) k)) value
-line_on s k (lines.SetPrev value) =
+call_on s k (calls.SetPrev value) =
     set_at s k (prev_place (length s) k) (slice_get (values s) (prev_place (length s) k)) value
-line_on s k lines.Next = ((s, if nat_lt k (length s) then k + 1 else k), found_or_nothing (slice_get (values s) k))
-line_on s k lines.RemoveCurrent = remove s k
-line_on s k (lines.RemoveFirst filter) = remove s (first_passing filter true s k)
-line_on s k (lines.InsertAfter item) = insert_after s k (element_of item)
-line_on s k (lines.InsertBefore item) = insert_before s k (element_of item)
-line_on s k lines.End = ((s, k), done)
-line_on s k line = ((s, k), not_there)
+call_on s k calls.Next = ((s, if nat_lt k (length s) then k + 1 else k), found_or_nothing (slice_get (values s) k))
+call_on s k calls.RemoveCurrent = remove s k
+call_on s k (calls.RemoveFirst filter) = remove s (first_passing filter true s k)
 
 -- a cursor's list and its place became these, and this is the reply
 pub record Goes (old new : CursorMut Item) (to : Spot × Line) (reply : Reply) : Type 0 where
   pub stands : Stands old new to.0.0 to.0.1
   pub told : lines_of reply ≡ to.1 ∷ []
 
--- the same by a line
-abbrev pub Obeys : CursorMut Item → CursorMut Item → CursorCommand → Reply → Type 0
-Obeys old new line reply = Goes old new (line_on (elements old) (place old) line) reply
+-- the same by a call
+abbrev pub Obeys : CursorMut Item → CursorMut Item → CursorCall → Reply → Type 0
+Obeys old new call reply = Goes old new (call_on (elements old) (place old) call) reply
 
 -- a table, and a cursor's place in one of its lists
 abbrev pub State : Type 0
 State = Table × ℕ
 
--- what a split after the cursor's element keeps, with the cursor's place, and what goes; from the null place all goes
-abbrev pub cut_after : Elements Item → ℕ → Spot × Elements Item
-cut_after s k = if nat_lt k (length s) then ((take (k + 1) s, k), drop (k + 1) s) else (([], 0), s)
+-- what a split on a side of the cursor's element keeps, with the cursor's place, and what goes; after the null place all
+abbrev pub cut_beside : Side → Elements Item → ℕ → Spot × Elements Item
+cut_beside sides.After s k = if nat_lt k (length s) then ((take (k + 1) s, k), drop (k + 1) s) else (([], 0), s)
+cut_beside sides.Before s k = ((drop k s, 0), take k s)
 
--- what a split before the cursor's element keeps, with the cursor's place, and what goes
-abbrev pub cut_before : Elements Item → ℕ → Spot × Elements Item
-cut_before s k = ((drop k s, 0), take k s)
+-- a split kept this, and cut this off
+pub record Cuts (old new : CursorMut Item) (gone : Elements Item) (cut : Spot × Elements Item) : Type 0 where
+  pub stands : Stands old new cut.0.0 cut.0.1
+  pub cut_off : gone ≡ cut.1
 
 -- what a split cuts off becomes the other list, where that is another one and empty
 abbrev pub split_to : State → ℕ → ℕ → Spot × Elements Item → State × Line
@@ -112,16 +106,20 @@ splice_from (table, k) list other joined =
     then ((slice_set (slice_set table other []) list joined.0, joined.1), done)
     else ((table, k), not_there)
 
+-- the cursor's list and its place in it became these
+abbrev pub moved_to : State → ℕ → Spot × Line → State × Line
+moved_to (table, k) list to = ((slice_set table list to.0.0, to.0.1), to.1)
+
 -- the table and the cursor's place after a line of a block on the list with a number, and the reply
 abbrev pub line_step : ℕ → State → CursorCommand → State × Line
-line_step list (table, k) (lines.SplitAfter other) = split_to (table, k) list other (cut_after (held_at table list) k)
-line_step list (table, k) (lines.SplitBefore other) = split_to (table, k) list other (cut_before (held_at table list) k)
-line_step list (table, k) (lines.SpliceAfter other) =
-    splice_from (table, k) list other (put_after (held_at table list) k (held_at table other))
-line_step list (table, k) (lines.SpliceBefore other) =
-    splice_from (table, k) list other (put_before (held_at table list) k (held_at table other))
-line_step list (table, k) line =
-    let on = line_on (held_at table list) k line in ((slice_set table list on.0.0, on.0.1), on.1)
+line_step list (table, k) (lines.One call) = moved_to (table, k) list (call_on (held_at table list) k call)
+line_step list (table, k) (lines.Insert side item) =
+    moved_to (table, k) list (insert side (held_at table list) k (element_of item))
+line_step list (table, k) (lines.Split side other) =
+    split_to (table, k) list other (cut_beside side (held_at table list) k)
+line_step list (table, k) (lines.Splice side other) =
+    splice_from (table, k) list other (put_beside side (held_at table list) k (held_at table other))
+line_step list (table, k) lines.End = ((table, k), done)
 
 -- the table after lines on a cursor that begins at an end of a list, and the replies to them after earlier ones
 abbrev pub run_lines : Table → ℕ → ListEnd → List CursorCommand → List Line → Table × List Line
@@ -146,8 +144,7 @@ pub record LineRuns (list : ℕ) (table new_table : Table) (old new : CursorMut 
 
 -- the nodes that a line puts in, and those of many lines
 abbrev pub made_for : CursorCommand → Elements Item
-made_for (lines.InsertAfter item) = element_of item ∷ []
-made_for (lines.InsertBefore item) = element_of item ∷ []
+made_for (lines.Insert side item) = element_of item ∷ []
 made_for line = []
 
 abbrev pub made_for_all : List CursorCommand → Elements Item

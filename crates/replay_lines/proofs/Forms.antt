@@ -11,7 +11,7 @@ use Rattle.std.proofs.lemmas.List.Splits.{slice_split_at, slice_split_none, join
 use Rattle.std.proofs.lemmas.Slice.Eq.{bytes_eq-Decides}
 use Rattle.cordyceps_commands.specs.declared.item.Item.{Item}
 use Rattle.replay_lines.specs.Words.{words, number_of, structure_number_of}
-use Rattle.replay_lines.specs.LineWords.{only_word_of, only, before, nothing_of, structure_of, value_of, item_of, two_structures_of, structure_and_value_of, structure_and_item_of, party_and_number_of, party_and_item_of, perhaps_item_of, party_and_perhaps_item_of, item_words, perhaps_item_words, HasItemNumbers, HasPerhapsItemNumbers}
+use Rattle.replay_lines.specs.LineWords.{only_word_of, only, before, nothing_of, structure_of, value_of, item_of, party_and_number_of, party_and_item_of, perhaps_item_of, party_and_perhaps_item_of, item_words, perhaps_item_words, HasItemNumbers, HasPerhapsItemNumbers}
 use Rattle.replay_lines.proofs.Numbers.{is_numeral, numeral_read, numeral_digits, both, from_if}
 
 pub mapped : {A B : Type 0} (f : A → B) (o : Option A) (b : B) → option_map f o ≡ Some b → (a : A) × (o ≡ Some a) × (f a ≡ b)
@@ -134,12 +134,6 @@ structure_form = only_form structure_kind
 pub value_form : IsForm value_of (λ n. decimal n ∷ []) IsSmall
 value_form = only_form number_kind
 
-pub two_structures_form : IsForm two_structures_of (λ x. decimal x.0 ∷ decimal x.1 ∷ []) (λ x. (x.0 < 16) × (x.1 < 16))
-two_structures_form = before_form structure_kind structure_form
-
-pub structure_and_value_form : IsForm structure_and_value_of (λ x. decimal x.0 ∷ decimal x.1 ∷ []) (λ x. (x.0 < 16) × (x.1 < 2 ^ 64))
-structure_and_value_form = before_form structure_kind value_form
-
 two_numbers_form : IsForm (before number_of value_of) (λ x. decimal x.0 ∷ decimal x.1 ∷ []) (λ x. (x.0 < 2 ^ 64) × (x.1 < 2 ^ 64))
 two_numbers_form = before_form number_kind value_form
 
@@ -158,9 +152,6 @@ item_form = record {
       let (x, found, made) = mapped make (before number_of value_of ws) item is in
       let P : Item → Type 0 = λ i. (ws ≡ item_words i) × HasItemNumbers i in
       subst P made (two_numbers_form.sound ws x found)
-
-pub structure_and_item_form : IsForm structure_and_item_of (λ x. decimal x.0 ∷ item_words x.1) (λ x. (x.0 < 16) × HasItemNumbers x.1)
-structure_and_item_form = before_form structure_kind item_form
 
 pub party_and_item_form : IsForm party_and_item_of (λ x. decimal x.0 ∷ item_words x.1) (λ x. (x.0 < 2 ^ 64) × HasItemNumbers x.1)
 party_and_item_form = before_form number_kind item_form

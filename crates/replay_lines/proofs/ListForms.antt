@@ -9,8 +9,8 @@ use Rattle.cordyceps_commands.specs.declared.list_command.Turn.{Turn}
 use Rattle.cordyceps_commands.specs.declared.list_command.Turn.TheVariants as turn_letters
 use Rattle.cordyceps_commands.specs.declared.list_command.Filter.{Filter}
 use Rattle.cordyceps_commands.specs.declared.list_command.Filter.TheVariants as filters
-use Rattle.replay_lines.specs.ListWords.{end_of, end_word, filter_of, filter_word, turn_of, letter_of, letters_of, turns_of, turns_word, structure_and_turns_of, split_words_of, drain_words_of, structure_and_end_of}
-use Rattle.replay_lines.proofs.Forms.{IsKind, IsForm, IsOneWord, one_word, look, in_none, chained, mapped, number_kind, structure_kind, structure_form, value_form, only_form, before_form}
+use Rattle.replay_lines.specs.ListWords.{end_of, end_word, filter_of, filter_word, turn_of, letter_of, letters_of, turns_of, turns_word, turns_word_of, split_words_of, drain_words_of, end_word_of}
+use Rattle.replay_lines.proofs.Forms.{IsKind, IsForm, IsOneWord, one_word, look, in_none, chained, mapped, number_kind, structure_form, value_form, only_form, before_form}
 
 end_kind : IsKind end_of end_word (λ end. Unit {0})
 end_kind = record { sound = is_word; complete = λ end can. back end; one = λ end can. clean end } where
@@ -116,14 +116,14 @@ turns_kind = record { sound = is_word; complete = back; one = λ turns can. turn
       let most : nat_lt 64 (length (turns_word turns)) ≡ false = le-ltb 64 (length (turns_word turns)) (omega (arith, long, can.1)) in
       rw (some, most) (turns_back turns)
 
-pub structure_and_turns_form : IsForm structure_and_turns_of (λ x. decimal x.0 ∷ turns_word x.1 ∷ []) (λ x. (x.0 < 16) × AreFew x.1)
-structure_and_turns_form = before_form structure_kind (only_form turns_kind)
+pub turns_form : IsForm turns_word_of (λ turns. turns_word turns ∷ []) AreFew
+turns_form = only_form turns_kind
 
-pub split_words_form : IsForm split_words_of (λ x. decimal x.0 ∷ decimal x.1.0 ∷ decimal x.1.1 ∷ []) (λ x. (x.0 < 16) × ((x.1.0 < 2 ^ 64) × (x.1.1 < 16)))
-split_words_form = before_form structure_kind (before_form number_kind structure_form)
+pub split_words_form : IsForm split_words_of (λ x. decimal x.0 ∷ decimal x.1 ∷ []) (λ x. (x.0 < 2 ^ 64) × (x.1 < 16))
+split_words_form = before_form number_kind structure_form
 
-pub drain_words_form : IsForm drain_words_of (λ x. decimal x.0 ∷ filter_word x.1.0 ∷ decimal x.1.1 ∷ []) (λ x. (x.0 < 16) × (Unit {0} × (x.1.1 < 2 ^ 64)))
-drain_words_form = before_form structure_kind (before_form filter_kind value_form)
+pub drain_words_form : IsForm drain_words_of (λ x. filter_word x.0 ∷ decimal x.1 ∷ []) (λ x. Unit {0} × (x.1 < 2 ^ 64))
+drain_words_form = before_form filter_kind value_form
 
-pub structure_and_end_form : IsForm structure_and_end_of (λ x. decimal x.0 ∷ end_word x.1 ∷ []) (λ x. (x.0 < 16) × Unit {0})
-structure_and_end_form = before_form structure_kind (only_form end_kind)
+pub end_form : IsForm end_word_of (λ end. end_word end ∷ []) (λ end. Unit {0})
+end_form = only_form end_kind

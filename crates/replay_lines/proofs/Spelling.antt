@@ -1,25 +1,25 @@
--- A line outside of blocks is a command's, or the first of a block, exactly if it is spelled so.
-use Rattle.std.proofs.Common.{◌≡◌, ℕ, ◌<◌, true, List, [], ◌∷◌, Option, Some, None, IfSome, Result, Ok, Err, IfOk, refl, sym, ◌∙◌, ap, subst, codes}
+-- A line outside of blocks is a command's exactly if it is spelled so.
+use Rattle.std.proofs.Common.{◌≡◌, ℕ, ◌<◌, true, List, [], ◌∷◌, Option, Some, None, IfSome, Result, Ok, Err, IfOk, refl, sym, ◌∙◌, ap, subst, codes, decimal}
 use Rattle.std.specs.Option.{option_map, option_and_then}
 use Rattle.std.specs.List.{join_with_byte}
 use Rattle.std.specs.declared.alloc.AllocError.{AllocError}
+use Rattle.cordyceps_commands.specs.declared.list_command.ListCall.TheVariants as calls
+use Rattle.cordyceps_commands.specs.declared.list_command.ListMove.TheVariants as moves
+use Rattle.cordyceps_commands.specs.declared.list_command.Act.{Act}
+use Rattle.cordyceps_commands.specs.declared.list_command.Act.TheVariants as acts
 use Rattle.cordyceps_commands.specs.declared.list_command.ListCommand.{ListCommand}
-use Rattle.cordyceps_commands.specs.declared.list_command.ListCommand.TheVariants as commands
-use Rattle.cordyceps_commands.specs.ListCommands.{Fits}
-use Rattle.replay_lines.specs.declared.list_command.Entry.{Entry}
-use Rattle.replay_lines.specs.declared.list_command.Entry.TheVariants as entries
-use Rattle.replay_lines.specs.declared.list_command.PlainVerb.{PlainVerb}
-use Rattle.replay_lines.specs.declared.list_command.PlainVerb.TheVariants as verbs
+use Rattle.cordyceps_commands.specs.ListCommands.{ActFits}
 use Rattle.replay_lines.specs.declared.list_command.Verb.{Verb}
-use Rattle.replay_lines.specs.declared.list_command.Verb.TheVariants as firsts
-use Rattle.replay_lines.specs.Words.{words}
-use Rattle.replay_lines.specs.ListVerbs.{end_verb_of, plain_verb_of, verb_of, plain_command_with}
-use Rattle.replay_lines.specs.ListScript.{Meaning, plain, walk, into, cursor, meaning_of_command, meaning_of_entry, meaning_with, meaning_of_words, meaning_of, IsNoBlock, EntryFits}
-use Rattle.replay_lines.specs.Spelling.{words_of, spelling_of, HasNumbers}
-use Rattle.replay_lines.proofs.Forms.{mapped, chained, look, in_none, structure_form, two_structures_form, structure_and_value_form, structure_and_item_form, IsForm, has_no_space, one_word, split_joined, made, read_back, spelled_line}
-use Rattle.replay_lines.proofs.ListForms.{structure_and_turns_form, split_words_form, drain_words_form, structure_and_end_form}
+use Rattle.replay_lines.specs.declared.list_command.Verb.TheVariants as verbs
+use Rattle.replay_lines.specs.Words.{words, structure_number_of}
+use Rattle.replay_lines.specs.LineWords.{before}
+use Rattle.replay_lines.specs.ListVerbs.{end_verb_of, verb_of}
+use Rattle.replay_lines.specs.ListScript.{Meaning, plain, walk, into, block, meaning_of_act, meaning_of_command, meaning_with, meaning_of_words, meaning_of, IsOneLine, LineFits}
+use Rattle.replay_lines.specs.Spelling.{act_words, with_list, words_of, spelling_of, ActHasNumbers, HasNumbers}
+use Rattle.replay_lines.proofs.Forms.{mapped, chained, look, in_none, structure_kind, nothing_form, structure_form, value_form, item_form, IsForm, before_form, has_no_space, one_word, split_joined, made, spelled_line}
+use Rattle.replay_lines.proofs.ListForms.{turns_form, split_words_form, drain_words_form, end_form}
 
-abbrev word_of : PlainVerb → List ℕ
+abbrev word_of : Verb → List ℕ
 word_of verbs.PushFront = codes "pushf"
 word_of verbs.PushBack = codes "pushb"
 word_of verbs.PopFront = codes "popf"
@@ -33,142 +33,130 @@ word_of verbs.Append = codes "append"
 word_of verbs.Split = codes "split"
 word_of verbs.Remove = codes "remove"
 word_of verbs.Bump = codes "bump"
+word_of verbs.Walk = codes "walk"
+word_of verbs.Into = codes "into"
 word_of verbs.Drain = codes "drain"
 word_of verbs.Show = codes "show"
+word_of verbs.Cursor = codes "cursor"
 
-abbrev first_of : Verb → List ℕ
-first_of (firsts.Plain v) = word_of v
-first_of firsts.Walk = codes "walk"
-first_of firsts.Into = codes "into"
-first_of firsts.Cursor = codes "cursor"
-
-end_word : (word : List ℕ) (v : PlainVerb) → end_verb_of word ≡ Some v → word ≡ word_of v
+end_word : (word : List ℕ) (v : Verb) → end_verb_of word ≡ Some v → word ≡ word_of v
 end_word word v is =
-    let P : PlainVerb → Type 0 = λ w. word ≡ word_of w in
+    let P : Verb → Type 0 = λ w. word ≡ word_of w in
     look P word (codes "pushf") verbs.PushFront _ v (λ e. e) (look P word (codes "pushb") verbs.PushBack _ v (λ e. e) (look P word (codes "popf") verbs.PopFront _ v (λ e. e)
     (look P word (codes "popb") verbs.PopBack _ v (λ e. e) (look P word (codes "front") verbs.Front _ v (λ e. e) (look P word (codes "back") verbs.Back _ v (λ e. e)
     (look P word (codes "setf") verbs.SetFront _ v (λ e. e) (look P word (codes "setb") verbs.SetBack _ v (λ e. e) (in_none P v)))))))) is
 
-plain_word : (word : List ℕ) (v : PlainVerb) → plain_verb_of word ≡ Some v → word ≡ word_of v
-plain_word word v is =
-    let P : PlainVerb → Type 0 = λ w. word ≡ word_of w in
-    look P word (codes "len") verbs.Len _ v (λ e. e) (look P word (codes "append") verbs.Append _ v (λ e. e) (look P word (codes "split") verbs.Split _ v (λ e. e)
-    (look P word (codes "remove") verbs.Remove _ v (λ e. e) (look P word (codes "bump") verbs.Bump _ v (λ e. e) (look P word (codes "drain") verbs.Drain _ v (λ e. e)
-    (look P word (codes "show") verbs.Show _ v (λ e. e) (end_word word v))))))) is
-
-some_plain : (word : List ℕ) (v : Verb) → option_map (λ p. firsts.Plain p) (plain_verb_of word) ≡ Some v → word ≡ first_of v
-some_plain word v is =
-    let (p, found, same) = mapped (λ p. firsts.Plain p) (plain_verb_of word) v is in subst (λ (w : Verb). word ≡ first_of w) same (plain_word word p found)
-
-first_word : (word : List ℕ) (v : Verb) → verb_of word ≡ Some v → word ≡ first_of v
+first_word : (word : List ℕ) (v : Verb) → verb_of word ≡ Some v → word ≡ word_of v
 first_word word v is =
-    let P : Verb → Type 0 = λ w. word ≡ first_of w in
-    look P word (codes "walk") firsts.Walk _ v (λ e. e) (look P word (codes "into") firsts.Into _ v (λ e. e) (look P word (codes "cursor") firsts.Cursor _ v (λ e. e) (some_plain word v))) is
+    let P : Verb → Type 0 = λ w. word ≡ word_of w in
+    look P word (codes "len") verbs.Len _ v (λ e. e) (look P word (codes "append") verbs.Append _ v (λ e. e) (look P word (codes "split") verbs.Split _ v (λ e. e)
+    (look P word (codes "remove") verbs.Remove _ v (λ e. e) (look P word (codes "bump") verbs.Bump _ v (λ e. e) (look P word (codes "walk") verbs.Walk _ v (λ e. e)
+    (look P word (codes "into") verbs.Into _ v (λ e. e) (look P word (codes "drain") verbs.Drain _ v (λ e. e) (look P word (codes "show") verbs.Show _ v (λ e. e)
+    (look P word (codes "cursor") verbs.Cursor _ v (λ e. e) (end_word word v)))))))))) is
 
--- as `EntryFits`
+-- as `LineFits`
 abbrev MeaningFits : Meaning → Type 0
-MeaningFits (plain command) = Fits command × IsNoBlock command
-MeaningFits (walk list turns) = list < 16
-MeaningFits (into list turns) = list < 16
-MeaningFits (cursor list end) = list < 16
+MeaningFits (plain act) = ActFits act × IsOneLine act
+MeaningFits (walk turns) = Unit {0}
+MeaningFits (into turns) = Unit {0}
+MeaningFits (block end lines) = lines ≡ []
 
-abbrev plain_words : ListCommand → List (List ℕ)
-plain_words command = words_of (meaning_of_command command)
+meaning_words : (v : Verb) (word : List ℕ) (ws : List (List ℕ)) (m : Meaning) → word ≡ word_of v → meaning_with v ws ≡ Some m → (word ∷ ws ≡ act_words m) × MeaningFits m
+meaning_words verbs.PushFront = made act_words MeaningFits item_form (codes "pushf") (λ i. plain (acts.One (calls.PushFront i))) (λ x. refl) (λ x can. (tt, tt))
+meaning_words verbs.PushBack = made act_words MeaningFits item_form (codes "pushb") (λ i. plain (acts.One (calls.PushBack i))) (λ x. refl) (λ x can. (tt, tt))
+meaning_words verbs.PopFront = made act_words MeaningFits nothing_form (codes "popf") (λ none. plain (acts.One calls.PopFront)) (λ x. refl) (λ x can. (tt, tt))
+meaning_words verbs.PopBack = made act_words MeaningFits nothing_form (codes "popb") (λ none. plain (acts.One calls.PopBack)) (λ x. refl) (λ x can. (tt, tt))
+meaning_words verbs.Front = made act_words MeaningFits nothing_form (codes "front") (λ none. plain (acts.One calls.Front)) (λ x. refl) (λ x can. (tt, tt))
+meaning_words verbs.Back = made act_words MeaningFits nothing_form (codes "back") (λ none. plain (acts.One calls.Back)) (λ x. refl) (λ x can. (tt, tt))
+meaning_words verbs.SetFront = made act_words MeaningFits value_form (codes "setf") (λ v. plain (acts.One (calls.SetFront v))) (λ x. refl) (λ x can. (tt, tt))
+meaning_words verbs.SetBack = made act_words MeaningFits value_form (codes "setb") (λ v. plain (acts.One (calls.SetBack v))) (λ x. refl) (λ x can. (tt, tt))
+meaning_words verbs.Len = made act_words MeaningFits nothing_form (codes "len") (λ none. plain (acts.One calls.Len)) (λ x. refl) (λ x can. (tt, tt))
+meaning_words verbs.Append = made act_words MeaningFits structure_form (codes "append") (λ m. plain (acts.Two m moves.Append)) (λ x. refl) (λ x can. (can, tt))
+meaning_words verbs.Split = made act_words MeaningFits split_words_form (codes "split") (λ x. plain (acts.Two x.1 (moves.Split x.0))) (λ x. refl) (λ x can. (can.1, tt))
+meaning_words verbs.Remove = made act_words MeaningFits value_form (codes "remove") (λ v. plain (acts.One (calls.Remove v))) (λ x. refl) (λ x can. (tt, tt))
+meaning_words verbs.Bump = made act_words MeaningFits value_form (codes "bump") (λ v. plain (acts.One (calls.Bump v))) (λ x. refl) (λ x can. (tt, tt))
+meaning_words verbs.Walk = made act_words MeaningFits turns_form (codes "walk") (λ t. walk t) (λ x. refl) (λ x can. tt)
+meaning_words verbs.Into = made act_words MeaningFits turns_form (codes "into") (λ t. into t) (λ x. refl) (λ x can. tt)
+meaning_words verbs.Drain = made act_words MeaningFits drain_words_form (codes "drain") (λ x. plain (acts.One (calls.Drain x.0 x.1))) (λ x. refl) (λ x can. (tt, tt))
+meaning_words verbs.Show = made act_words MeaningFits nothing_form (codes "show") (λ none. plain (acts.One calls.Show)) (λ x. refl) (λ x can. (tt, tt))
+meaning_words verbs.Cursor = made act_words MeaningFits end_form (codes "cursor") (λ e. block e []) (λ x. refl) (λ x can. refl)
 
-abbrev PlainFits : ListCommand → Type 0
-PlainFits command = MeaningFits (meaning_of_command command)
+listed : (list : ℕ) (word number : List ℕ) (ws found : List (List ℕ)) → number ≡ decimal list → word ∷ ws ≡ found → word ∷ number ∷ ws ≡ with_list list found
+listed list word number ws found same is = rw (same, ← is) refl
 
-command_words : (v : PlainVerb) (word : List ℕ) (ws : List (List ℕ)) (c : ListCommand) → word ≡ word_of v → plain_command_with v ws ≡ Some c → (word ∷ ws ≡ plain_words c) × PlainFits c
-command_words verbs.PushFront = made plain_words PlainFits structure_and_item_form (codes "pushf") (λ x. commands.PushFront x.0 x.1) (λ x. refl) (λ x can. (record { first = can.0; others = tt }, tt))
-command_words verbs.PushBack = made plain_words PlainFits structure_and_item_form (codes "pushb") (λ x. commands.PushBack x.0 x.1) (λ x. refl) (λ x can. (record { first = can.0; others = tt }, tt))
-command_words verbs.PopFront = made plain_words PlainFits structure_form (codes "popf") (λ l. commands.PopFront l) (λ l. refl) (λ l can. (record { first = can; others = tt }, tt))
-command_words verbs.PopBack = made plain_words PlainFits structure_form (codes "popb") (λ l. commands.PopBack l) (λ l. refl) (λ l can. (record { first = can; others = tt }, tt))
-command_words verbs.Front = made plain_words PlainFits structure_form (codes "front") (λ l. commands.Front l) (λ l. refl) (λ l can. (record { first = can; others = tt }, tt))
-command_words verbs.Back = made plain_words PlainFits structure_form (codes "back") (λ l. commands.Back l) (λ l. refl) (λ l can. (record { first = can; others = tt }, tt))
-command_words verbs.SetFront = made plain_words PlainFits structure_and_value_form (codes "setf") (λ x. commands.SetFront x.0 x.1) (λ x. refl) (λ x can. (record { first = can.0; others = tt }, tt))
-command_words verbs.SetBack = made plain_words PlainFits structure_and_value_form (codes "setb") (λ x. commands.SetBack x.0 x.1) (λ x. refl) (λ x can. (record { first = can.0; others = tt }, tt))
-command_words verbs.Len = made plain_words PlainFits structure_form (codes "len") (λ l. commands.Len l) (λ l. refl) (λ l can. (record { first = can; others = tt }, tt))
-command_words verbs.Append = made plain_words PlainFits two_structures_form (codes "append") (λ x. commands.Append x.0 x.1) (λ x. refl) (λ x can. (record { first = can.0; others = can.1 }, tt))
-command_words verbs.Split = made plain_words PlainFits split_words_form (codes "split") (λ x. commands.Split x.0 x.1.0 x.1.1) (λ x. refl) (λ x can. (record { first = can.0; others = can.1.1 }, tt))
-command_words verbs.Remove = made plain_words PlainFits structure_and_value_form (codes "remove") (λ x. commands.Remove x.0 x.1) (λ x. refl) (λ x can. (record { first = can.0; others = tt }, tt))
-command_words verbs.Bump = made plain_words PlainFits structure_and_value_form (codes "bump") (λ x. commands.Bump x.0 x.1) (λ x. refl) (λ x can. (record { first = can.0; others = tt }, tt))
-command_words verbs.Drain = made plain_words PlainFits drain_words_form (codes "drain") (λ x. commands.Drain x.0 x.1.0 x.1.1) (λ x. refl) (λ x can. (record { first = can.0; others = tt }, tt))
-command_words verbs.Show = made plain_words PlainFits structure_form (codes "show") (λ l. commands.Show l) (λ l. refl) (λ l can. (record { first = can; others = tt }, tt))
-
-meaning_words : (v : Verb) (word : List ℕ) (ws : List (List ℕ)) (m : Meaning) → word ≡ first_of v → meaning_with v ws ≡ Some m → (word ∷ ws ≡ words_of m) × MeaningFits m
-meaning_words (firsts.Plain v) = λ word ws m same is.
-    let (c, found, here) = mapped meaning_of_command (plain_command_with v ws) m is in
-    subst (λ (n : Meaning). (word ∷ ws ≡ words_of n) × MeaningFits n) here (command_words v word ws c same found)
-meaning_words firsts.Walk = made words_of MeaningFits structure_and_turns_form (codes "walk") (λ x. walk x.0 x.1) (λ x. refl) (λ x can. can.0)
-meaning_words firsts.Into = made words_of MeaningFits structure_and_turns_form (codes "into") (λ x. into x.0 x.1) (λ x. refl) (λ x can. can.0)
-meaning_words firsts.Cursor = made words_of MeaningFits structure_and_end_form (codes "cursor") (λ x. cursor x.0 x.1) (λ x. refl) (λ x can. can.0)
-
-all_words : (ws : List (List ℕ)) (m : Meaning) → meaning_of_words ws ≡ Some m → (ws ≡ words_of m) × MeaningFits m
+all_words : (ws : List (List ℕ)) (m : ℕ × Meaning) → meaning_of_words ws ≡ Some m → (ws ≡ words_of m) × (m.0 < 16) × MeaningFits m.1
 all_words [] m is = cc
-all_words (word ∷ ws) m is = let (v, read, rest) = chained (λ v. meaning_with v ws) (verb_of word) m is in meaning_words v word ws m (first_word word v read) rest
+all_words (word ∷ ws) m is = let (v, read, rest) = chained (λ v. before structure_number_of (meaning_with v) ws) (verb_of word) m is in rest_words word ws v m (first_word word v read) rest where
+  rest_words : (word : List ℕ) (ws : List (List ℕ)) (v : Verb) (m : ℕ × Meaning) → word ≡ word_of v → before structure_number_of (meaning_with v) ws ≡ Some m → (word ∷ ws ≡ words_of m) × (m.0 < 16) × MeaningFits m.1
+  rest_words word [] v m same is = cc
+  rest_words word (number ∷ ws) v m same is =
+      let (list, first, others) = chained (λ list. option_map (λ n. (list, n)) (meaning_with v ws)) (structure_number_of number) m is in
+      let (meaning, last, here) = mapped (λ n. (list, n)) (meaning_with v ws) m others in
+      let (numeral, small) = structure_kind.sound number list first in
+      let (spelled, fits) = meaning_words v word ws meaning same last in
+      let P : ℕ × Meaning → Type 0 = λ n. (word ∷ number ∷ ws ≡ words_of n) × (n.0 < 16) × MeaningFits n.1 in
+      subst P here (listed list word number ws (act_words meaning) numeral spelled, small, fits)
 
-entry_fits : (entry : Entry) → MeaningFits (meaning_of_entry entry) → EntryFits entry
-entry_fits (entries.Command (commands.Walk list turns)) fits = (record { first = fits; others = tt }, tt)
-entry_fits (entries.Command (commands.Into list turns)) fits = (record { first = fits; others = tt }, tt)
-entry_fits (entries.Command command) fits = fits
-entry_fits (entries.Cursor list end) fits = fits
+act_fits : (act : Act) → MeaningFits (meaning_of_act act) → ActFits act × IsOneLine act
+act_fits (acts.One (calls.Walk turns)) fits = (tt, tt)
+act_fits (acts.One (calls.Into turns)) fits = (tt, tt)
+act_fits (acts.Block end lines) fits = (rw fits tt, fits)
+act_fits act fits = fits
 
-pub is_spelled : (line : List ℕ) (read : Option Entry) → option_map meaning_of_entry read ≡ meaning_of line → IfSome read (λ entry. line ≡ spelling_of entry)
+pub is_spelled : (line : List ℕ) (read : Option ListCommand) → option_map meaning_of_command read ≡ meaning_of line → IfSome read (λ command. line ≡ spelling_of command)
 is_spelled line None is = tt
-is_spelled line (Some entry) is = spelled_line line (words_of (meaning_of_entry entry)) (all_words (words line) (meaning_of_entry entry) (sym is)).0
+is_spelled line (Some command) is = spelled_line line (words_of (meaning_of_command command)) (all_words (words line) (meaning_of_command command) (sym is)).0
 
-pub line_fits : (line : List ℕ) (read : Option Entry) → option_map meaning_of_entry read ≡ meaning_of line → IfSome read EntryFits
+pub line_fits : (line : List ℕ) (read : Option ListCommand) → option_map meaning_of_command read ≡ meaning_of line → IfSome read LineFits
 line_fits line None is = tt
-line_fits line (Some entry) is = entry_fits entry (all_words (words line) (meaning_of_entry entry) (sym is)).1
+line_fits line (Some command) is =
+    let (spelled, small, fits) = all_words (words line) (meaning_of_command command) (sym is) in
+    let act = act_fits command.act fits in (record { first = small; others = act.0 }, act.1)
 
--- the spelling of a command that has no `Vec` is read
-read_plain : {A : Type 0} {read : List (List ℕ) → Option A} {spell : A → List (List ℕ)} {Can : A → Type 0} → IsForm read spell Can → (v : PlainVerb) (build : A → ListCommand) (a : A) → has_no_space (word_of v) ≡ true →
-    verb_of (word_of v) ≡ Some (firsts.Plain v) → plain_command_with v (spell a) ≡ option_map build (read (spell a)) → Can a → meaning_of (join_with_byte 32 (word_of v ∷ spell a)) ≡ Some (meaning_of_command (build a))
-read_plain {A} {read} {spell} form v build a clean verb is can =
-    ap meaning_of_words (split_joined (word_of v) (spell a) (one_word (word_of v) clean) (form.ones a can))
-    ∙ ap (λ (o : Option Verb). option_and_then (λ w. meaning_with w (spell a)) o) verb
-    ∙ ap (λ (o : Option ListCommand). option_map meaning_of_command o) (is ∙ ap (λ (o : Option A). option_map build o) (form.complete a can))
+-- the spelling of a command is read
+read_back : {A : Type 0} {read : List (List ℕ) → Option A} {spell : A → List (List ℕ)} {Can : A → Type 0} → IsForm read spell Can → (v : Verb) (build : A → Meaning) (l : ℕ) (a : A) → has_no_space (word_of v) ≡ true →
+    verb_of (word_of v) ≡ Some v → meaning_with v (spell a) ≡ option_map build (read (spell a)) → l < 16 → Can a → meaning_of (join_with_byte 32 (word_of v ∷ decimal l ∷ spell a)) ≡ Some (l, build a)
+read_back {A} {read} {spell} form v build l a clean verb is small can =
+    ap meaning_of_words (split_joined (word_of v) (decimal l ∷ spell a) (one_word (word_of v) clean) ((before_form structure_kind form).ones (l, a) (small, can)))
+    ∙ ap (λ (o : Option Verb). option_and_then (λ w. before structure_number_of (meaning_with w) (decimal l ∷ spell a)) o) verb
+    ∙ rw (structure_kind.complete l small, is, form.complete a can) refl
 
-spelled_command : (c : ListCommand) → Fits c → IsNoBlock c → HasNumbers (entries.Command c) → meaning_of (spelling_of (entries.Command c)) ≡ Some (meaning_of_command c)
-spelled_command (commands.PushFront l item) fits single numbers = read_plain structure_and_item_form verbs.PushFront (λ x. commands.PushFront x.0 x.1) (l, item) refl refl refl (fits.first, numbers)
-spelled_command (commands.PushBack l item) fits single numbers = read_plain structure_and_item_form verbs.PushBack (λ x. commands.PushBack x.0 x.1) (l, item) refl refl refl (fits.first, numbers)
-spelled_command (commands.PopFront l) fits single numbers = read_plain structure_form verbs.PopFront (λ m. commands.PopFront m) l refl refl refl fits.first
-spelled_command (commands.PopBack l) fits single numbers = read_plain structure_form verbs.PopBack (λ m. commands.PopBack m) l refl refl refl fits.first
-spelled_command (commands.Front l) fits single numbers = read_plain structure_form verbs.Front (λ m. commands.Front m) l refl refl refl fits.first
-spelled_command (commands.Back l) fits single numbers = read_plain structure_form verbs.Back (λ m. commands.Back m) l refl refl refl fits.first
-spelled_command (commands.SetFront l value) fits single numbers = read_plain structure_and_value_form verbs.SetFront (λ x. commands.SetFront x.0 x.1) (l, value) refl refl refl (fits.first, numbers)
-spelled_command (commands.SetBack l value) fits single numbers = read_plain structure_and_value_form verbs.SetBack (λ x. commands.SetBack x.0 x.1) (l, value) refl refl refl (fits.first, numbers)
-spelled_command (commands.Len l) fits single numbers = read_plain structure_form verbs.Len (λ m. commands.Len m) l refl refl refl fits.first
-spelled_command (commands.Append l m) fits single numbers = read_plain two_structures_form verbs.Append (λ x. commands.Append x.0 x.1) (l, m) refl refl refl (fits.first, fits.others)
-spelled_command (commands.Split l at m) fits single numbers = read_plain split_words_form verbs.Split (λ x. commands.Split x.0 x.1.0 x.1.1) (l, (at, m)) refl refl refl (fits.first, (numbers, fits.others))
-spelled_command (commands.Remove l id) fits single numbers = read_plain structure_and_value_form verbs.Remove (λ x. commands.Remove x.0 x.1) (l, id) refl refl refl (fits.first, numbers)
-spelled_command (commands.Bump l n) fits single numbers = read_plain structure_and_value_form verbs.Bump (λ x. commands.Bump x.0 x.1) (l, n) refl refl refl (fits.first, numbers)
-spelled_command (commands.Drain l filter most) fits single numbers = read_plain drain_words_form verbs.Drain (λ x. commands.Drain x.0 x.1.0 x.1.1) (l, (filter, most)) refl refl refl (fits.first, (tt, numbers))
-spelled_command (commands.Show l) fits single numbers = read_plain structure_form verbs.Show (λ m. commands.Show m) l refl refl refl fits.first
-spelled_command (commands.Walk l turns) fits single numbers = read_back meaning_of_words structure_and_turns_form (codes "walk") (λ x. walk x.0 x.1) (l, turns.items) refl refl (fits.first, numbers)
-spelled_command (commands.Into l turns) fits single numbers = read_back meaning_of_words structure_and_turns_form (codes "into") (λ x. into x.0 x.1) (l, turns.items) refl refl (fits.first, numbers)
-spelled_command (commands.Cursor l end lines) fits single numbers = absurd single
+spelled_act : (l : ℕ) (act : Act) → l < 16 → ActFits act → IsOneLine act → ActHasNumbers act → meaning_of (join_with_byte 32 (words_of (l, meaning_of_act act))) ≡ Some (l, meaning_of_act act)
+spelled_act l (acts.One (calls.PushFront item)) small fits one numbers = read_back item_form verbs.PushFront (λ i. plain (acts.One (calls.PushFront i))) l item refl refl refl small numbers
+spelled_act l (acts.One (calls.PushBack item)) small fits one numbers = read_back item_form verbs.PushBack (λ i. plain (acts.One (calls.PushBack i))) l item refl refl refl small numbers
+spelled_act l (acts.One calls.PopFront) small fits one numbers = read_back nothing_form verbs.PopFront (λ none. plain (acts.One calls.PopFront)) l tt refl refl refl small tt
+spelled_act l (acts.One calls.PopBack) small fits one numbers = read_back nothing_form verbs.PopBack (λ none. plain (acts.One calls.PopBack)) l tt refl refl refl small tt
+spelled_act l (acts.One calls.Front) small fits one numbers = read_back nothing_form verbs.Front (λ none. plain (acts.One calls.Front)) l tt refl refl refl small tt
+spelled_act l (acts.One calls.Back) small fits one numbers = read_back nothing_form verbs.Back (λ none. plain (acts.One calls.Back)) l tt refl refl refl small tt
+spelled_act l (acts.One (calls.SetFront value)) small fits one numbers = read_back value_form verbs.SetFront (λ v. plain (acts.One (calls.SetFront v))) l value refl refl refl small numbers
+spelled_act l (acts.One (calls.SetBack value)) small fits one numbers = read_back value_form verbs.SetBack (λ v. plain (acts.One (calls.SetBack v))) l value refl refl refl small numbers
+spelled_act l (acts.One calls.Len) small fits one numbers = read_back nothing_form verbs.Len (λ none. plain (acts.One calls.Len)) l tt refl refl refl small tt
+spelled_act l (acts.Two other moves.Append) small fits one numbers = read_back structure_form verbs.Append (λ m. plain (acts.Two m moves.Append)) l other refl refl refl small fits
+spelled_act l (acts.Two other (moves.Split at)) small fits one numbers = read_back split_words_form verbs.Split (λ x. plain (acts.Two x.1 (moves.Split x.0))) l (at, other) refl refl refl small (numbers, fits)
+spelled_act l (acts.One (calls.Remove value)) small fits one numbers = read_back value_form verbs.Remove (λ v. plain (acts.One (calls.Remove v))) l value refl refl refl small numbers
+spelled_act l (acts.One (calls.Bump value)) small fits one numbers = read_back value_form verbs.Bump (λ v. plain (acts.One (calls.Bump v))) l value refl refl refl small numbers
+spelled_act l (acts.One (calls.Walk turns)) small fits one numbers = read_back turns_form verbs.Walk (λ t. walk t) l turns.items refl refl refl small numbers
+spelled_act l (acts.One (calls.Into turns)) small fits one numbers = read_back turns_form verbs.Into (λ t. into t) l turns.items refl refl refl small numbers
+spelled_act l (acts.One (calls.Drain filter most)) small fits one numbers = read_back drain_words_form verbs.Drain (λ x. plain (acts.One (calls.Drain x.0 x.1))) l (filter, most) refl refl refl small (tt, numbers)
+spelled_act l (acts.One calls.Show) small fits one numbers = read_back nothing_form verbs.Show (λ none. plain (acts.One calls.Show)) l tt refl refl refl small tt
+spelled_act l (acts.Block end lines) small fits one numbers = rw one (read_back end_form verbs.Cursor (λ e. block e []) l end refl refl refl small tt)
 
-spelled : (entry : Entry) → EntryFits entry → HasNumbers entry → meaning_of (spelling_of entry) ≡ Some (meaning_of_entry entry)
-spelled (entries.Command c) fits numbers = spelled_command c fits.0 fits.1 numbers
-spelled (entries.Cursor l end) fits numbers = read_back meaning_of_words structure_and_end_form (codes "cursor") (λ x. cursor x.0 x.1) (l, end) refl refl (fits, tt)
-
-pub read_spelled : (line : List ℕ) (entry : Entry) → EntryFits entry → HasNumbers entry → spelling_of entry ≡ line → meaning_of line ≡ Some (meaning_of_entry entry)
-read_spelled line entry fits numbers is = sym (ap meaning_of is) ∙ spelled entry fits numbers
+pub read_spelled : (line : List ℕ) (command : ListCommand) → LineFits command → HasNumbers command → spelling_of command ≡ line → meaning_of line ≡ Some (meaning_of_command command)
+read_spelled line command (fits, one) numbers is = sym (ap meaning_of is) ∙ spelled_act command.list command.act fits.first fits.others one numbers
 
 -- what a line was read as, unless memory was refused
-abbrev IsRead : List ℕ → Result (Option Entry) AllocError → Type 0
-IsRead line result = IfOk result (λ read. option_map meaning_of_entry read ≡ meaning_of line)
+abbrev IsRead : List ℕ → Result (Option ListCommand) AllocError → Type 0
+IsRead line result = IfOk result (λ read. option_map meaning_of_command read ≡ meaning_of line)
 
-pub fits_read : (line : List ℕ) (result : Result (Option Entry) AllocError) → IsRead line result → IfOk result (λ read. IfSome read EntryFits)
+pub fits_read : (line : List ℕ) (result : Result (Option ListCommand) AllocError) → IsRead line result → IfOk result (λ read. IfSome read LineFits)
 fits_read line (Ok read) is = line_fits line read is
 fits_read line (Err e) is = tt
 
-pub spelled_read : (line : List ℕ) (result : Result (Option Entry) AllocError) → IsRead line result → IfOk result (λ read. IfSome read (λ entry. line ≡ spelling_of entry))
+pub spelled_read : (line : List ℕ) (result : Result (Option ListCommand) AllocError) → IsRead line result → IfOk result (λ read. IfSome read (λ command. line ≡ spelling_of command))
 spelled_read line (Ok read) is = is_spelled line read is
 spelled_read line (Err e) is = tt
 
-pub every_read : (line : List ℕ) (result : Result (Option Entry) AllocError) → IsRead line result →
-    IfOk result (λ read. (entry : Entry) → EntryFits entry → HasNumbers entry → spelling_of entry ≡ line → option_map meaning_of_entry read ≡ Some (meaning_of_entry entry))
-every_read line (Ok read) is = λ entry fits numbers same. is ∙ read_spelled line entry fits numbers same
+pub every_read : (line : List ℕ) (result : Result (Option ListCommand) AllocError) → IsRead line result →
+    IfOk result (λ read. (command : ListCommand) → LineFits command → HasNumbers command → spelling_of command ≡ line → option_map meaning_of_command read ≡ Some (meaning_of_command command))
+every_read line (Ok read) is = λ command fits numbers same. is ∙ read_spelled line command fits numbers same
 every_read line (Err e) is = tt

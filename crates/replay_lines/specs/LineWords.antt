@@ -40,10 +40,6 @@ item_of words = option_map (λ x. record { value = x.1; id = x.0 }) (before numb
 abbrev pub two_structures_of : List (List ℕ) → Option (ℕ × ℕ)
 two_structures_of words = before structure_number_of structure_of words
 
--- the words S V
-abbrev pub structure_and_value_of : List (List ℕ) → Option (ℕ × ℕ)
-structure_and_value_of words = before structure_number_of value_of words
-
 -- the words S ID V
 abbrev pub structure_and_item_of : List (List ℕ) → Option (ℕ × Item)
 structure_and_item_of words = before structure_number_of item_of words

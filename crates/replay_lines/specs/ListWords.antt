@@ -9,7 +9,7 @@ use Rattle.cordyceps_commands.specs.declared.list_command.Turn.{Turn}
 use Rattle.cordyceps_commands.specs.declared.list_command.Turn.TheVariants as turn_letters
 use Rattle.cordyceps_commands.specs.declared.list_command.Filter.{Filter}
 use Rattle.cordyceps_commands.specs.declared.list_command.Filter.TheVariants as filters
-use Rattle.replay_lines.specs.Words.{number_of, structure_number_of}
+use Rattle.replay_lines.specs.Words.{number_of}
 use Rattle.replay_lines.specs.LineWords.{only, before, structure_of, value_of}
 
 -- an end of a list
@@ -43,21 +43,21 @@ letters_of (letter ∷ letters) =
 abbrev pub turns_of : List ℕ → Option (List Turn)
 turns_of word = if nat_eq (length word) 0 || nat_lt 64 (length word) then None else letters_of word
 
--- the words L W
-abbrev pub structure_and_turns_of : List (List ℕ) → Option (ℕ × List Turn)
-structure_and_turns_of words = before structure_number_of (only turns_of) words
+-- the word W
+abbrev pub turns_word_of : List (List ℕ) → Option (List Turn)
+turns_word_of words = only turns_of words
 
--- the words L AT M
-abbrev pub split_words_of : List (List ℕ) → Option (ℕ × (ℕ × ℕ))
-split_words_of words = before structure_number_of (before number_of structure_of) words
+-- the words AT M
+abbrev pub split_words_of : List (List ℕ) → Option (ℕ × ℕ)
+split_words_of words = before number_of structure_of words
 
--- the words L F K
-abbrev pub drain_words_of : List (List ℕ) → Option (ℕ × (Filter × ℕ))
-drain_words_of words = before structure_number_of (before filter_of value_of) words
+-- the words F K
+abbrev pub drain_words_of : List (List ℕ) → Option (Filter × ℕ)
+drain_words_of words = before filter_of value_of words
 
--- the words L front and L back
-abbrev pub structure_and_end_of : List (List ℕ) → Option (ℕ × ListEnd)
-structure_and_end_of words = before structure_number_of (only end_of) words
+-- the words front and back
+abbrev pub end_word_of : List (List ℕ) → Option ListEnd
+end_word_of words = only end_of words
 
 abbrev pub end_word : ListEnd → List ℕ
 end_word ends.Front = codes "front"

@@ -9,7 +9,6 @@ use Rattle.replay_lines.specs.declared.reason.Structures.{Structures}
 use Rattle.replay_lines.specs.declared.reason.Structures.TheVariants as structures
 use Rattle.replay_lines.specs.declared.reason.Vocabulary.{Vocabulary}
 use Rattle.replay_lines.specs.declared.reason.Vocabulary.TheVariants as vocabularies
-use Rattle.replay_lines.specs.declared.list_command.PlainVerb.TheVariants as plain
 use Rattle.replay_lines.specs.declared.list_command.Verb.{Verb}
 use Rattle.replay_lines.specs.declared.list_command.Verb.TheVariants as lists
 use Rattle.replay_lines.specs.declared.cursor_command.CursorVerb.{CursorVerb}
@@ -84,15 +83,13 @@ has_great structures.FirstAndThird words = first_is_great words || third_is_grea
 
 -- which words after a command word of mode list are structures, outside of blocks; in them
 abbrev pub list_structures_with : Verb → Structures
-list_structures_with (lists.Plain plain.Append) = structures.FirstAndSecond
-list_structures_with (lists.Plain plain.Split) = structures.FirstAndThird
+list_structures_with lists.Append = structures.FirstAndSecond
+list_structures_with lists.Split = structures.FirstAndThird
 list_structures_with verb = structures.First
 
 abbrev pub cursor_structures_with : CursorVerb → Structures
-cursor_structures_with cursors.SplitAfter = structures.First
-cursor_structures_with cursors.SplitBefore = structures.First
-cursor_structures_with cursors.SpliceAfter = structures.First
-cursor_structures_with cursors.SpliceBefore = structures.First
+cursor_structures_with (cursors.Split side) = structures.First
+cursor_structures_with (cursors.Splice side) = structures.First
 cursor_structures_with verb = structures.Nowhere
 
 abbrev pub list_structures : List ℕ → Option Structures

@@ -2,7 +2,7 @@
 //! and takes O(b), for b bytes of the words.
 ghost use Rattle.std.specs.Prelude.{◌≡◌, ◌∷◌, [], None, MatchOption};
 ghost use Rattle.replay_lines.specs.Words.{words_left};
-ghost use Rattle.replay_lines.specs.LineWords.{only_word_of, nothing_of, structure_of, value_of, item_of, two_structures_of, structure_and_value_of, structure_and_item_of, party_and_number_of, party_and_item_of, perhaps_item_of, party_and_perhaps_item_of};
+ghost use Rattle.replay_lines.specs.LineWords.{only_word_of, nothing_of, structure_of, value_of, item_of, two_structures_of, structure_and_item_of, party_and_number_of, party_and_item_of, perhaps_item_of, party_and_perhaps_item_of};
 
 use crate::words::{Words, number, structure_number};
 use cordyceps_commands::Item;
@@ -67,14 +67,6 @@ pub fn two_structures(mut words: Words) -> Option<(u8, u8)>
 {
     let first = structure_number(words.next_word()?)?;
     Some((first, structure(words)?))
-}
-
-/// Reads `S V`, the number of a structure and a value.
-pub fn structure_and_value(mut words: Words) -> Option<(u8, u64)>
-    ensures { result ≡ structure_and_value_of (words_left words.entry.rest) }
-{
-    let structure = structure_number(words.next_word()?)?;
-    Some((structure, value(words)?))
 }
 
 /// Reads `S ID V`, the number of a structure and an item.

@@ -2,20 +2,22 @@
 ghost use Rattle.std.specs.Prelude.{◌≡◌, true, Some, is_some, IfOk, OnErr, IfSome};
 ghost use Rattle.std.specs.Option.{option_map};
 ghost use Rattle.replay_lines.specs.Words.{words_left};
-ghost use Rattle.replay_lines.specs.ListVerbs.{plain_verb_of, end_verb_of, verb_of, plain_command_with};
-ghost use Rattle.replay_lines.specs.ListScript.{meaning_of_entry, meaning_of, EntryFits};
+ghost use Rattle.replay_lines.specs.LineWords.{nothing_of};
+ghost use Rattle.replay_lines.specs.ListVerbs.{end_verb_of, verb_of};
+ghost use Rattle.replay_lines.specs.ListScript.{meaning_of_act, meaning_of_command, meaning_with, meaning_of, LineFits};
 ghost use Rattle.replay_lines.specs.Spelling.{spelling_of, HasNumbers};
-ghost use Rattle.replay_lines.specs.declared.list_command.Entry.{Entry};
+ghost use Rattle.cordyceps_commands.specs.declared.list_command.Act.{Act};
+ghost use Rattle.cordyceps_commands.specs.declared.list_command.ListCommand.{ListCommand};
 
-use crate::line_words::{structure, structure_and_item, structure_and_value, two_structures};
-use crate::list_words::{drain_words, split_words, structure_and_end, structure_and_turns};
-use crate::words::Words;
-use cordyceps_commands::{ListCommand, ListEnd};
+use crate::line_words::{item, nothing, structure, value};
+use crate::list_words::{drain_words, end_word, split_words, turns_word};
+use crate::words::{Words, structure_number};
+use cordyceps_commands::{Act, ListCall, ListCommand, ListMove};
 use std::alloc::{AllocError, Global};
 
-/// A command word of the mode whose command is read without an allocation.
+/// A command word of the mode.
 #[derive(Clone, Copy)]
-pub enum PlainVerb {
+pub enum Verb {
     /// `pushf L ID V`: prepends an item.
     PushFront,
     /// `pushb L ID V`: appends an item.
@@ -42,158 +44,142 @@ pub enum PlainVerb {
     Remove,
     /// `bump L N`: adds N to the value of each item.
     Bump,
-    /// `drain L F K`: removes the items that pass, at most K.
-    Drain,
-    /// `show L`: reads all items.
-    Show,
-}
-
-/// A command word of the mode.
-#[derive(Clone, Copy)]
-pub enum Verb {
-    /// A word whose command is read without an allocation.
-    Plain(PlainVerb),
     /// `walk L W`: reads items by an iterator, from both ends.
     Walk,
     /// `into L W`: removes all items, and shows those that an iterator returns.
     Into,
+    /// `drain L F K`: removes the items that pass, at most K.
+    Drain,
+    /// `show L`: reads all items.
+    Show,
     /// `cursor L front` or `cursor L back`: begins a cursor block.
     Cursor,
 }
 
-/// What a line outside of blocks is.
-#[derive(Drop)]
-pub enum Entry {
-    /// A command that is not a block.
-    Command(ListCommand),
-    /// The first line of a block: the number of its list, and the end at which its cursor begins.
-    Cursor(u8, ListEnd),
-}
-
-/// Reads a word of a command on the ends of a list.
-fn read_end_verb(word: &[u8]) -> Option<PlainVerb>
+/// Reads a word of a call on the ends of a list.
+fn read_end_verb(word: &[u8]) -> Option<Verb>
     ensures { result ≡ end_verb_of word.now }
 {
     if word == b"pushf".as_slice() {
-        Some(PlainVerb::PushFront)
+        Some(Verb::PushFront)
     } else if word == b"pushb".as_slice() {
-        Some(PlainVerb::PushBack)
+        Some(Verb::PushBack)
     } else if word == b"popf".as_slice() {
-        Some(PlainVerb::PopFront)
+        Some(Verb::PopFront)
     } else if word == b"popb".as_slice() {
-        Some(PlainVerb::PopBack)
+        Some(Verb::PopBack)
     } else if word == b"front".as_slice() {
-        Some(PlainVerb::Front)
+        Some(Verb::Front)
     } else if word == b"back".as_slice() {
-        Some(PlainVerb::Back)
+        Some(Verb::Back)
     } else if word == b"setf".as_slice() {
-        Some(PlainVerb::SetFront)
+        Some(Verb::SetFront)
     } else if word == b"setb".as_slice() {
-        Some(PlainVerb::SetBack)
+        Some(Verb::SetBack)
     } else {
         None
-    }
-}
-
-fn read_plain_verb(word: &[u8]) -> Option<PlainVerb>
-    ensures { result ≡ plain_verb_of word.now }
-{
-    if word == b"len".as_slice() {
-        Some(PlainVerb::Len)
-    } else if word == b"append".as_slice() {
-        Some(PlainVerb::Append)
-    } else if word == b"split".as_slice() {
-        Some(PlainVerb::Split)
-    } else if word == b"remove".as_slice() {
-        Some(PlainVerb::Remove)
-    } else if word == b"bump".as_slice() {
-        Some(PlainVerb::Bump)
-    } else if word == b"drain".as_slice() {
-        Some(PlainVerb::Drain)
-    } else if word == b"show".as_slice() {
-        Some(PlainVerb::Show)
-    } else {
-        read_end_verb(word)
     }
 }
 
 pub(crate) fn read_verb(word: &[u8]) -> Option<Verb>
     ensures { result ≡ verb_of word.now }
 {
-    if word == b"walk".as_slice() {
+    if word == b"len".as_slice() {
+        Some(Verb::Len)
+    } else if word == b"append".as_slice() {
+        Some(Verb::Append)
+    } else if word == b"split".as_slice() {
+        Some(Verb::Split)
+    } else if word == b"remove".as_slice() {
+        Some(Verb::Remove)
+    } else if word == b"bump".as_slice() {
+        Some(Verb::Bump)
+    } else if word == b"walk".as_slice() {
         Some(Verb::Walk)
     } else if word == b"into".as_slice() {
         Some(Verb::Into)
+    } else if word == b"drain".as_slice() {
+        Some(Verb::Drain)
+    } else if word == b"show".as_slice() {
+        Some(Verb::Show)
     } else if word == b"cursor".as_slice() {
         Some(Verb::Cursor)
     } else {
-        read_plain_verb(word).map(Verb::Plain)
+        read_end_verb(word)
     }
 }
 
-/// Reads the words that follow a command word.
-fn read_plain(verb: PlainVerb, rest: Words) -> Option<ListCommand>
-    ensures { result ≡ plain_command_with verb (words_left rest.entry.rest) }
+/// Returns the act of a call, unless a word is left.
+fn bare(words: Words, call: ListCall) -> Option<Act>
+    ensures { result ≡ option_map (λ none. Act.One call) (nothing_of (words_left words.entry.rest)) }
+{
+    nothing(words)?;
+    Some(Act::One(call))
+}
+
+/// Reads the words after the number of a list.
+fn read_act(alloc: Global, verb: Verb, words: Words) -> Result<Option<Act>, AllocError>
+    ensures value { IfOk result
+        (λ read. option_map meaning_of_act read ≡ meaning_with verb (words_left words.entry.rest)) }
+    ensures err { OnErr result (is_some (meaning_with verb (words_left words.entry.rest)) ≡ true) }
 {
     match verb {
-        PlainVerb::PushFront => structure_and_item(rest).map(|(l, i)| ListCommand::PushFront(l, i)),
-        PlainVerb::PushBack => structure_and_item(rest).map(|(l, i)| ListCommand::PushBack(l, i)),
-        PlainVerb::PopFront => structure(rest).map(ListCommand::PopFront),
-        PlainVerb::PopBack => structure(rest).map(ListCommand::PopBack),
-        PlainVerb::Front => structure(rest).map(ListCommand::Front),
-        PlainVerb::Back => structure(rest).map(ListCommand::Back),
-        PlainVerb::SetFront => structure_and_value(rest).map(|(l, v)| ListCommand::SetFront(l, v)),
-        PlainVerb::SetBack => structure_and_value(rest).map(|(l, v)| ListCommand::SetBack(l, v)),
-        PlainVerb::Len => structure(rest).map(ListCommand::Len),
-        PlainVerb::Append => two_structures(rest).map(|(l, m)| ListCommand::Append(l, m)),
-        PlainVerb::Split => split_words(rest).map(|(l, (at, m))| ListCommand::Split(l, at, m)),
-        PlainVerb::Remove => structure_and_value(rest).map(|(l, id)| ListCommand::Remove(l, id)),
-        PlainVerb::Bump => structure_and_value(rest).map(|(l, n)| ListCommand::Bump(l, n)),
-        PlainVerb::Drain => drain_words(rest).map(|(l, (f, k))| ListCommand::Drain(l, f, k)),
-        PlainVerb::Show => structure(rest).map(ListCommand::Show),
+        Verb::PushFront => Ok(item(words).map(ListCall::PushFront).map(Act::One)),
+        Verb::PushBack => Ok(item(words).map(ListCall::PushBack).map(Act::One)),
+        Verb::PopFront => Ok(bare(words, ListCall::PopFront)),
+        Verb::PopBack => Ok(bare(words, ListCall::PopBack)),
+        Verb::Front => Ok(bare(words, ListCall::Front)),
+        Verb::Back => Ok(bare(words, ListCall::Back)),
+        Verb::SetFront => Ok(value(words).map(ListCall::SetFront).map(Act::One)),
+        Verb::SetBack => Ok(value(words).map(ListCall::SetBack).map(Act::One)),
+        Verb::Len => Ok(bare(words, ListCall::Len)),
+        Verb::Append => Ok(structure(words).map(|m| Act::Two(m, ListMove::Append))),
+        Verb::Split => Ok(split_words(words).map(|(at, m)| Act::Two(m, ListMove::Split(at)))),
+        Verb::Remove => Ok(value(words).map(ListCall::Remove).map(Act::One)),
+        Verb::Bump => Ok(value(words).map(ListCall::Bump).map(Act::One)),
+        Verb::Walk => Ok(turns_word(alloc, words)?.map(ListCall::Walk).map(Act::One)),
+        Verb::Into => Ok(turns_word(alloc, words)?.map(ListCall::Into).map(Act::One)),
+        Verb::Drain => Ok(
+            drain_words(words)
+                .map(|(f, k)| ListCall::Drain(f, k))
+                .map(Act::One),
+        ),
+        Verb::Show => Ok(bare(words, ListCall::Show)),
+        Verb::Cursor => Ok(end_word(words).map(|end| Act::Block(end, Vec::new(alloc)))),
     }
 }
 
-/// Reads the command word, and the words that follow it.
-fn read_words(alloc: Global, line: &[u8]) -> Result<Option<Entry>, AllocError>
-    ensures value { IfOk result (λ read. option_map meaning_of_entry read ≡ meaning_of line.now) }
+/// Reads the command word, the number of the list, and the words that follow it.
+fn read_words(alloc: Global, line: &[u8]) -> Result<Option<ListCommand>, AllocError>
+    ensures value { IfOk result (λ read. option_map meaning_of_command read ≡ meaning_of line.now) }
     ensures err { OnErr result (is_some (meaning_of line.now) ≡ true) }
 {
     let mut words = Words::new(line);
-    let Some(word) = words.next_word() else {
+    let Some(verb) = words.next_word().and_then(read_verb) else {
         return Ok(None);
     };
-    let Some(verb) = read_verb(word) else {
+    let Some(list) = words.next_word().and_then(structure_number) else {
         return Ok(None);
     };
-    match verb {
-        Verb::Plain(verb) => Ok(read_plain(verb, words).map(Entry::Command)),
-        Verb::Walk => {
-            let read = structure_and_turns(alloc, words)?;
-            Ok(read.map(|(l, turns)| Entry::Command(ListCommand::Walk(l, turns))))
-        }
-        Verb::Into => {
-            let read = structure_and_turns(alloc, words)?;
-            Ok(read.map(|(l, turns)| Entry::Command(ListCommand::Into(l, turns))))
-        }
-        Verb::Cursor => Ok(structure_and_end(words).map(|(l, end)| Entry::Cursor(l, end))),
-    }
+    let act = read_act(alloc, verb, words)?;
+    Ok(act.map(|act| ListCommand { list, act }))
 }
 
-/// Reads a line of mode `list` outside of blocks, or returns `None` if the line is bad.
+/// Reads a line of mode `list` outside of blocks, or returns `None` if the line is bad. The first line of a block is
+/// the command of a block without lines.
 ///
 /// # Errors
 /// If memory is refused, it returns `AllocError`. The line is not bad then.
 ///
 /// # Complexity
 /// O(b), for b bytes of the line. Only `walk` and `into` allocate.
-pub fn read_entry(alloc: Global, line: &[u8]) -> Result<Option<Entry>, AllocError>
-    ensures value { IfOk result (λ read. option_map meaning_of_entry read ≡ meaning_of line.now) }
-    ensures fits { IfOk result (λ read. IfSome read EntryFits) }
-    ensures spelled { IfOk result (λ read. IfSome read (λ entry. line.now ≡ spelling_of entry)) }
+pub fn read_command(alloc: Global, line: &[u8]) -> Result<Option<ListCommand>, AllocError>
+    ensures value { IfOk result (λ read. option_map meaning_of_command read ≡ meaning_of line.now) }
+    ensures fits { IfOk result (λ read. IfSome read LineFits) }
+    ensures spelled { IfOk result (λ read. IfSome read (λ command. line.now ≡ spelling_of command)) }
     ensures every { IfOk result
-        (λ read. (entry : Entry) → EntryFits entry → HasNumbers entry → spelling_of entry ≡ line.now
-        → option_map meaning_of_entry read ≡ Some (meaning_of_entry entry)) }
+        (λ read. (command : ListCommand) → LineFits command → HasNumbers command → spelling_of command ≡ line.now
+        → option_map meaning_of_command read ≡ Some (meaning_of_command command)) }
     ensures err { OnErr result (is_some (meaning_of line.now) ≡ true) }
 {
     read_words(alloc, line)

@@ -3,10 +3,10 @@
 ghost use Rattle.std.specs.Prelude.{◌≡◌, true, Some, is_some, IfOk, OnErr};
 ghost use Rattle.std.specs.Option.{option_map};
 ghost use Rattle.replay_lines.specs.Words.{words_left};
-ghost use Rattle.replay_lines.specs.ListWords.{end_of, filter_of, turn_of, turns_of, structure_and_turns_of, split_words_of, drain_words_of, structure_and_end_of};
+ghost use Rattle.replay_lines.specs.ListWords.{end_of, filter_of, turn_of, turns_of, turns_word_of, split_words_of, drain_words_of, end_word_of};
 
 use crate::line_words::{only_word, structure, value};
-use crate::words::{Words, number, structure_number};
+use crate::words::{Words, number};
 use cordyceps_commands::{Filter, ListEnd, Turn};
 use std::alloc::{AllocError, Global};
 
@@ -78,21 +78,15 @@ fn turns(alloc: Global, word: &[u8]) -> Result<Vec<Turn>, AllocError>
     Ok(turns)
 }
 
-/// Reads `L W`, the number of a list and the turns of an iterator.
+/// Reads `W`, the turns of an iterator.
 ///
 /// # Errors
 /// If memory is refused, it returns `AllocError`. The words are these then.
-pub fn structure_and_turns(
-    alloc: Global,
-    mut words: Words,
-) -> Result<Option<(u8, Vec<Turn>)>, AllocError>
+pub fn turns_word(alloc: Global, words: Words) -> Result<Option<Vec<Turn>>, AllocError>
     ensures value { IfOk result
-        (λ read. option_map (λ x. (x.0, x.1.items)) read ≡ structure_and_turns_of (words_left words.entry.rest)) }
-    ensures err { OnErr result (is_some (structure_and_turns_of (words_left words.entry.rest)) ≡ true) }
+        (λ read. option_map (λ x. x.items) read ≡ turns_word_of (words_left words.entry.rest)) }
+    ensures err { OnErr result (is_some (turns_word_of (words_left words.entry.rest)) ≡ true) }
 {
-    let Some(structure) = words.next_word().and_then(structure_number) else {
-        return Ok(None);
-    };
     let Some(word) = only_word(words) else {
         return Ok(None);
     };
@@ -100,31 +94,28 @@ pub fn structure_and_turns(
         return Ok(None);
     }
     let turns = turns(alloc, word)?;
-    Ok(Some((structure, turns)))
+    Ok(Some(turns))
 }
 
-/// Reads `L AT M`: the number of a list, an index, and the number of another list.
-pub fn split_words(mut words: Words) -> Option<(u8, (u64, u8))>
+/// Reads `AT M`: an index, and the number of another list.
+pub fn split_words(mut words: Words) -> Option<(u64, u8)>
     ensures { result ≡ split_words_of (words_left words.entry.rest) }
 {
-    let list = structure_number(words.next_word()?)?;
     let at = number(words.next_word()?)?;
-    Some((list, (at, structure(words)?)))
+    Some((at, structure(words)?))
 }
 
-/// Reads `L F K`: the number of a list, a filter, and a number of items.
-pub fn drain_words(mut words: Words) -> Option<(u8, (Filter, u64))>
+/// Reads `F K`: a filter, and a number of items.
+pub fn drain_words(mut words: Words) -> Option<(Filter, u64)>
     ensures { result ≡ drain_words_of (words_left words.entry.rest) }
 {
-    let list = structure_number(words.next_word()?)?;
     let filter = filter(words.next_word()?)?;
-    Some((list, (filter, value(words)?)))
+    Some((filter, value(words)?))
 }
 
-/// Reads `L front` or `L back`, the number of a list and an end of it.
-pub fn structure_and_end(mut words: Words) -> Option<(u8, ListEnd)>
-    ensures { result ≡ structure_and_end_of (words_left words.entry.rest) }
+/// Reads `front` or `back`, an end of a list.
+pub fn end_word(words: Words) -> Option<ListEnd>
+    ensures { result ≡ end_word_of (words_left words.entry.rest) }
 {
-    let list = structure_number(words.next_word()?)?;
-    Some((list, list_end(only_word(words)?)?))
+    list_end(only_word(words)?)
 }

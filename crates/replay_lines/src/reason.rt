@@ -3,7 +3,6 @@ ghost use Rattle.std.specs.Prelude.{◌≡◌};
 ghost use Rattle.replay_lines.specs.Words.{words_left};
 ghost use Rattle.replay_lines.specs.Reasons.{digits_only, has_carriage_return, fault_of, first_fault_of, is_great, first_is_great, second_is_great, third_is_great, has_great, list_structures, structures_of, reason_after, reason_of_words, reason_of};
 
-use crate::list_command::PlainVerb;
 use crate::words::{Words, number};
 use crate::{
     cursor_command, list_command, queue_command, sorted_command, stack_command, transfer_command,
@@ -196,16 +195,13 @@ fn structures_in_list(word: &[u8]) -> Option<Structures>
     use crate::cursor_command::CursorVerb;
     use crate::list_command::Verb;
     match list_command::read_verb(word) {
-        Some(Verb::Plain(PlainVerb::Append)) => return Some(Structures::FirstAndSecond),
-        Some(Verb::Plain(PlainVerb::Split)) => return Some(Structures::FirstAndThird),
+        Some(Verb::Append) => return Some(Structures::FirstAndSecond),
+        Some(Verb::Split) => return Some(Structures::FirstAndThird),
         Some(_) => return Some(Structures::First),
         None => {}
     }
     match cursor_command::read_verb(word)? {
-        CursorVerb::SplitAfter
-        | CursorVerb::SplitBefore
-        | CursorVerb::SpliceAfter
-        | CursorVerb::SpliceBefore => Some(Structures::First),
+        CursorVerb::Split(_) | CursorVerb::Splice(_) => Some(Structures::First),
         _ => Some(Structures::Nowhere),
     }
 }

@@ -1,51 +1,51 @@
 -- What the lines of mode list do to a session's state.
 use Rattle.std.proofs.Common.{◌≡◌, ℕ, List, [], ◌∷◌, ◌++◌, Option, Some, None, true, Ok, Err, length, take, refl, sym, ◌∙◌, ap, arith, inl, inr}
 use Rattle.std.specs.Prelude.{is_some}
-use Rattle.std.specs.Option.{option_map}
 use Rattle.std.specs.List.{concat}
+use Rattle.std.specs.declared.alloc.Global.{Global}
+use Rattle.std.specs.declared.vec.Vec.{Vec}
 use Rattle.std.proofs.lemmas.List.{append-nil, take_at}
 use Rattle.cordyceps_commands.specs.declared.list_command.CursorCommand.{CursorCommand}
 use Rattle.cordyceps_commands.specs.declared.list_command.CursorCommand.TheVariants as lines
-use Rattle.cordyceps_commands.specs.declared.list_command.ListCommand.{ListCommand}
-use Rattle.cordyceps_commands.specs.declared.list_command.ListCommand.TheVariants as commands
+use Rattle.cordyceps_commands.specs.declared.list_command.ListEnd.{ListEnd}
+use Rattle.cordyceps_commands.specs.declared.list_command.ListCall.TheVariants as calls
+use Rattle.cordyceps_commands.specs.declared.list_command.Act.{Act}
+use Rattle.cordyceps_commands.specs.declared.list_command.Act.TheVariants as acts
 use Rattle.cordyceps_commands.specs.Replies.{Line}
 use Rattle.cordyceps_tables.specs.Tables.{Table}
 use Rattle.cordyceps_tables.specs.Blocks.{OtherFits, EndsBlock, BlockFits}
-use Rattle.cordyceps_tables.specs.Lists.{step}
+use Rattle.cordyceps_tables.specs.Lists.{act_on}
 use Rattle.replay_sessions.specs.declared.block.Block.{Block}
-use Rattle.replay_lines.specs.declared.list_command.Entry.{Entry}
-use Rattle.replay_lines.specs.declared.list_command.Entry.TheVariants as entries
 use Rattle.replay_lines.specs.ReplyText.{text_of}
-use Rattle.replay_lines.specs.ListScript.{Meaning, meaning_of_command, meaning_of_entry, meaning_of}
+use Rattle.replay_lines.specs.ListScript.{Meaning, meaning_of_act, meaning_of}
 use Rattle.replay_lines.specs.CursorScript.{cursor_command_of}
 use Rattle.replay_driver.specs.Script.{RanOrNot}
 use Rattle.replay_driver.specs.Steps.{TakesLine, Ends}
 use Rattle.replay_sessions.specs.ListMachine.{list_machine, Open, State, run_block, longer, outside_with_text, take_outside, take_inside, take_line}
 use Rattle.replay_sessions.specs.OpenBlocks.{open_as, open_of, IsNoEnd, AreOpen, IsOpen, CanRun, Closes, CameBackOrRan}
 
-pub some_meaning : (meaning : Option Meaning) → is_some meaning ≡ true → (m : Meaning) × (Some m ≡ meaning)
+pub some_meaning : (meaning : Option (ℕ × Meaning)) → is_some meaning ≡ true → (m : ℕ × Meaning) × (Some m ≡ meaning)
 some_meaning (Some m) is = (m, refl)
 some_meaning None is = cc
 
--- a command does what its line asks for
-stepped : (table : Table) (command : ListCommand) → take_outside table (meaning_of_command command) ≡ outside_with_text (step table command)
-stepped table (commands.Walk list turns) = refl
-stepped table (commands.Into list turns) = refl
-stepped table command = refl
+-- a command that is no block does what its line asks for
+stepped : (table : Table) (list : ℕ) (act : Act) → ((end : ListEnd) (lines : Vec CursorCommand Global) → act ≡ acts.Block end lines → ⊥) →
+    take_outside table (list, meaning_of_act act) ≡ outside_with_text (act_on table list act)
+stepped table list (acts.One (calls.Walk turns)) single = refl
+stepped table list (acts.One (calls.Into turns)) single = refl
+stepped table list (acts.Block end lines) single = absurd (single end lines refl)
+stepped table list act single = refl
 
--- what was read is the command's meaning
-pub command_read : (line : List ℕ) (read : Option Entry) (entry : Entry) (command : ListCommand) → read ≡ Some entry → entry ≡ entries.Command command → option_map meaning_of_entry read ≡ meaning_of line → Some (meaning_of_command command) ≡ meaning_of line
-command_read line read entry command is same means = ap (option_map meaning_of_entry) (sym (is ∙ ap Some same)) ∙ means
-
-pub outside : (table : Table) (line : List ℕ) (meaning : Meaning) → Some meaning ≡ meaning_of line → take_line (table, None) line ≡ Some (take_outside table meaning)
+pub outside : (table : Table) (line : List ℕ) (meaning : ℕ × Meaning) → Some meaning ≡ meaning_of line → take_line (table, None) line ≡ Some (take_outside table meaning)
 outside table line meaning is = rw (← is) refl
 
-pub entered : (table : Table) (line : List ℕ) (command : ListCommand) → Some (meaning_of_command command) ≡ meaning_of line → take_line (table, None) line ≡ Some (outside_with_text (step table command))
-entered table line command is = outside table line (meaning_of_command command) is ∙ ap Some (stepped table command)
+pub entered : (table : Table) (line : List ℕ) (list : ℕ) (act : Act) → Some (list, meaning_of_act act) ≡ meaning_of line → ((end : ListEnd) (lines : Vec CursorCommand Global) → act ≡ acts.Block end lines → ⊥) →
+    take_line (table, None) line ≡ Some (outside_with_text (act_on table list act))
+entered table line list act is single = outside table line (list, meaning_of_act act) is ∙ ap Some (stepped table list act single)
 
-pub entered_as : (table new : Table) (line : List ℕ) (command : ListCommand) (replies : List Line) → Some (meaning_of_command command) ≡ meaning_of line → (new, replies) ≡ step table command →
-    take_line (table, None) line ≡ Some ((new, None), text_of replies ∷ [])
-entered_as table new line command replies is done = entered table line command is ∙ ap (λ (r : Table × List Line). Some (outside_with_text r)) (sym done)
+pub entered_as : (table new : Table) (line : List ℕ) (list : ℕ) (act : Act) (replies : List Line) → Some (list, meaning_of_act act) ≡ meaning_of line → ((end : ListEnd) (lines : Vec CursorCommand Global) → act ≡ acts.Block end lines → ⊥) →
+    (new, replies) ≡ act_on table list act → take_line (table, None) line ≡ Some ((new, None), text_of replies ∷ [])
+entered_as table new line list act replies is single done = entered table line list act is single ∙ ap (λ (r : Table × List Line). Some (outside_with_text r)) (sym done)
 
 pub inside : (table : Table) (held : Open) (line : List ℕ) (command : CursorCommand) → Some command ≡ cursor_command_of line → take_line (table, Some held) line ≡ Some (take_inside table held command)
 inside table held line command is = rw (← is) refl
@@ -129,5 +129,5 @@ pub not_ended : {E : Type 0} (error : E) (table new : Table) (block : Block) (ba
 not_ended error table new block back before after moved same = ([], omega arith, (0, inl refl, refl), same ∙ sym (append-nil before), came_back table new block back moved)
 
 -- the state after a command that was run
-pub ran_outside : (table new : Table) (left : Option Block) (command : ListCommand) (replies : List Line) → left ≡ None → (new, replies) ≡ step table command → (new, open_of left) ≡ (outside_with_text (step table command)).0
-ran_outside table new left command replies none is = rw (none, ← is) refl
+pub ran_outside : (table new : Table) (left : Option Block) (next : Table × List Line) (replies : List Line) → left ≡ None → (new, replies) ≡ next → (new, open_of left) ≡ (outside_with_text next).0
+ran_outside table new left next replies none is = rw (none, ← is) refl

@@ -8,11 +8,11 @@ use Rattle.cordyceps_commands.specs.declared.list_command.CursorCommand.TheVaria
 use Rattle.cordyceps_commands.specs.Replies.{Line, show}
 use Rattle.cordyceps_tables.specs.Tables.{Table, on}
 use Rattle.cordyceps_tables.specs.Walks.{items_for}
-use Rattle.cordyceps_tables.specs.Blocks.{block}
-use Rattle.cordyceps_tables.specs.Lists.{step}
+use Rattle.cordyceps_tables.specs.Blocks as blocks
+use Rattle.cordyceps_tables.specs.Lists.{act_on}
 use Rattle.replay_driver.specs.Script.{Machine}
 use Rattle.replay_lines.specs.ReplyText.{text_of}
-use Rattle.replay_lines.specs.ListScript.{Meaning, plain, walk, into, cursor, meaning_of}
+use Rattle.replay_lines.specs.ListScript.{Meaning, plain, walk, into, block, meaning_of}
 use Rattle.replay_lines.specs.CursorScript.{cursor_command_of}
 
 -- a block whose end has not come: its list, where its cursor begins, and its lines so far
@@ -24,7 +24,7 @@ abbrev pub State : Type 0
 State = Table × Option Open
 
 abbrev pub run_block : Table → Open → Table × List Line
-run_block table held = block table held.0 held.1 held.2
+run_block table held = blocks.block table held.0 held.1 held.2
 
 -- the block with one more line
 abbrev pub longer : Open → CursorCommand → Open
@@ -35,13 +35,13 @@ abbrev pub outside_with_text : Table × List Line → State × List (List ℕ)
 outside_with_text next = ((next.0, None), text_of next.1 ∷ [])
 
 -- what a line does outside of blocks; the first line of a block has no reply yet
-abbrev pub take_outside : Table → Meaning → State × List (List ℕ)
-take_outside table (plain command) = outside_with_text (step table command)
-take_outside table (walk list turns) =
+abbrev pub take_outside : Table → ℕ × Meaning → State × List (List ℕ)
+take_outside table (list, plain act) = outside_with_text (act_on table list act)
+take_outside table (list, walk turns) =
     outside_with_text (on table list (λ s. (s, show (items_for turns (values s)) ∷ [])))
-take_outside table (into list turns) =
+take_outside table (list, into turns) =
     outside_with_text (on table list (λ s. ([], show (items_for turns (values s)) ∷ [])))
-take_outside table (cursor list end) = ((table, Some (list, end, [])), [])
+take_outside table (list, block end lines) = ((table, Some (list, end, lines)), [])
 
 -- what a line does in a block: its end runs it, and any other line waits for that
 abbrev pub take_inside : Table → Open → CursorCommand → State × List (List ℕ)

@@ -9,11 +9,11 @@ ghost use Rattle.replay_driver.specs.Steps.{TakesLine};
 ghost use Rattle.replay_sessions.specs.declared.block.Block.{Block};
 
 use crate::block::Block;
-use cordyceps_commands::{CursorCommand, ListCommand, Reply};
+use cordyceps_commands::{Act, CursorCommand, ListCommand, Reply};
 use cordyceps_tables::replay::Lists;
 use replay_driver::session::Session;
 use replay_lines::cursor_command::read_cursor_command;
-use replay_lines::list_command::{Entry, read_entry};
+use replay_lines::list_command::read_command;
 use replay_lines::reply::push_reply;
 use std::alloc::{AllocError, Global};
 
@@ -27,10 +27,12 @@ pub struct ListSession {
 
 /// Returns the block that a command runs.
 fn block_of(command: ListCommand) -> Option<Block>
-    ensures { (block : Block) → command ≡ ListCommand.Cursor block.list block.end block.lines → result ≡ Some block }
+    ensures { (block : Block) → command.list ≡ block.list → command.act ≡ Act.Block block.end block.lines
+        → result ≡ Some block }
 {
-    match command {
-        ListCommand::Cursor(list, end, lines) => Some(Block { list, end, lines }),
+    let ListCommand { list, act } = command;
+    match act {
+        Act::Block(end, lines) => Some(Block { list, end, lines }),
         _other => None,
     }
 }
@@ -72,7 +74,8 @@ impl ListSession {
         ensures block { self.new.block ≡ self.old.block }
     {
         let Block { list, end, lines } = block;
-        let command = ListCommand::Cursor(list, end, lines);
+        let act = Act::Block(end, lines);
+        let command = ListCommand { list, act };
         let Ok(reply) = self.lists.run(self.alloc, &command) else {
             return Err(block_of(command));
         };
@@ -89,22 +92,17 @@ impl ListSession {
             (self.new.lists, open_of self.new.block) text.old.items text.new.items result }
         ensures ready { IsOpen self.new.block }
     {
-        match read_entry(self.alloc, line)? {
-            None => Ok(false),
-            Some(Entry::Cursor(list, end)) => {
-                self.block = Some(Block {
-                    list,
-                    end,
-                    lines: Vec::new(self.alloc),
-                });
-                Ok(true)
-            }
-            Some(Entry::Command(command)) => {
-                let reply = self.play(command)?;
-                push_reply(self.alloc, text, &reply)?;
-                Ok(true)
-            }
+        let Some(command) = read_command(self.alloc, line)? else {
+            return Ok(false);
+        };
+        let ListCommand { list, act } = command;
+        if let Act::Block(end, lines) = act {
+            self.block = Some(Block { list, end, lines });
+            return Ok(true);
         }
+        let reply = self.play(ListCommand { list, act })?;
+        push_reply(self.alloc, text, &reply)?;
+        Ok(true)
     }
 
     /// Takes a line of a block.

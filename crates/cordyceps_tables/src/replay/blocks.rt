@@ -5,18 +5,18 @@
 ghost use Rattle.std.specs.Prelude.{◌≡◌, ◌+◌, ◌<◌, ◌≤◌, [], ◌∷◌, ◌++◌, true, not, ◌&&◌, nat_eq, nat_le, length, take, drop, IfOk, OnOk, OnErr, vec_capacity};
 ghost use Rattle.std.specs.List.{flat_map};
 ghost use Rattle.cordyceps_base.specs.Runs.{after, replies_to};
-ghost use Rattle.cordyceps_list.specs.Cursor.{elements, place, lender};
+ghost use Rattle.cordyceps_list.specs.Cursor.{elements, place, lender, Stands};
 ghost use Rattle.cordyceps_commands.specs.Replies.{lines_of};
 ghost use Rattle.cordyceps_tables.specs.Tables.{held_at};
 ghost use Rattle.cordyceps_tables.specs.Filters.{passes};
-ghost use Rattle.cordyceps_tables.specs.Blocks.{first_place, insert_after, insert_before, line_step, state_of, made_for, made_for_all, block, run_lines, OtherFits, BlockFits, Goes, Obeys, LineRuns};
+ghost use Rattle.cordyceps_tables.specs.Blocks.{first_place, put_beside, cut_beside, insert, line_step, state_of, made_for, made_for_all, block, run_lines, OtherFits, BlockFits, Goes, Obeys, Cuts, LineRuns};
 
 use crate::replay::filters::passes;
 use crate::replay::nodes::node_of;
 use crate::replay::replies::{block_of, done, index_of, len_of, not_there, nothing, reply_of};
 use cordyceps_base::list::Links;
 use cordyceps_base::node::Node;
-use cordyceps_commands::{CursorCommand, Filter, Item, ListEnd, Reply};
+use cordyceps_commands::{CursorCall, CursorCommand, Filter, Item, ListEnd, Reply, Side};
 use cordyceps_list::cursor_mut::CursorMut;
 use cordyceps_list::list::List;
 use std::alloc::{AllocError, Global};
@@ -24,7 +24,7 @@ use std::mem;
 
 /// Sets the value of the item at the cursor.
 fn set(cursor: &mut CursorMut<'_, Item>, value: u64) -> Reply
-    ensures { Obeys cursor.old cursor.new (CursorCommand.Set value) result }
+    ensures { Obeys cursor.old cursor.new (CursorCall.Set value) result }
 {
     let Some(item) = cursor.current_mut() else {
         return nothing();
@@ -35,7 +35,7 @@ fn set(cursor: &mut CursorMut<'_, Item>, value: u64) -> Reply
 
 /// Sets the value of the next item.
 fn set_next(cursor: &mut CursorMut<'_, Item>, value: u64) -> Reply
-    ensures { Obeys cursor.old cursor.new (CursorCommand.SetNext value) result }
+    ensures { Obeys cursor.old cursor.new (CursorCall.SetNext value) result }
 {
     let Some(item) = cursor.peek_next_mut() else {
         return nothing();
@@ -46,7 +46,7 @@ fn set_next(cursor: &mut CursorMut<'_, Item>, value: u64) -> Reply
 
 /// Sets the value of the previous item.
 fn set_prev(cursor: &mut CursorMut<'_, Item>, value: u64) -> Reply
-    ensures { Obeys cursor.old cursor.new (CursorCommand.SetPrev value) result }
+    ensures { Obeys cursor.old cursor.new (CursorCall.SetPrev value) result }
 {
     let Some(item) = cursor.peek_prev_mut() else {
         return nothing();
@@ -57,7 +57,7 @@ fn set_prev(cursor: &mut CursorMut<'_, Item>, value: u64) -> Reply
 
 /// Reads the item at the cursor, and moves the cursor to the next place.
 fn step(cursor: &mut CursorMut<'_, Item>) -> Reply
-    ensures { Obeys cursor.old cursor.new CursorCommand.Next result }
+    ensures { Obeys cursor.old cursor.new CursorCall.Next result }
 {
     let Some(item) = cursor.next() else {
         return nothing();
@@ -67,7 +67,7 @@ fn step(cursor: &mut CursorMut<'_, Item>) -> Reply
 
 /// Removes the first item that passes, from the cursor on.
 fn remove_first(cursor: &mut CursorMut<'_, Item>, filter: Filter) -> Reply
-    ensures { Obeys cursor.old cursor.new (CursorCommand.RemoveFirst filter) result }
+    ensures { Obeys cursor.old cursor.new (CursorCall.RemoveFirst filter) result }
 {
     let mut turn = true;
     let removed = cursor.remove_first(
@@ -83,28 +83,18 @@ fn remove_first(cursor: &mut CursorMut<'_, Item>, filter: Filter) -> Reply
     reply_of(removed.map(Node::into_value))
 }
 
-/// Inserts a node after the cursor's.
-fn insert_after(cursor: &mut CursorMut<'_, Item>, node: Node<Item, Links<Item>>) -> Reply
-    ensures { Goes cursor.old cursor.new (insert_after (elements cursor.old) (place cursor.old) node) result }
+/// Inserts a node on a side of the cursor's.
+fn insert(cursor: &mut CursorMut<'_, Item>, side: Side, node: Node<Item, Links<Item>>) -> Reply
+    ensures { Goes cursor.old cursor.new (insert side (elements cursor.old) (place cursor.old) node) result }
 {
-    if cursor.len() < usize::MAX {
-        cursor.insert_after(node);
-        done()
-    } else {
-        not_there()
+    if cursor.len() == usize::MAX {
+        return not_there();
     }
-}
-
-/// Inserts a node before the cursor's.
-fn insert_before(cursor: &mut CursorMut<'_, Item>, node: Node<Item, Links<Item>>) -> Reply
-    ensures { Goes cursor.old cursor.new (insert_before (elements cursor.old) (place cursor.old) node) result }
-{
-    if cursor.len() < usize::MAX {
-        cursor.insert_before(node);
-        done()
-    } else {
-        not_there()
+    match side {
+        Side::After => cursor.insert_after(node),
+        Side::Before => cursor.insert_before(node),
     }
+    done()
 }
 
 /// Removes the first of the nodes that were made.
@@ -118,42 +108,30 @@ fn first_of(nodes: &mut List<Item>) -> Node<Item, Links<Item>>
     node
 }
 
-/// Runs a line on the cursor's list alone. The node that it inserts is the first of those that were made. Lines that
-/// name another list are not run here.
-pub(crate) fn run_alone(
-    cursor: &mut CursorMut<'_, Item>,
-    nodes: &mut List<Item>,
-    line: CursorCommand,
-) -> Reply
-    requires { take (length (made_for line)) nodes.old ≡ made_for line }
-    ensures obeys { Obeys cursor.old cursor.new line result }
-    ensures nodes { nodes.new ≡ drop (length (made_for line)) nodes.old }
+/// Makes a call on the cursor's list alone.
+fn run_call(cursor: &mut CursorMut<'_, Item>, call: CursorCall) -> Reply
+    ensures { Obeys cursor.old cursor.new call result }
 {
-    match line {
-        CursorCommand::MoveNext => {
+    match call {
+        CursorCall::MoveNext => {
             cursor.move_next();
             done()
         }
-        CursorCommand::MovePrev => {
+        CursorCall::MovePrev => {
             cursor.move_prev();
             done()
         }
-        CursorCommand::Current => reply_of(cursor.current().copied()),
-        CursorCommand::PeekNext => reply_of(cursor.peek_next().copied()),
-        CursorCommand::PeekPrev => reply_of(cursor.peek_prev().copied()),
-        CursorCommand::Index => index_of(cursor.index()),
-        CursorCommand::Len => len_of(cursor.len()),
-        CursorCommand::Set(value) => set(cursor, value),
-        CursorCommand::SetNext(value) => set_next(cursor, value),
-        CursorCommand::SetPrev(value) => set_prev(cursor, value),
-        CursorCommand::Next => step(cursor),
-        CursorCommand::RemoveCurrent => reply_of(cursor.remove_current().map(Node::into_value)),
-        CursorCommand::RemoveFirst(filter) => remove_first(cursor, filter),
-        CursorCommand::InsertAfter(_) => insert_after(cursor, first_of(nodes)),
-        CursorCommand::InsertBefore(_) => insert_before(cursor, first_of(nodes)),
-        CursorCommand::SplitAfter(_) | CursorCommand::SplitBefore(_) => not_there(),
-        CursorCommand::SpliceAfter(_) | CursorCommand::SpliceBefore(_) => not_there(),
-        CursorCommand::End => done(),
+        CursorCall::Current => reply_of(cursor.current().copied()),
+        CursorCall::PeekNext => reply_of(cursor.peek_next().copied()),
+        CursorCall::PeekPrev => reply_of(cursor.peek_prev().copied()),
+        CursorCall::Index => index_of(cursor.index()),
+        CursorCall::Len => len_of(cursor.len()),
+        CursorCall::Set(value) => set(cursor, value),
+        CursorCall::SetNext(value) => set_next(cursor, value),
+        CursorCall::SetPrev(value) => set_prev(cursor, value),
+        CursorCall::Next => step(cursor),
+        CursorCall::RemoveCurrent => reply_of(cursor.remove_current().map(Node::into_value)),
+        CursorCall::RemoveFirst(filter) => remove_first(cursor, filter),
     }
 }
 
@@ -173,81 +151,69 @@ fn fits_in(lists: &[List<Item>], list: usize, len: usize, other: u8) -> bool
     list != other as usize && lists[other as usize].len() <= usize::MAX - len
 }
 
-/// Moves the items after the cursor's to another list.
-fn split_after(
+/// Cuts off the items on a side of the cursor's.
+fn cut(cursor: &mut CursorMut<'_, Item>, side: Side) -> List<Item>
+    ensures { Cuts cursor.old cursor.new result (cut_beside side (elements cursor.old) (place cursor.old)) }
+{
+    match side {
+        Side::After => cursor.split_after(),
+        Side::Before => cursor.split_before(),
+    }
+}
+
+/// Moves the items on a side of the cursor's to another list.
+fn split(
     lists: &mut [List<Item>],
     list: usize,
     cursor: &mut CursorMut<'_, Item>,
+    side: Side,
     other: u8,
 ) -> Reply
     requires list { list < length lists.old }
     requires other { other < length lists.old }
-    ensures { LineRuns list lists.old lists.new cursor.old cursor.new (CursorCommand.SplitAfter other) result }
+    ensures { LineRuns list lists.old lists.new cursor.old cursor.new (CursorCommand.Split side other) result }
 {
     if !is_free(lists, list, other) {
         return not_there();
     }
-    lists[other as usize] = cursor.split_after();
+    lists[other as usize] = cut(cursor, side);
     done()
 }
 
-/// Moves the items before the cursor's to another list.
-fn split_before(
-    lists: &mut [List<Item>],
-    list: usize,
-    cursor: &mut CursorMut<'_, Item>,
-    other: u8,
-) -> Reply
-    requires list { list < length lists.old }
-    requires other { other < length lists.old }
-    ensures { LineRuns list lists.old lists.new cursor.old cursor.new (CursorCommand.SplitBefore other) result }
+/// Puts all items of a list on a side of the cursor's.
+fn put(cursor: &mut CursorMut<'_, Item>, side: Side, more: List<Item>)
+    requires { length (elements cursor.old) + length more ≤ usize.MAX }
+    ensures { let put = put_beside side (elements cursor.old) (place cursor.old) more in
+        Stands cursor.old cursor.new put.0 put.1 }
 {
-    if !is_free(lists, list, other) {
-        return not_there();
+    match side {
+        Side::After => cursor.splice_after(more),
+        Side::Before => cursor.splice_before(more),
     }
-    lists[other as usize] = cursor.split_before();
-    done()
 }
 
-/// Moves all items of another list after the cursor's.
-fn splice_after(
+/// Moves all items of another list to a side of the cursor's.
+fn splice(
     lists: &mut [List<Item>],
     list: usize,
     cursor: &mut CursorMut<'_, Item>,
+    side: Side,
     other: u8,
 ) -> Reply
     requires list { list < length lists.old }
     requires other { other < length lists.old }
-    ensures { LineRuns list lists.old lists.new cursor.old cursor.new (CursorCommand.SpliceAfter other) result }
+    ensures { LineRuns list lists.old lists.new cursor.old cursor.new (CursorCommand.Splice side other) result }
 {
     if !fits_in(lists, list, cursor.len(), other) {
         return not_there();
     }
     let more = mem::replace(&mut lists[other as usize], List::new());
-    cursor.splice_after(more);
+    put(cursor, side, more);
     done()
 }
 
-/// Moves all items of another list before the cursor's.
-fn splice_before(
-    lists: &mut [List<Item>],
-    list: usize,
-    cursor: &mut CursorMut<'_, Item>,
-    other: u8,
-) -> Reply
-    requires list { list < length lists.old }
-    requires other { other < length lists.old }
-    ensures { LineRuns list lists.old lists.new cursor.old cursor.new (CursorCommand.SpliceBefore other) result }
-{
-    if !fits_in(lists, list, cursor.len(), other) {
-        return not_there();
-    }
-    let more = mem::replace(&mut lists[other as usize], List::new());
-    cursor.splice_before(more);
-    done()
-}
-
-/// Runs a line. The cursor's list was taken out of the lists.
+/// Runs a line. The cursor's list was taken out of the lists. The node that the line inserts is the first of those that
+/// were made.
 fn run_line(
     lists: &mut [List<Item>],
     list: usize,
@@ -263,11 +229,11 @@ fn run_line(
     ensures nodes { nodes.new ≡ drop (length (made_for line)) nodes.old }
 {
     match line {
-        CursorCommand::SplitAfter(other) => split_after(lists, list, cursor, other),
-        CursorCommand::SplitBefore(other) => split_before(lists, list, cursor, other),
-        CursorCommand::SpliceAfter(other) => splice_after(lists, list, cursor, other),
-        CursorCommand::SpliceBefore(other) => splice_before(lists, list, cursor, other),
-        _ => run_alone(cursor, nodes, line),
+        CursorCommand::One(call) => run_call(cursor, call),
+        CursorCommand::Insert(side, _) => insert(cursor, side, first_of(nodes)),
+        CursorCommand::Split(side, other) => split(lists, list, cursor, side, other),
+        CursorCommand::Splice(side, other) => splice(lists, list, cursor, side, other),
+        CursorCommand::End => done(),
     }
 }
 
@@ -342,7 +308,7 @@ fn make_for(alloc: Global, nodes: &mut List<Item>, line: CursorCommand) -> Resul
     ensures { OnOk result (nodes.new ≡ nodes.old ++ made_for line) }
 {
     match line {
-        CursorCommand::InsertAfter(item) | CursorCommand::InsertBefore(item) => {
+        CursorCommand::Insert(_, item) => {
             let node = node_of(alloc, item)?;
             nodes.push_back(node);
             Ok(())

@@ -1,5 +1,5 @@
 use Rattle.replay_lines.proofs.Spelling.{fits_read, spelled_read, every_read}
-use Rattle.replay_lines.proofs.list_command.read_entry.Goals as goal
+use Rattle.replay_lines.proofs.list_command.read_command.Goals as goal
 
 pub returns-clause-fits : goal.returns-clause-fits
 returns-clause-fits c = fits_read c.args.line.now c.read_words.result c.read_words.ensures.value

@@ -1,5 +1,0 @@
-use Rattle.std.proofs.Common.{rules}
-use Rattle.replay_lines.proofs.line_words.structure_and_value.Goals as goal
-
-pub returns : goal.returns
-returns c = search rules
