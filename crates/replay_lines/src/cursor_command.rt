@@ -94,17 +94,12 @@ fn read_with(verb: CursorVerb, words: Words) -> Option<CursorCommand>
 {
     match verb {
         CursorVerb::Bare(command) => nothing(words).map(|()| command),
-        CursorVerb::Set => value(words).map(CursorCall::Set).map(CursorCommand::One),
-        CursorVerb::SetNext => value(words)
-            .map(CursorCall::SetNext)
-            .map(CursorCommand::One),
-        CursorVerb::SetPrev => value(words)
-            .map(CursorCall::SetPrev)
-            .map(CursorCommand::One),
+        CursorVerb::Set => Some(CursorCommand::One(CursorCall::Set(value(words)?))),
+        CursorVerb::SetNext => Some(CursorCommand::One(CursorCall::SetNext(value(words)?))),
+        CursorVerb::SetPrev => Some(CursorCommand::One(CursorCall::SetPrev(value(words)?))),
         CursorVerb::RemoveFirst => {
-            filter(only_word(words)?)
-                .map(CursorCall::RemoveFirst)
-                .map(CursorCommand::One)
+            let filter = filter(only_word(words)?)?;
+            Some(CursorCommand::One(CursorCall::RemoveFirst(filter)))
         }
         CursorVerb::Insert(side) => Some(CursorCommand::Insert(side, item(words)?)),
         CursorVerb::Split(side) => Some(CursorCommand::Split(side, structure(words)?)),
