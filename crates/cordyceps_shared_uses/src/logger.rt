@@ -11,10 +11,11 @@ use cordyceps::mpsc_queue::{Batch, Links, MAX_ROOMS, Party, TryDequeueError};
 use cordyceps::{Kind, Linked, List, MpscQueue, Node};
 use crossbeam_utils::sync::{Parker, Unparker};
 use std::alloc::{AllocError, Global};
+use std::snapshot::Snapshot;
 use std::sync::Wait;
 use std::sync::atomic::{AtomicBool, Ordering};
 use std::thread;
-use std::thread::Threads;
+use std::thread::{Promise, Threads};
 
 /// A record of the log.
 #[derive(Clone, Copy, Debug, PartialEq, Eq)]
@@ -185,6 +186,17 @@ struct Stored {
     log: Option<Vec<Record>>,
 }
 
+/// The promise of a thread that stores and starts with a party.
+#[derive(Drop)]
+struct Stores {
+    party: Snapshot<Party<Record>>,
+}
+
+impl Promise<Stored> for Stores {
+    ghost kept_by = { λ stores stored.
+        IfSome stored.log (λ log. Moves record_of [] log.items stores.party.value stored.party) };
+}
+
 /// Sleeps until a sender wakes this thread, if the queue was empty, and otherwise yields to other threads.
 ///
 /// No wake-up is lost: a sender wakes this thread after it has enqueued its record, and a wake-up before the sleep ends
@@ -238,6 +250,54 @@ fn store_until_end<R: Wait>(
     unreachable!()
 }
 
+/// Sends the records of each producer on a thread of its own, while one thread stores them. If no thread can be started
+/// to store, nothing is sent.
+fn exchange<R: Threads + Wait + Sync>(
+    rt: &R,
+    alloc: Global,
+    queue: &MpscQueue<Record>,
+    storer: Party<Record>,
+    sender: Party<Record>,
+    producers: List<Producer>,
+    max: usize,
+) -> Result<(Stored, Party<Record>), AllocError>
+    requires storer { storer.table ≡ queue.now.table }
+    requires sender { (sender.table ≡ queue.now.table) × IsShare sender.share }
+    requires some { 1 ≤ max }
+    ensures stored { IfOk result (λ both.
+        IfSome both.0.log (λ log. Moves record_of [] log.items storer both.0.party)) }
+    ensures sent { IfOk result (λ both. Sends record_of (records producers) sender both.1) }
+{
+    let sleep = Parker::new(alloc)?;
+    let wake = sleep.unparker().clone()?;
+    let flag = AtomicBool::new(false);
+    let have_ended = &flag;
+    thread::scope(
+        thread::scope_env(),
+        rt,
+        move |scope| -> Result<(Stored, Party<Record>), AllocError>
+            requires { IsSync R.row × (storer.table ≡ queue.now.table) × (sender.table ≡ queue.now.table)
+                × IsShare sender.share × (1 ≤ max) }
+            ensures stored { IfOk result (λ both.
+                IfSome both.0.log (λ log. Moves record_of [] log.items storer both.0.party)) }
+            ensures sent { IfOk result (λ both. Sends record_of (records producers) sender both.1) }
+        {
+            let promise = Stores {
+                party: Snapshot::of(&storer),
+            };
+            let store_on = move || -> Stored
+                requires { IsSync R.row × (storer.table ≡ queue.now.table) × (1 ≤ max) }
+                ensures { IfSome result.log (λ log. Moves record_of [] log.items storer result.party) }
+            { store_until_end(rt, alloc, queue, storer, sleep, have_ended, max) };
+            let stored = scope.spawn_with(promise, store_on)?;
+            let sent = send_each(rt, queue, &wake, sender, producers);
+            have_ended.store(true, Ordering::SeqCst);
+            wake.unpark();
+            Ok((stored.join(rt), sent))
+        },
+    )
+}
+
 /// Logs the records of all producers and returns the log. Each producer sends on a thread of its own, and one thread
 /// stores the records, in batches of at most `max`, until all senders have ended. No record is lost or duplicated, and
 /// the records of each producer come in order.
@@ -247,15 +307,15 @@ fn store_until_end<R: Wait>(
 /// and that `max` is at least 1.
 ///
 /// # Errors
-/// If memory is refused, it returns `AllocError`, and all records are dropped.
+/// If memory is refused, or no thread can be started to store, it returns `AllocError`, and all records are dropped.
 ///
 /// # Complexity
 /// O(`rooms` + n + p), for n records of p producers, in all threads together, besides the tries of threads that wait.
 ///
 /// # Waits
 /// For the threads that it starts. A sender that finds the queue full tries again until a room is free. The thread that
-/// stores sleeps while the queue is empty. If no thread can be started to store the records, they are stored after all
-/// of them are sent; if there are more than `rooms` records, it then never returns.
+/// stores sleeps while the queue is empty. If no thread can be started for a producer, its records are sent after
+/// others.
 pub fn log_all<R: Threads + Wait + Sync>(
     rt: &R,
     alloc: Global,
@@ -269,28 +329,10 @@ pub fn log_all<R: Threads + Wait + Sync>(
     ensures { IfOk result (λ log. Delivers (records producers) log.items) }
 {
     let (queue, mut storer) = MpscQueue::new(alloc, rooms)?;
-    let sleep = Parker::new(alloc)?;
-    let wake = sleep.unparker().clone()?;
     queue.give_back(&mut storer, rooms);
     let sender = queue.split(&mut storer, 0);
-    let have_ended = AtomicBool::new(false);
-    let (stored, sent) = thread::join(
-        rt,
-        || -> Stored
-            requires { IsSync R.row × (storer.table ≡ queue.table) × (1 ≤ max) }
-            ensures table { result.party.table ≡ queue.table }
-            ensures stored { IfSome result.log (λ log. Moves record_of [] log.items storer result.party) }
-        { store_until_end(rt, alloc, &queue, storer, sleep, &have_ended, max) },
-        || -> Party<Record>
-            requires { IsSync R.row × (sender.table ≡ queue.table) × IsShare sender.share }
-            ensures { Sends record_of (records producers) sender result }
-        {
-            let sent = send_each(rt, &queue, &wake, sender, producers);
-            have_ended.store(true, Ordering::SeqCst);
-            wake.unpark();
-            sent
-        },
-    );
+    let both = exchange(rt, alloc, &queue, storer, sender, producers, max)?;
+    let (stored, sent) = both;
     let Stored { mut party, log } = stored;
     let Some(mut log) = log else {
         return Err(AllocError);

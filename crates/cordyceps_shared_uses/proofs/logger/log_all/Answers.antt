@@ -1,4 +1,4 @@
-use Rattle.std.proofs.Common.{rules, [], ◌++◌, List, map, ap, sym, ◌∙◌, subst}
+use Rattle.std.proofs.Common.{[], ◌++◌, List, map, ap, sym, ◌∙◌, subst}
 use Rattle.std.proofs.lemmas.List.{map-id}
 use Rattle.std.specs.Prelude.{IfSome}
 use Rattle.cordyceps.specs.Elements.Element.{Element}
@@ -15,19 +15,28 @@ use Rattle.cordyceps_shared_uses.specs.Logger.{record_of, records}
 use Rattle.cordyceps_shared_uses.proofs.Apart.{apart, gave_new}
 use Rattle.cordyceps_shared_uses.proofs.logger.log_all.Goals as goal
 
-pub join-stored-requires-after_bounds : goal.join-stored-requires-after_bounds
-join-stored-requires-after_bounds g c κs within =
+pub exchange-requires-clause-storer : goal.exchange-requires-clause-storer
+exchange-requires-clause-storer g c κs within =
     let new = gave_new c.in_ok-queue.queue.table c.args.rooms c.args.rooms c.give_back.result c.in_ok-queue.storer c.give_back.new.party c.in_ok-queue.ensures.1 c.give_back.ensures.answer in
     let share = subst (λ (z : Standing _). IsShare z.share) (sym new.1) whole_share in
     let both = apart 0 c.give_back.new.party c.split-sender.new.party c.split-sender.result share c.split-sender.ensures in
     let table = ap (λ (z : Standing _). z.table) new.1 in
-    ((search rules, both.kept_table ∙ table, c.requires.some), ((search rules, both.given_table ∙ table, both.given_share), search rules))
+    both.kept_table ∙ table
+
+pub exchange-requires-clause-sender : goal.exchange-requires-clause-sender
+exchange-requires-clause-sender g c κs within =
+    let new = gave_new c.in_ok-queue.queue.table c.args.rooms c.args.rooms c.give_back.result c.in_ok-queue.storer c.give_back.new.party c.in_ok-queue.ensures.1 c.give_back.ensures.answer in
+    let share = subst (λ (z : Standing _). IsShare z.share) (sym new.1) whole_share in
+    let both = apart 0 c.give_back.new.party c.split-sender.new.party c.split-sender.result share c.split-sender.ensures in
+    let table = ap (λ (z : Standing _). z.table) new.1 in
+    (both.given_table ∙ table, both.given_share)
 
 pub returns : goal.returns
 returns g c =
     let new = gave_new c.in_ok-queue.queue.table c.args.rooms c.args.rooms c.give_back.result c.in_ok-queue.storer c.give_back.new.party c.in_ok-queue.ensures.1 c.give_back.ensures.answer in
     let all = delivered record_of new.1 c.split-sender.ensures
-    (subst (λ o. IfSome o (λ log. Moves record_of [] log.items c.split-sender.new.party c.join-stored.result.0.party)) c.in-Some.is c.join-stored.ensures.first.1) c.join-stored.ensures.second c.absorb.ensures in
+    (subst (λ o. IfSome o (λ log. Moves record_of [] log.items c.split-sender.new.party c.in_ok-both.both.0.party)) c.in-Some.is c.in_ok-both.ensures.stored) c.in_ok-both.ensures.sent
+    c.absorb.ensures in
     subst (λ (z : List Record). Delivers (records c.args.producers) z)
     (sym (c.in_ok-store.ensures ∙ ap (λ (z : List (Element Record)). c.in-Some.log.items ++ map record_of z)
     (c.close.ensures.elements ∙ map-id (held (plain c.absorb.new.party.seen)))))
