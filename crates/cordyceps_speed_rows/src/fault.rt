@@ -11,6 +11,8 @@ pub enum Fault {
     Clock,
     /// Memory was refused.
     Memory,
+    /// A thread could not be started.
+    Threads,
     /// A line could not be written.
     Write,
 }
@@ -26,6 +28,7 @@ impl fmt::Display for Fault {
             }
             Fault::Clock => write!(f, "no time from the clock"),
             Fault::Memory => write!(f, "out of memory"),
+            Fault::Threads => write!(f, "a thread could not be started"),
             Fault::Write => write!(f, "write failed"),
         }
     }

@@ -56,20 +56,60 @@ impl Plan {
     }
 }
 
+/// How many seconds threads wait for the last one of them before they begin.
+const PATIENCE: u64 = 10;
+
+/// How often a thread asks whether all are here before it looks at the clock.
+const LOOKS: u32 = 1_000_000;
+
+/// How many threads have arrived where the start is called off, since one of them could not be started.
+const CALLED_OFF: u64 = 1 << 32;
+
 /// Where threads meet before they begin.
 #[derive(Drop)]
 struct Start {
+    /// How many threads have arrived, or at least `CALLED_OFF`.
     arrived: AtomicU64,
     threads: u64,
 }
 
 impl Start {
-    /// Waits until all threads are here.
-    fn meet(&self, rt: &impl Wait) {
+    /// Returns whether all threads begin, once that is known.
+    fn is_begun(&self) -> Option<bool> {
+        let arrived = self.arrived.load(Ordering::SeqCst);
+        if arrived >= CALLED_OFF {
+            return Some(false);
+        }
+        if arrived >= self.threads {
+            return Some(true);
+        }
+        None
+    }
+
+    /// Calls the start off, unless a thread arrives meanwhile.
+    fn call_off(&self) {
+        let arrived = self.arrived.load(Ordering::SeqCst);
+        if arrived < self.threads {
+            let _ = self
+                .arrived
+                .compare_exchange(arrived, CALLED_OFF, Ordering::SeqCst, Ordering::SeqCst);
+        }
+    }
+
+    /// Waits until all threads are here. Returns `false` if one of them does not come, since it could not be started.
+    fn meet<R: Wait + Clock>(&self, rt: &R) -> bool {
         self.arrived.fetch_add(1, Ordering::SeqCst);
+        let mut stopwatch = Stopwatch::start(rt);
+        let mut waited = Duration::ZERO;
         for _ in rt.forever() {
-            if self.arrived.load(Ordering::SeqCst) >= self.threads {
-                return;
+            for _ in 0..LOOKS {
+                if let Some(is_begun) = self.is_begun() {
+                    return is_begun;
+                }
+            }
+            waited = waited.saturating_add(stopwatch.look(rt));
+            if waited > Duration::from_secs(PATIENCE) {
+                self.call_off();
             }
         }
         unreachable!()
@@ -87,16 +127,19 @@ struct Job<S> {
 }
 
 impl<S: Seat + Drop> Job<S> {
-    /// Puts all of the elements in, the last first, or takes elements out. Returns how long it took since all began.
-    fn run<R: Wait + Clock>(mut self, rt: &R, start: &Start) -> Duration {
-        start.meet(rt);
+    /// Puts all of the elements in, the last first, or takes elements out. Returns how long it took since all began, or
+    /// `None` if not all threads came.
+    fn run<R: Wait + Clock>(mut self, rt: &R, start: &Start) -> Option<Duration> {
+        if !start.meet(rt) {
+            return None;
+        }
         let mut stopwatch = Stopwatch::start(rt);
         if self.takes == 0 {
             self.put_all(rt);
         } else {
             self.take_all(rt);
         }
-        stopwatch.look(rt)
+        Some(stopwatch.look(rt))
     }
 
     /// Puts all of the elements in, the last first.
@@ -159,8 +202,7 @@ fn jobs<S: Seat + Drop>(alloc: Global, plan: Plan, mut seat: S) -> Result<Vec<Jo
     Ok(jobs)
 }
 
-/// Runs each job on a thread of its own. Returns the longest time that one took. Where a thread cannot be made the
-/// others wait for it forever.
+/// Runs each job on a thread of its own. Returns the longest time that one took. Fails if a thread cannot be started.
 fn run_all<S, R>(rt: &R, jobs: Vec<Job<S>>) -> Result<Duration, Fault>
 where
     S: Seat + Send + Drop,
@@ -176,6 +218,9 @@ where
     };
     let mut longest = Duration::ZERO;
     for time in times {
+        let Some(time) = time else {
+            return Err(Fault::Threads);
+        };
         longest = longest.max(time);
     }
     Ok(longest)
