@@ -77,6 +77,55 @@ const SOME_ROOMS: [Line; 12] = [
     (0, Call::Refill, Reply::Refilled(2, 2)),
 ];
 
+/// Sixteen parties with one room each, of which each takes the rooms of the pool and gives them back with its own.
+const SIXTEEN_PARTIES: [Line; 45] = [
+    (0, Call::Split(1), Reply::Rooms(15)),
+    (0, Call::Split(1), Reply::Rooms(14)),
+    (0, Call::Split(1), Reply::Rooms(13)),
+    (0, Call::Split(1), Reply::Rooms(12)),
+    (0, Call::Split(1), Reply::Rooms(11)),
+    (0, Call::Split(1), Reply::Rooms(10)),
+    (0, Call::Split(1), Reply::Rooms(9)),
+    (0, Call::Split(1), Reply::Rooms(8)),
+    (0, Call::Split(1), Reply::Rooms(7)),
+    (0, Call::Split(1), Reply::Rooms(6)),
+    (0, Call::Split(1), Reply::Rooms(5)),
+    (0, Call::Split(1), Reply::Rooms(4)),
+    (0, Call::Split(1), Reply::Rooms(3)),
+    (0, Call::Split(1), Reply::Rooms(2)),
+    (0, Call::Split(1), Reply::Rooms(1)),
+    (1, Call::GiveBack(1), Reply::Gave(true, 0)),
+    (2, Call::Refill, Reply::Refilled(1, 2)),
+    (2, Call::GiveBack(2), Reply::Gave(true, 0)),
+    (3, Call::Refill, Reply::Refilled(2, 3)),
+    (3, Call::GiveBack(3), Reply::Gave(true, 0)),
+    (4, Call::Refill, Reply::Refilled(3, 4)),
+    (4, Call::GiveBack(4), Reply::Gave(true, 0)),
+    (5, Call::Refill, Reply::Refilled(4, 5)),
+    (5, Call::GiveBack(5), Reply::Gave(true, 0)),
+    (6, Call::Refill, Reply::Refilled(5, 6)),
+    (6, Call::GiveBack(6), Reply::Gave(true, 0)),
+    (7, Call::Refill, Reply::Refilled(6, 7)),
+    (7, Call::GiveBack(7), Reply::Gave(true, 0)),
+    (8, Call::Refill, Reply::Refilled(7, 8)),
+    (8, Call::GiveBack(8), Reply::Gave(true, 0)),
+    (9, Call::Refill, Reply::Refilled(8, 9)),
+    (9, Call::GiveBack(9), Reply::Gave(true, 0)),
+    (10, Call::Refill, Reply::Refilled(9, 10)),
+    (10, Call::GiveBack(10), Reply::Gave(true, 0)),
+    (11, Call::Refill, Reply::Refilled(10, 11)),
+    (11, Call::GiveBack(11), Reply::Gave(true, 0)),
+    (12, Call::Refill, Reply::Refilled(11, 12)),
+    (12, Call::GiveBack(12), Reply::Gave(true, 0)),
+    (13, Call::Refill, Reply::Refilled(12, 13)),
+    (13, Call::GiveBack(13), Reply::Gave(true, 0)),
+    (14, Call::Refill, Reply::Refilled(13, 14)),
+    (14, Call::GiveBack(14), Reply::Gave(true, 0)),
+    (15, Call::Refill, Reply::Refilled(14, 15)),
+    (15, Call::GiveBack(15), Reply::Gave(true, 0)),
+    (0, Call::Refill, Reply::Refilled(15, 16)),
+];
+
 /// A consumer gives back the rooms of what it took, also the last, while it has the right to dequeue.
 fn by_a_consumer(claim: Claim) -> [Line; 10] {
     [
@@ -102,6 +151,11 @@ fn rooms_come_back(rt: HostRuntime) {
     for claim in [Claim::Try, Claim::TryOwned] {
         alone(&rt, rt.alloc(), 2, 3, &[&by_a_consumer(claim)]);
     }
+}
+
+#[test]
+fn sixteen_parties_pass_all_rooms_on(rt: HostRuntime) {
+    alone(&rt, rt.alloc(), 16, 0, &[&SIXTEEN_PARTIES]);
 }
 
 /// A thread that enqueues elements, for each of which it needs a room of the pool.
