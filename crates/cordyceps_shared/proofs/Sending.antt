@@ -1,14 +1,13 @@
 -- What parties put in and took out of which one was split off the other and taken in again: both put in, both took out, or one
 -- received what the other sent. The two parties at the split stand for themselves, as its contract gives them.
-use Rattle.std.proofs.Common.{◌≡◌, ℕ, ◌+◌, ◌≤◌, List, [], ◌∷◌, ◌++◌, map, flat_map, length, refl, sym, ap, ◌∙◌, subst, inl, inr, arith}
+use Rattle.std.proofs.Common.{◌≡◌, ℕ, ◌+◌, List, [], ◌∷◌, ◌++◌, map, flat_map, length, refl, sym, ap, ◌∙◌, subst, inl, inr, arith}
 use Rattle.atomic_table.specs.Seated.{TableId}
 use Rattle.cordyceps_shared.specs.Acting.{Moves}
 use Rattle.cordyceps_shared.specs.Histories.{plain}
 use Rattle.cordyceps_shared.specs.Interleaving.{Interleaves}
-use Rattle.cordyceps_shared.specs.Sending.{how_many, Delivers, Splits, MaySend, Sends}
+use Rattle.cordyceps_shared.specs.Sending.{how_many, Delivers, Splits, Sends}
 use Rattle.cordyceps_shared.specs.Shares.{whole, IsShare}
 use Rattle.cordyceps_shared.specs.Standings.{Standing, new_party, keeping, giving, Absorbs}
-use Rattle.cordyceps_shared.proofs.Ordering.{whole_share, keeps_share, gives_share}
 use Rattle.cordyceps_shared.proofs.Interleaving.{only_left, only_right, interleaves_turned}
 use Rattle.cordyceps_shared.proofs.Moving.{moves_none, moves_both, all_moved}
 
@@ -35,23 +34,6 @@ module _ {A : Type 0} where
   no_items : {B : Type 0} (f : B → List A) (lists : List B) → length lists ≡ 0 → Delivers (map f lists) []
   no_items f [] none = refl
   no_items f (x ∷ xs) none = absurd (omega arith)
-
--- a party that may send lists may send the first by one that it splits off, and the others itself
-pub may_send_rest : {X A : Type 0} (n : ℕ) (xs : List A) (rest lists : List (List A)) (t : TableId) (u kept given : Standing X) → lists ≡ xs ∷ rest
-    → n ≡ length xs → MaySend lists t u → Splits n u kept given → MaySend rest t kept × ((given.table ≡ t) × (length xs ≤ given.rooms))
-may_send_rest {X} n xs rest lists t u kept given all is may s =
-    let few : length xs + how_many rest ≤ u.rooms = subst (λ z. how_many z ≤ u.rooms) all may.rooms in
-    subst (λ (z : Standing X). MaySend rest t z × ((given.table ≡ t) × (length xs ≤ given.rooms))) (sym s.0)
-    (subst (λ (z : Standing X). MaySend rest t (keeping n u) × ((z.table ≡ t) × (length xs ≤ z.rooms))) (sym s.1)
-    (record { table = may.table; rooms = omega arith; share = keeps_share u.share may.share }, (may.table, omega arith)))
-
--- so may one that was split off the party of a new collection, of which both are
-pub may_send_new : {X A : Type 0} (k n : ℕ) (lists : List (List A)) (id : TableId) (u kept given : Standing X) → u ≡ new_party id k → how_many lists ≤ n
-    → Splits n u kept given → (kept.table ≡ id) × MaySend lists id given
-may_send_new {X} k n lists id u kept given new few s = (
-  ap (λ (z : Standing X). z.table) (s.0 ∙ ap (keeping n) new),
-  subst (λ (z : Standing X). MaySend lists id z) (sym (s.1 ∙ ap (giving n) new)) (record { table = refl; rooms = few; share = gives_share whole whole_share }),
-)
 
 module _ {X A : Type 0} {puts takes : X → List A} where
   pub sends_none : {B : Type 0} (f : B → List A) (lists : List B) (u : Standing X) → length lists ≡ 0 → Sends puts takes (map f lists) u u

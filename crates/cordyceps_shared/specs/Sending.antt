@@ -1,8 +1,6 @@
 -- Lists that are sent by many, each in its order.
-use Rattle.std.specs.Prelude.{◌≡◌, ◌+◌, ◌≤◌, ℕ, List, [], ◌∷◌, ◌++◌, length}
-use Rattle.atomic_table.specs.Seated.{TableId}
+use Rattle.std.specs.Prelude.{◌≡◌, ◌+◌, ℕ, List, [], ◌∷◌, ◌++◌, length}
 use Rattle.cordyceps_shared.specs.Acting.{Moves}
-use Rattle.cordyceps_shared.specs.Shares.{IsShare}
 use Rattle.cordyceps_shared.specs.Standings.{Standing, keeping, giving}
 
 module _ {A : Type 0} where
@@ -22,12 +20,6 @@ module _ {A : Type 0} where
 -- a party as it is after it gave up n rooms, and the one that has them
 abbrev pub Splits : {X : Type 0} → ℕ → Standing X → Standing X → Standing X → Type 0
 Splits n u kept given = (kept ≡ keeping n u) × (given ≡ giving n u)
-
--- the party is of this collection, and has rooms for all items of these lists
-pub record MaySend {X A : Type 0} (lists : List (List A)) (t : TableId) (u : Standing X) : Type 0 where
-  pub table : u.table ≡ t
-  pub rooms : how_many lists ≤ u.rooms
-  pub share : IsShare u.share
 
 -- the party, and those that were split off it, put in these lists, each in its order, and took nothing out
 abbrev pub Sends : {X A : Type 0} → (X → List A) → (X → List A) → List (List A) → Standing X → Standing X → Type 0
