@@ -59,23 +59,23 @@ waits table held lines.End goes_on = absurd goes_on
 waits table held command goes_on = refl
 
 -- a line that is no end is kept
-pub kept : (table : Table) (held : Open) (line : List ℕ) (command : CursorCommand) (more : List CursorCommand) → Some command ≡ cursor_command_of line → IsNoEnd command → more ≡ held.2 ++ command ∷ [] →
-    take_line (table, Some held) line ≡ Some ((table, Some (held.0, held.1, more)), [])
+pub kept : (table : Table) (held : Open) (line : List ℕ) (command : CursorCommand) (more : List CursorCommand) → Some command ≡ cursor_command_of line → IsNoEnd command → more ≡ held.lines ++ command ∷ [] →
+    take_line (table, Some held) line ≡ Some ((table, Some (record held { lines = more })), [])
 kept table held line command more is goes_on same = rw same (inside table held line command is ∙ ap Some (waits table held command goes_on))
 
 -- an end runs the block
 pub closed : (table new : Table) (held : Open) (line : List ℕ) (command : CursorCommand) (all : List CursorCommand) (before after : List ℕ) → Some command ≡ cursor_command_of line → command ≡ lines.End →
-    all ≡ held.2 ++ command ∷ [] → Closes table (held.0, held.1, all) new before after →
+    all ≡ held.lines ++ command ∷ [] → Closes table (record held { lines = all }) new before after →
     (texts : List (List ℕ)) × (take_line (table, Some held) line ≡ Some ((new, None), texts)) × (after ≡ before ++ concat texts)
 closed table new held line command all before after is end more (now, added) = (
-  text_of (run_block table (held.0, held.1, all)).1 ∷ [],
+  text_of (run_block table (record held { lines = all })).1 ∷ [],
   rw (← is, now, more, end) refl,
-  added ∙ ap (λ (t : List ℕ). before ++ t) (sym (append-nil (text_of (run_block table (held.0, held.1, all)).1))),
+  added ∙ ap (λ (t : List ℕ). before ++ t) (sym (append-nil (text_of (run_block table (record held { lines = all })).1))),
 )
 
 -- where memory for that was refused, the block is open as it was, or was run
 pub refused : {E : Type 0} (error : E) (table : Table) (held : Open) (line : List ℕ) (command : CursorCommand) (all : List CursorCommand) (new : State) (before after : List ℕ) → Some command ≡ cursor_command_of line → command ≡ lines.End →
-    all ≡ held.2 ++ command ∷ [] → RanOrNot (table, Some held) ((run_block table (held.0, held.1, all)).0, None) new → after ≡ before → TakesLine list_machine (table, Some held) line new before after (Err error)
+    all ≡ held.lines ++ command ∷ [] → RanOrNot (table, Some held) ((run_block table (record held { lines = all })).0, None) new → after ≡ before → TakesLine list_machine (table, Some held) line new before after (Err error)
 refused error table held line command all new before after is end more (inl stays) same =
     (_, _, [], inside table held line command is, (0, inl refl, refl), same ∙ sym (append-nil before), inl stays)
 refused error table held line command all new before after is end more (inr ran) same =

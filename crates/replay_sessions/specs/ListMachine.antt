@@ -16,19 +16,21 @@ use Rattle.replay_lines.specs.ListScript.{Meaning, plain, walk, into, block, mea
 use Rattle.replay_lines.specs.CursorScript.{cursor_command_of}
 
 -- a block whose end has not come: its list, where its cursor begins, and its lines so far
-abbrev pub Open : Type 0
-Open = ℕ × ListEnd × List CursorCommand
+pub record Open : Type 0 where
+  pub list : ℕ
+  pub end : ListEnd
+  pub lines : List CursorCommand
 
 -- the lists, and the block that is open
 abbrev pub State : Type 0
 State = Table × Option Open
 
 abbrev pub run_block : Table → Open → Table × List Line
-run_block table held = blocks.block table held.0 held.1 held.2
+run_block table held = blocks.block table held.list held.end held.lines
 
 -- the block with one more line
 abbrev pub longer : Open → CursorCommand → Open
-longer held line = (held.0, held.1, held.2 ++ line ∷ [])
+longer held line = record held { lines = held.lines ++ line ∷ [] }
 
 -- the replies to the lines of a command are one text, and no block is open
 abbrev pub outside_with_text : Table × List Line → State × List (List ℕ)
@@ -41,7 +43,7 @@ take_outside table (list, walk turns) =
     outside_with_text (on table list (λ s. (s, show (items_for turns (values s)) ∷ [])))
 take_outside table (list, into turns) =
     outside_with_text (on table list (λ s. ([], show (items_for turns (values s)) ∷ [])))
-take_outside table (list, block end lines) = ((table, Some (list, end, lines)), [])
+take_outside table (list, block end lines) = ((table, Some (record { list = list; end = end; lines = lines })), [])
 
 -- what a line does in a block: its end runs it, and any other line waits for that
 abbrev pub take_inside : Table → Open → CursorCommand → State × List (List ℕ)

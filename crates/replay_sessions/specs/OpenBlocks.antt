@@ -9,7 +9,7 @@ use Rattle.replay_sessions.specs.ListMachine.{Open, run_block}
 use Rattle.replay_lines.specs.ReplyText.{text_of}
 
 abbrev pub open_as : Block → Open
-open_as block = (block.list, block.end, block.lines.items)
+open_as block = record { list = block.list; end = block.end; lines = block.lines.items }
 
 abbrev pub open_of : Option Block → Option Open
 open_of None = None
