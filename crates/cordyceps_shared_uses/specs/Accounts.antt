@@ -39,8 +39,8 @@ alone p = record { mine = p; other = blank 0 }
 abbrev pub entries : TableId → View → Entries
 entries z v = record { table = z; parts = v.mine.parts; got = v.mine.got; gave = v.mine.gave }
 
--- ---- what holds of all accounts: they have so many parts in all, what was got was given, and none has an entry without
--- a part
+-- ---- what holds of all accounts: they have so many parts in all, what was got was given, and none has an entry
+-- without a part
 abbrev pub count : (Page → ℕ) → View → ℕ
 count g v = g v.mine + g v.other
 

@@ -2,6 +2,7 @@
 //! contracts are stated in the terms of each program's own subject.
 #![tactic(auto)]
 
+mod idle;
 pub mod logger;
 pub mod mailbox;
 pub mod pool;

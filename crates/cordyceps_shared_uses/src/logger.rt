@@ -7,7 +7,8 @@ ghost use Rattle.cordyceps.specs.Queues.Moves.{Moves};
 ghost use Rattle.cordyceps.specs.Queues.Sending.{Sends};
 ghost use Rattle.cordyceps_shared_uses.specs.Logger.{record_of, records};
 
-use cordyceps::mpsc_queue::{Batch, Links, MAX_ROOMS, Party, TryDequeueError};
+use crate::idle::pause;
+use cordyceps::mpsc_queue::{Batch, Links, MAX_ROOMS, Party};
 use cordyceps::{Kind, Linked, List, MpscQueue, Node};
 use crossbeam_utils::sync::{Parker, Unparker};
 use std::alloc::{AllocError, Global};
@@ -197,17 +198,6 @@ impl Promise<Stored> for Stores {
         IfSome stored.log (λ log. Moves record_of [] log.items stores.party.value stored.party) };
 }
 
-/// Sleeps until a sender wakes this thread, if the queue was empty, and otherwise yields to other threads.
-///
-/// No wake-up is lost: a sender wakes this thread after it has enqueued its record, and a wake-up before the sleep ends
-/// the sleep at once. This is tested, but no contract states it.
-fn pause<R: Wait>(rt: &R, sleep: &Parker, why: TryDequeueError) {
-    match why {
-        TryDequeueError::Empty => sleep.park(rt),
-        _ => thread::yield_now(),
-    }
-}
-
 /// Stores the records that arrive, in batches of at most `max`, until all senders have ended and no record is left. It
 /// gives the rooms of the records that it has stored to the pool at once, and sleeps while the queue is empty.
 fn store_until_end<R: Wait>(
@@ -215,7 +205,7 @@ fn store_until_end<R: Wait>(
     alloc: Global,
     queue: &MpscQueue<Record>,
     party: Party<Record>,
-    sleep: Parker,
+    parker: Parker,
     have_ended: &AtomicBool,
     max: usize,
 ) -> Stored
@@ -243,7 +233,7 @@ fn store_until_end<R: Wait>(
                         log,
                     };
                 }
-                pause(rt, &sleep, why);
+                pause(rt, &parker, why);
             }
         }
     }
@@ -268,8 +258,8 @@ fn exchange<R: Threads + Wait + Sync>(
         IfSome both.0.log (λ log. Moves record_of [] log.items storer both.0.party)) }
     ensures sent { IfOk result (λ both. Sends record_of (records producers) sender both.1) }
 {
-    let sleep = Parker::new(alloc)?;
-    let wake = sleep.unparker().clone()?;
+    let parker = Parker::new(alloc)?;
+    let wake = parker.unparker().clone()?;
     let flag = AtomicBool::new(false);
     let have_ended = &flag;
     thread::scope(
@@ -288,7 +278,7 @@ fn exchange<R: Threads + Wait + Sync>(
             let store_on = move || -> Stored
                 requires { IsSync R.row × (storer.table ≡ queue.now.table) × (1 ≤ max) }
                 ensures { IfSome result.log (λ log. Moves record_of [] log.items storer result.party) }
-            { store_until_end(rt, alloc, queue, storer, sleep, have_ended, max) };
+            { store_until_end(rt, alloc, queue, storer, parker, have_ended, max) };
             let stored = scope.spawn_with(promise, store_on)?;
             let sent = send_each(rt, queue, &wake, sender, producers);
             have_ended.store(true, Ordering::SeqCst);

@@ -7,7 +7,8 @@ ghost use Rattle.cordyceps.specs.Queues.Moves.{Moves};
 ghost use Rattle.cordyceps.specs.Queues.Sending.{Sends};
 ghost use Rattle.cordyceps_shared_uses.specs.Mailbox.{contents, value_of};
 
-use cordyceps::mpsc_queue::{Links, MAX_ROOMS, Party, TryDequeueError};
+use crate::idle::pause;
+use cordyceps::mpsc_queue::{Links, MAX_ROOMS, Party};
 use cordyceps::{Linked, MpscQueue, Node, Refused};
 use crossbeam_utils::sync::{Parker, Unparker};
 use std::alloc::{AllocError, Global};
@@ -193,17 +194,6 @@ impl Promise<Inbox> for Receives {
         IfSome inbox.received (λ all. Moves value_of [] all.items receives.party.value inbox.party) };
 }
 
-/// Sleeps until a sender wakes this thread, if the queue was empty, and otherwise yields to other threads.
-///
-/// No wake-up is lost: a sender wakes this thread after it has enqueued its letter, and a wake-up before the sleep ends
-/// the sleep at once. This is tested, but no contract states it.
-fn pause<R: Wait>(rt: &R, sleep: &Parker, why: TryDequeueError) {
-    match why {
-        TryDequeueError::Empty => sleep.park(rt),
-        _ => thread::yield_now(),
-    }
-}
-
 /// Receives messages until all senders have ended and no message is left. It gives the room of each message to the pool
 /// at once, and sleeps while the queue is empty. If memory is refused, it goes on, and drops what it receives, so that
 /// no sender waits for a room for good.
@@ -212,7 +202,7 @@ fn receive<R: Wait>(
     alloc: Global,
     queue: &MpscQueue<Message>,
     mut party: Party<Message>,
-    sleep: Parker,
+    parker: Parker,
     have_ended: &AtomicBool,
 ) -> Inbox
     requires { party.table ≡ queue.now.table }
@@ -233,15 +223,15 @@ fn receive<R: Wait>(
                 if is_end {
                     return Inbox { party, received };
                 }
-                pause(rt, &sleep, why);
+                pause(rt, &parker, why);
             }
         }
     }
     unreachable!()
 }
 
-/// Sends each list on a thread of its own, while one thread receives. If no thread can be started to receive, nothing is
-/// sent.
+/// Sends each list on a thread of its own, while one thread receives. If no thread can be started to receive, nothing
+/// is sent.
 fn exchange<R: Threads + Wait + Sync>(
     rt: &R,
     alloc: Global,
@@ -256,8 +246,8 @@ fn exchange<R: Threads + Wait + Sync>(
         IfSome both.0.received (λ all. Moves value_of [] all.items receiver both.0.party)) }
     ensures sent { IfOk result (λ both. Sends value_of (contents lists.now) sender both.1) }
 {
-    let sleep = Parker::new(alloc)?;
-    let wake = sleep.unparker().clone()?;
+    let parker = Parker::new(alloc)?;
+    let wake = parker.unparker().clone()?;
     let flag = AtomicBool::new(false);
     let have_ended = &flag;
     thread::scope(
@@ -276,7 +266,7 @@ fn exchange<R: Threads + Wait + Sync>(
             let receive_on = move || -> Inbox
                 requires { IsSync R.row × (receiver.table ≡ queue.now.table) }
                 ensures { IfSome result.received (λ all. Moves value_of [] all.items receiver result.party) }
-            { receive(rt, alloc, queue, receiver, sleep, have_ended) };
+            { receive(rt, alloc, queue, receiver, parker, have_ended) };
             let inbox = scope.spawn_with(promise, receive_on)?;
             let sent = send_each(rt, alloc, queue, &wake, sender, lists);
             have_ended.store(true, Ordering::SeqCst);

@@ -151,7 +151,7 @@ fn work<R: Wait>(
     rt: &R,
     queue: &TransferStack<Job>,
     mut party: Party<Job>,
-    sleep: &Parker,
+    parker: &Parker,
     have_ended: &AtomicBool,
 ) -> Shift
     requires { party.table ≡ queue.now }
@@ -170,7 +170,7 @@ fn work<R: Wait>(
         } else if is_end {
             return Shift { party, done };
         } else {
-            sleep.park(rt);
+            parker.park(rt);
         }
     }
     unreachable!()
@@ -190,7 +190,7 @@ fn run_threads<R: Threads + Wait + Sync>(
     queue: &TransferStack<Job>,
     submitter: Party<Job>,
     parties: (Party<Job>, Party<Job>),
-    beds: (Parker, Parker),
+    parkers: (Parker, Parker),
     alarm: Alarm,
     jobs: Stack<Job>,
 ) -> Result<Ended, Stack<Job>>
@@ -202,14 +202,15 @@ fn run_threads<R: Threads + Wait + Sync>(
     ensures back { IfErr result (λ back. back ≡ jobs) }
 {
     let (one, two) = parties;
-    let (first_bed, second_bed) = beds;
+    let (first_parker, second_parker) = parkers;
     let flag = AtomicBool::new(false);
     let have_ended = &flag;
     thread::scope(
         thread::scope_env(),
         rt,
         move |scope| -> Result<Ended, Stack<Job>>
-            requires { IsSync R.row × (submitter.table ≡ queue.now) × (one.table ≡ queue.now) × (two.table ≡ queue.now) }
+            requires { IsSync R.row × (submitter.table ≡ queue.now) × (one.table ≡ queue.now)
+                × (two.table ≡ queue.now) }
             ensures ended { IfOk result (λ e. Moves ran (map ran jobs) [] submitter e.submitter
                 × Worked e.workers.0.done one e.workers.0.party × Worked e.workers.1.done two e.workers.1.party) }
             ensures back { IfErr result (λ back. back ≡ jobs) }
@@ -220,7 +221,7 @@ fn run_threads<R: Threads + Wait + Sync>(
             let work_on = move || -> Shift
                 requires { IsSync R.row × (one.table ≡ queue.now) }
                 ensures { Worked result.done one result.party }
-            { work(rt, queue, one, &first_bed, have_ended) };
+            { work(rt, queue, one, &first_parker, have_ended) };
             let Ok(first) = scope.spawn_with(promise, work_on) else {
                 return Err(jobs);
             };
@@ -230,7 +231,7 @@ fn run_threads<R: Threads + Wait + Sync>(
             let work_on = move || -> Shift
                 requires { IsSync R.row × (two.table ≡ queue.now) }
                 ensures { Worked result.done two result.party }
-            { work(rt, queue, two, &second_bed, have_ended) };
+            { work(rt, queue, two, &second_parker, have_ended) };
             let second = scope.spawn_with(promise, work_on);
             let submitter = submit_all(rt, queue, &alarm, submitter, jobs);
             have_ended.store(true, Ordering::SeqCst);
@@ -269,13 +270,13 @@ pub struct Done {
 }
 
 /// Creates what two workers sleep on, and what wakes them.
-fn make_beds(alloc: Global) -> Result<((Parker, Parker), Alarm), AllocError> {
-    let beds = (Parker::new(alloc)?, Parker::new(alloc)?);
+fn make_parkers(alloc: Global) -> Result<((Parker, Parker), Alarm), AllocError> {
+    let parkers = (Parker::new(alloc)?, Parker::new(alloc)?);
     let alarm = Alarm {
-        first: beds.0.unparker().clone()?,
-        second: beds.1.unparker().clone()?,
+        first: parkers.0.unparker().clone()?,
+        second: parkers.1.unparker().clone()?,
     };
-    Ok((beds, alarm))
+    Ok((parkers, alarm))
 }
 
 /// Runs all jobs and returns them. One thread submits the jobs, and two workers run them, until all jobs were submitted
@@ -293,8 +294,8 @@ fn make_beds(alloc: Global) -> Result<((Parker, Parker), Alarm), AllocError> {
 ///
 /// # Waits
 /// For the threads that it starts. The one that submits tries again while no room is free, and while a worker takes
-/// between the steps of its push. A worker sleeps while the queue is empty. If only one thread can be started, one worker
-/// runs all jobs.
+/// between the steps of its push. A worker sleeps while the queue is empty. If only one thread can be started, one
+/// worker runs all jobs.
 pub fn run_all<R: Threads + Wait + Sync>(
     rt: &R,
     alloc: Global,
@@ -309,13 +310,13 @@ pub fn run_all<R: Threads + Wait + Sync>(
     let Ok((queue, mut party)) = TransferStack::new(alloc, rooms) else {
         return Err(jobs);
     };
-    let Ok((beds, alarm)) = make_beds(alloc) else {
+    let Ok((parkers, alarm)) = make_parkers(alloc) else {
         return Err(jobs);
     };
     let submitter = queue.split(&mut party, rooms);
     let other = queue.split(&mut party, 0);
     let parties = (party, other);
-    let ended = run_threads(rt, &queue, submitter, parties, beds, alarm, jobs)?;
+    let ended = run_threads(rt, &queue, submitter, parties, parkers, alarm, jobs)?;
     let Ended {
         submitter,
         workers: (first, second),

@@ -115,28 +115,28 @@ struct Actor {
 
 /// What the four threads sleep on.
 #[derive(Drop)]
-struct Beds {
+struct Parkers {
     submitter: Parker,
     dispatcher: Parker,
     workers: (Parker, Parker),
 }
 
 /// Creates what the four threads sleep on, and what wakes them.
-fn make_beds(alloc: Global) -> Result<(Beds, Alarms), AllocError> {
-    let beds = Beds {
+fn make_parkers(alloc: Global) -> Result<(Parkers, Alarms), AllocError> {
+    let parkers = Parkers {
         submitter: Parker::new(alloc)?,
         dispatcher: Parker::new(alloc)?,
         workers: (Parker::new(alloc)?, Parker::new(alloc)?),
     };
     let alarms = Alarms {
-        submitter: beds.submitter.unparker().clone()?,
-        dispatcher: beds.dispatcher.unparker().clone()?,
+        submitter: parkers.submitter.unparker().clone()?,
+        dispatcher: parkers.dispatcher.unparker().clone()?,
         workers: (
-            beds.workers.0.unparker().clone()?,
-            beds.workers.1.unparker().clone()?,
+            parkers.workers.0.unparker().clone()?,
+            parkers.workers.1.unparker().clone()?,
         ),
     };
-    Ok((beds, alarms))
+    Ok((parkers, alarms))
 }
 
 /// Sends all tasks to the dispatcher, and then wakes those that are due.
@@ -146,7 +146,7 @@ fn submit_and_wake<L: Run, R: Wait>(
     mut from: Actor,
     shared: &Shared<L>,
     tasks: List<Task>,
-    bed: &Parker,
+    parker: &Parker,
     turns: u64,
 ) -> Actor
     requires table { from.party.table ≡ queue.now.table }
@@ -160,7 +160,7 @@ fn submit_and_wake<L: Run, R: Wait>(
         &mut from.party,
         shared,
         &mut from.account,
-        bed,
+        parker,
         turns,
     );
     shared.end_sending();
@@ -173,13 +173,20 @@ fn dispatch_all<L: Run, R: Wait>(
     queue: &MpscQueue<Task>,
     mut from: Actor,
     shared: &Shared<L>,
-    bed: &Parker,
+    parker: &Parker,
 ) -> Actor
     requires table { from.party.table ≡ queue.now.table }
     requires of { IsOpen L.accounts from.account }
     ensures { Came from.account result.account from.party result.party }
 {
-    dispatch(rt, queue, &mut from.party, shared, &mut from.account, bed);
+    dispatch(
+        rt,
+        queue,
+        &mut from.party,
+        shared,
+        &mut from.account,
+        parker,
+    );
     from
 }
 
@@ -221,7 +228,7 @@ fn run_four<L: Run + Send + Sync, R: Threads + Wait + Sync>(
     dispatcher: Actor,
     shared: &Shared<L>,
     workers: (Account, Account),
-    beds: Beds,
+    parkers: Parkers,
     turns: u64,
 ) -> Result<Ended<L>, List<Task>>
     requires submitter { (submitter.party.table ≡ queue.now.table) × IsOpen L.accounts submitter.account }
@@ -235,11 +242,11 @@ fn run_four<L: Run + Send + Sync, R: Threads + Wait + Sync>(
     ensures back { IfErr result (λ back. back ≡ tasks) }
 {
     let (one, two) = workers;
-    let Beds {
-        submitter: own_bed,
-        dispatcher: bed,
-        workers: (first_bed, second_bed),
-    } = beds;
+    let Parkers {
+        submitter: own_parker,
+        dispatcher: parker,
+        workers: (first_parker, second_parker),
+    } = parkers;
     thread::scope(
         thread::scope_env(),
         rt,
@@ -261,23 +268,31 @@ fn run_four<L: Run + Send + Sync, R: Threads + Wait + Sync>(
                 requires { IsSync R.row × (dispatcher.party.table ≡ queue.now.table)
                     × IsOpen L.accounts dispatcher.account }
                 ensures { Came dispatcher.account result.account dispatcher.party result.party }
-            { dispatch_all(rt, queue, dispatcher, shared, &bed) };
+            { dispatch_all(rt, queue, dispatcher, shared, &parker) };
             let Ok(dispatching) = scope.spawn_with(promise, dispatch_on) else {
                 return give_up(shared, tasks);
             };
             let work_on = move || -> Worked<L>
                 requires { IsSync R.row × IsOpen L.accounts one × Holds one [] }
-            { work(rt, shared, one, &first_bed, turns) };
+            { work(rt, shared, one, &first_parker, turns) };
             let Ok(first) = scope.spawn(work_on) else {
                 return give_up(shared, tasks);
             };
             let work_on = move || -> Worked<L>
                 requires { IsSync R.row × IsOpen L.accounts two × Holds two [] }
-            { work(rt, shared, two, &second_bed, turns) };
+            { work(rt, shared, two, &second_parker, turns) };
             let Ok(second) = scope.spawn(work_on) else {
                 return give_up(shared, tasks);
             };
-            let submitter = submit_and_wake(rt, queue, submitter, shared, tasks, &own_bed, turns);
+            let submitter = submit_and_wake(
+                rt,
+                queue,
+                submitter,
+                shared,
+                tasks,
+                &own_parker,
+                turns,
+            );
             Ok(Ended {
                 submitter,
                 dispatcher: dispatching.join(rt),
@@ -372,7 +387,7 @@ fn run_in<L: Run + Send + Sync, R: Threads + Wait + Sync>(
     let Ok((queue, mut party)) = MpscQueue::<Task>::new(alloc, rooms) else {
         return Err(tasks);
     };
-    let Ok((beds, alarms)) = make_beds(alloc) else {
+    let Ok((parkers, alarms)) = make_parkers(alloc) else {
         return Err(tasks);
     };
     let Opened {
@@ -392,7 +407,7 @@ fn run_in<L: Run + Send + Sync, R: Threads + Wait + Sync>(
         account: dispatcher,
     };
     let ended = run_four(
-        rt, &queue, submitter, tasks, dispatcher, &shared, workers, beds, turns,
+        rt, &queue, submitter, tasks, dispatcher, &shared, workers, parkers, turns,
     )?;
     let Ended {
         submitter: sent,

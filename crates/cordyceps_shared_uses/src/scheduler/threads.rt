@@ -8,6 +8,7 @@ ghost use Rattle.cordyceps_shared_uses.specs.Ways.{Sent, Came, Settles, Woken};
 ghost use Rattle.cordyceps_shared_uses.specs.declared.scheduler.work.Work.{Work};
 ghost use Rattle.cordyceps_shared_uses.specs.declared.timers.Timer.{Timer};
 
+use crate::idle::pause;
 use crate::scheduler::accounts::{Account, Accounts};
 use crate::scheduler::places::{Run, Runnable, Sleepers, Task};
 use cordyceps::mpsc_queue::{Party, TryDequeueError};
@@ -47,8 +48,8 @@ impl Alarms {
 /// What the threads share besides the queue.
 ///
 /// A thread sleeps while it has nothing to do. No wake-up is lost: who puts a task into a place wakes the threads that
-/// take from it after that, who ends the run wakes all threads after that, and a wake-up before the sleep ends the sleep
-/// at once. This is tested, but no contract states it.
+/// take from it after that, who ends the run wakes all threads after that, and a wake-up before the sleep ends the
+/// sleep at once. This is tested, but no contract states it.
 #[derive(Drop)]
 pub struct Shared<L: Run> {
     /// The place where tasks sleep.
@@ -182,7 +183,7 @@ pub fn wake<L: Run, R: Wait>(
     party: &mut Party<Task>,
     shared: &Shared<L>,
     mine: &mut Account,
-    bed: &Parker,
+    parker: &Parker,
     turns: u64,
 )
     requires table { party.old.table ≡ queue.now.table }
@@ -196,7 +197,7 @@ pub fn wake<L: Run, R: Wait>(
         let woken = wake_first(rt, shared, mine);
         match woken {
             Some(task) => send(rt, queue, party, shared, task),
-            None => bed.park(rt),
+            None => parker.park(rt),
         }
     }
     shared.call_off();
@@ -245,7 +246,7 @@ pub fn dispatch<L: Run, R: Wait>(
     party: &mut Party<Task>,
     shared: &Shared<L>,
     mine: &mut Account,
-    bed: &Parker,
+    parker: &Parker,
 )
     requires table { party.old.table ≡ queue.now.table }
     requires of { IsOpen L.accounts mine.old }
@@ -259,18 +260,10 @@ pub fn dispatch<L: Run, R: Wait>(
             if is_end {
                 return;
             }
-            pause(rt, bed, why);
+            pause(rt, parker, why);
         }
     }
     unreachable!()
-}
-
-/// Sleeps until the submitter wakes this thread, if the queue was empty, and otherwise yields to other threads.
-fn pause<R: Wait>(rt: &R, bed: &Parker, why: TryDequeueError) {
-    match why {
-        TryDequeueError::Empty => bed.park(rt),
-        _ => thread::yield_now(),
-    }
 }
 
 /// Runs one round of a task, if one is left.
@@ -314,8 +307,8 @@ fn run_out<L: Run>(shared: &Shared<L>, done: &mut Stack<Task>, task: Node<Task, 
     retire(shared, done, awake);
 }
 
-/// Retires a task that is done, and puts another one to sleep, which wakes the submitter. If `usize::MAX` tasks sleep, it
-/// runs the rounds that are left at once and retires the task.
+/// Retires a task that is done, and puts another one to sleep, which wakes the submitter. If `usize::MAX` tasks sleep,
+/// it runs the rounds that are left at once and retires the task.
 fn settle<L: Run, R: Wait>(
     rt: &R,
     shared: &Shared<L>,
@@ -363,8 +356,8 @@ fn work_one<L: Run, R: Wait>(
 }
 
 /// Runs one round of one task in each of `turns` turns, and returns the tasks that are done. The others sleep until
-/// their next round. While no task waits, this thread sleeps. It ends early if all tasks are done, or the run was called
-/// off. After its last turn, it calls the run off.
+/// their next round. While no task waits, this thread sleeps. It ends early if all tasks are done, or the run was
+/// called off. After its last turn, it calls the run off.
 ///
 /// # Complexity
 /// O(`turns`), unless `usize::MAX` tasks sleep: it then runs all rounds of a task in one turn.
@@ -375,7 +368,7 @@ pub fn work<L: Run, R: Wait>(
     rt: &R,
     shared: &Shared<L>,
     mine: Account,
-    bed: &Parker,
+    parker: &Parker,
     turns: u64,
 ) -> Worked<L>
     requires of { IsOpen L.accounts mine }
@@ -388,7 +381,7 @@ pub fn work<L: Run, R: Wait>(
             break;
         }
         if !work_one(rt, shared, &mut mine, &mut done) {
-            bed.park(rt);
+            parker.park(rt);
         }
     }
     shared.call_off();
