@@ -13,7 +13,8 @@ pub(crate) trait Sealed {}
 /// `stack::Links` and `mpsc_queue::Links`. A node has one kind at a time, and `Node::into_kind` changes it.
 pub trait Kind: Sealed + Drop {}
 
-/// The addresses of a node's neighbours. Lists use both, and the other collections only `next`.
+/// The addresses of a node's neighbours. Lists, and collections with spots, use both. Stacks, sorted lists and batches
+/// use `next` alone, and nodes in a slot use neither.
 #[derive(Clone, Copy)]
 pub struct BlockLinks {
     pub(crate) next: Address,

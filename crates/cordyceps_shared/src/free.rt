@@ -5,15 +5,15 @@ use std::marker::Brand;
 /// The free rooms of a party, in the order in which they are used. The link of each leads to the next.
 #[derive(Clone, Copy)]
 pub struct FreeRooms {
-    /// 1 more than the first room, if there is one.
+    /// The number of the first room plus 1. It has no meaning if `count` is 0.
     pub first: u64,
-    /// The last room, if there is one.
+    /// The number of the last room. It has no meaning if `count` is 0.
     pub last: usize,
     /// The number of rooms.
     pub count: usize,
 }
 
-/// The number of rooms that a party gives up. Each call that splits a party chooses it.
+/// States, for proofs, how many rooms a call takes from its party.
 pub trait Count {
     ghost use Rattle.std.specs.Prelude.{ℕ};
 

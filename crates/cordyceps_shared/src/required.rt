@@ -4,7 +4,7 @@ ghost use Rattle.std.specs.Prelude.{◌<◌, ◌≤◌};
 
 use cordyceps_base::shared::MAX_ROOMS;
 
-/// Requires that a party, which has so many rooms, has a free one.
+/// Requires that a party with `rooms` free rooms has at least one.
 ///
 /// # Complexity
 /// O(1).
@@ -14,7 +14,7 @@ pub fn a_free_room(rooms: usize)
     prove!(0 < rooms);
 }
 
-/// Requires that a party, which has so many rooms, has as many as a call takes from it.
+/// Requires that `taken`, the number of rooms that a call takes from a party, is at most `rooms`, which it has.
 ///
 /// # Complexity
 /// O(1).

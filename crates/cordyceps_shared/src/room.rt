@@ -1,6 +1,6 @@
 //! The rooms of a core.
 
-/// A room of a core: a unit of capacity, for one element, with a link to another room.
+/// A room of a core, which has space for one element, with a link to another room.
 #[derive(Drop)]
 pub struct Room<E> {
     /// The party that can use the room, if it is free.

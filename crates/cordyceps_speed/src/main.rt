@@ -123,7 +123,7 @@ fn read_rounds(word: &str) -> Option<Table> {
     }
 }
 
-/// The rows that a word asks for, if it does.
+/// Returns the rows that `word` names, or `None` if it names none.
 fn read_rows(word: &str) -> Option<Rows> {
     for (name, rows) in ROWS {
         if word == name {

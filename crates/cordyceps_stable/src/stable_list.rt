@@ -19,7 +19,7 @@ use cordyceps_list::iter::{Iter, over};
 use cordyceps_list::list::{Links, List};
 use std::marker::Model;
 
-/// A stable pointer to an element of a `StableList`, a `StableSortedList`, a `StableHeap` or a `ClockQueue`. It owns
+/// A stable handle of an element of a `StableList`, a `StableSortedList`, a `StableHeap` or a `ClockQueue`. It owns
 /// nothing, and can be copied and kept anywhere.
 ///
 /// It is valid for the collection that has the element, as long as that has it. Each call that takes a spot requires a

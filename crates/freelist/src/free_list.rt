@@ -21,8 +21,9 @@ use std::marker::Model;
 /// is with a user, in a `Local` or shared, and in one of these only.
 ///
 /// It follows the sharded free lists of allocators, as those of mimalloc: a local list, and a shared one that the owner
-/// takes as a whole when the local one is empty. A room is a unit of capacity: a shared block uses one. Each call is
-/// made through a party of this list: a handle through which a thread acts, and which has some of the rooms.
+/// takes as a whole when the local one is empty. A room is a permit to share one block: sharing spends one, and whoever
+/// takes the block gets it. Each call is made through a party of this list: a handle through which a thread acts, and
+/// which has some of the rooms.
 ///
 /// A contract sees the list's table, by which it knows the parties of this list: their `table` is the same. What
 /// happened to the list is told by what its parties have seen, their observed prefix of its history. A party's share is
@@ -170,11 +171,11 @@ impl<T: Linked<Links<T>>> FreeList<T> {
     }
 
     /// Gives `rooms` of the party's rooms to the pool, from where each party may take them, and returns `true`. If
-    /// other rooms are in the pool, it returns `false`, and the party has its rooms. So a whole party that has each
-    /// room which holds no block always gets `true`. Requires that the party has as many rooms.
+    /// other rooms are in the pool, it returns `false`, and the party keeps its rooms. So a whole party that has every
+    /// room without a block always gets `true`. Requires that the party has as many rooms.
     ///
     /// # Complexity
-    /// O(`rooms`), or O(1) if the party gives all its rooms, or finds others there.
+    /// O(`rooms`), or O(1) if the party gives all its rooms or none, or finds others in the pool.
     ///
     /// # Waits
     /// Never.

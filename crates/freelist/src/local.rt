@@ -13,7 +13,8 @@ use std::marker::Model;
 /// The local part of a free list: the blocks of one owner, who takes the shared ones when these run out. A contract
 /// sees the blocks, the last put back first, and the party.
 ///
-/// Dropping it drops the party, whose rooms are then lost for good: `give_back` lets them go, and `finish` returns it.
+/// Do not drop it while its party has rooms: they can never be used again. `give_back` gives rooms to the pool, and
+/// `finish` returns the party.
 ///
 /// # Complexity
 /// Dropping it frees each block once: O(n), for n blocks.

@@ -25,11 +25,11 @@ use std::marker::Model;
 
 /// A queue that threads share without a lock: many put elements in, and one at a time takes them out.
 ///
-/// Its maker chooses the number of its rooms. A room is a unit of capacity: an enqueue uses one. Each call is made
-/// through a party of this queue, which has some of the rooms. Rooms that no party has are in the pool: `give_back`
-/// puts them there, and `refill` and `try_enqueue` take them. Calls allocate nothing, except the constructors. A handle
-/// that is put in comes out as the same element, first in, first out. A party dequeues by the right to do so, which one
-/// party has at a time.
+/// Its maker chooses the number of its rooms. A room is a permit to insert one element: inserting spends one, and
+/// whoever removes the element gets it. Each call is made through a party of this queue, which has some of the rooms.
+/// Rooms that no party has are in the pool: `give_back` puts them there, and `refill` and `try_enqueue` take them.
+/// Calls allocate nothing, except the constructors. A handle that is put in comes out as the same element, first in,
+/// first out. A party dequeues by the right to do so, which one party has at a time.
 ///
 /// A contract sees the queue's table, by which it knows the parties of this queue: their `table` is the same; and the
 /// stub. It sees no contents; what happened to the queue is told by what its parties have seen, their observed prefix
@@ -98,7 +98,8 @@ impl<T: Linked<Links<T>>> Model for MpscQueue<T> {
 /// whose share is the empty word alone is whole: it has the full permission, and has absorbed all parties that were
 /// split off.
 ///
-/// If a party is dropped, its rooms are lost for good, and no party is whole afterwards.
+/// Do not drop a party that has rooms: they can never be used again. After the drop of any party none is whole, so
+/// `close` can no longer be called.
 ///
 /// # Complexity
 /// Dropping a party is O(1).
@@ -299,11 +300,11 @@ impl<T: Linked<Links<T>>> MpscQueue<T> {
     }
 
     /// Gives `rooms` of the party's rooms to the pool, from where each party may take them, and returns `true`. If
-    /// other rooms are in the pool, it returns `false`, and the party has its rooms. To a whole party that has all
-    /// rooms without an element it always returns `true`. Requires that the party has as many rooms.
+    /// other rooms are in the pool, it returns `false`, and the party keeps its rooms. A whole party that has every
+    /// room without an element always gets `true`. Requires that the party has as many rooms.
     ///
     /// # Complexity
-    /// O(`rooms`), or O(1) if the party gives all its rooms or none.
+    /// O(`rooms`), or O(1) if the party gives all its rooms or none, or finds others in the pool.
     ///
     /// # Waits
     /// Never.

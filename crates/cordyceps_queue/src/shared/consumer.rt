@@ -22,8 +22,8 @@ use cordyceps_shared::required;
 use crossbeam_utils::Backoff;
 use std::marker::Model;
 
-/// A pause makes at most so many calls of `Backoff::spin`. Each gives twice as many spin-loop hints as the last, up to
-/// 64.
+/// The most calls of `Backoff::spin` in one pause. Each call gives twice as many spin-loop hints as the one before, up
+/// to 64.
 const LONGEST_PAUSE: u32 = 13;
 
 /// How a consumer keeps away from the producers.
@@ -58,7 +58,7 @@ impl Pace {
         }
     }
 
-    /// The pace after a try, by which the tail became this one.
+    /// Returns the pace after a try that left the tail at this room.
     fn after<E: Drop>(self, tail: usize, tried: &Tried<E>) -> Pace {
         match tried {
             Tried::Out(_room, _item) => Pace {
@@ -215,8 +215,8 @@ impl<E: Drop> Right<E> {
 /// A party that has the right to dequeue from a queue, which it borrows. No other party dequeues meanwhile. It can be
 /// sent to a thread if `T::Handle` can.
 ///
-/// A contract sees the party. Dropping the consumer gives the right back and drops the party, whose rooms are then lost
-/// for good; `release` returns it.
+/// A contract sees the party. Dropping the consumer gives the right back and drops the party. Do not drop it while its
+/// party has rooms: they can never be used again. `release` returns the party.
 ///
 /// # Complexity
 /// Dropping a consumer is O(1).
@@ -339,11 +339,11 @@ impl<'a, T: Linked<Links<T>>> Consumer<'a, T> {
     }
 
     /// Gives `rooms` of the party's rooms to the pool, from where each party may take them, and returns `true`. If
-    /// other rooms are in the pool, it returns `false`, and the party has its rooms. Requires that the party has as
+    /// other rooms are in the pool, it returns `false`, and the party keeps its rooms. Requires that the party has as
     /// many rooms.
     ///
     /// # Complexity
-    /// O(`rooms`), or O(1) if the party gives all its rooms or none.
+    /// O(`rooms`), or O(1) if the party gives all its rooms or none, or finds others in the pool.
     ///
     /// # Waits
     /// Never.

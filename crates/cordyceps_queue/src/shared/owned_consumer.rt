@@ -24,7 +24,8 @@ use std::sync::Arc;
 /// can be sent to a thread if `T::Handle` can.
 ///
 /// A contract sees the queue and the party. Dropping the consumer gives the right back, drops its reference to the
-/// queue, and drops the party, whose rooms are then lost for good; `release` returns both.
+/// queue, and drops the party. Do not drop it while its party has rooms: they can never be used again. `release`
+/// returns both.
 ///
 /// # Complexity
 /// Dropping a consumer is O(1), unless its reference is the last: then the queue is dropped too.
@@ -161,7 +162,7 @@ impl<T: Linked<Links<T>>> OwnedConsumer<T> {
     /// Gives `rooms` of the party's rooms to the pool, as a `Consumer` does.
     ///
     /// # Complexity
-    /// O(`rooms`), or O(1) if the party gives all its rooms or none.
+    /// O(`rooms`), or O(1) if the party gives all its rooms or none, or finds others in the pool.
     ///
     /// # Waits
     /// Never.

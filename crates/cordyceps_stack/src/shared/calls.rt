@@ -24,14 +24,28 @@ use std::marker::Model;
 
 /// A stack that threads share without a lock. They push to it one element at a time, and take all its elements at once.
 ///
-/// Its maker chooses the number of its rooms. A room is a unit of capacity: a push uses one. Each call is made through
-/// a party of this stack, which has some of the rooms. Calls allocate nothing, except `new`. A handle that is pushed
-/// comes out as the same element, the last pushed first.
+/// Its maker chooses the number of its rooms. A room is a permit to insert one element: pushing spends one, and whoever
+/// removes the element gets it. Each call is made through a party of this stack, which has some of the rooms. Calls
+/// allocate nothing, except `new`. A handle that is pushed comes out as the same element, the last pushed first.
 ///
 /// A contract sees the stack's table, by which it knows the parties of this stack: their `table` is the same. It sees
 /// no contents; what happened to the stack is told by what its parties have seen, their observed prefix of its history.
 ///
 /// The interface follows that of `TransferStack` in the Rust crate `cordyceps`.
+///
+/// # Threads
+/// A call borrows its party mutably, so one thread at a time acts through a party. Calls through several parties may
+/// run at the same time:
+///
+/// | call | beside any call of another party | beside a call of its own row |
+/// |---|---|---|
+/// | `push`, `push_all` | yes | each tries again when the other comes between its steps |
+/// | `try_push`, `try_push_all`, `refill_and_try_push` | yes | one may fail, and returns its elements |
+/// | `take_all`, `is_empty` | yes | one takes all elements that are there; the other finds none of them |
+/// | `refill` | yes | one gets the rooms of the pool; the other finds none |
+/// | `give_back` | yes | one puts its rooms into the pool; the other returns `false` |
+/// | `split`, `absorb` | yes | yes |
+/// | `close`, and the stack's drop | no: they take the stack, when no other thread has it | |
 ///
 /// # Complexity
 /// Dropping the stack drops its elements: O(r), for r rooms.
@@ -74,7 +88,8 @@ impl<T: Linked<Links<T>>> Model for TransferStack<T> {
 /// whose share is the empty word alone is whole: it has the full permission, and has absorbed all parties that were
 /// split off.
 ///
-/// If a party is dropped, its rooms are lost for good, and no party is whole afterwards.
+/// Do not drop a party that has rooms: they can never be used again. After the drop of any party none is whole, so
+/// `close` can no longer be called.
 ///
 /// # Complexity
 /// Dropping a party is O(1).
@@ -281,11 +296,11 @@ impl<T: Linked<Links<T>>> TransferStack<T> {
     }
 
     /// Gives `rooms` of the party's rooms to the pool, from where each party may take them, and returns `true`. If
-    /// other rooms are in the pool, it returns `false`, and the party has its rooms. So a whole party that has each
-    /// room which holds no element always gets `true`. Requires that the party has as many rooms.
+    /// other rooms are in the pool, it returns `false`, and the party keeps its rooms. So a whole party that has every
+    /// room without an element always gets `true`. Requires that the party has as many rooms.
     ///
     /// # Complexity
-    /// O(`rooms`), or O(1) if the party gives all its rooms, or finds others there.
+    /// O(`rooms`), or O(1) if the party gives all its rooms or none, or finds others in the pool.
     ///
     /// # Waits
     /// Never.

@@ -302,7 +302,7 @@ fn run_at(
     lists[list] = held;
 }
 
-/// Creates the node that a line inserts, if it does.
+/// Creates the node of a line that inserts one, and appends it to `nodes`; for other lines it does nothing.
 fn make_for(alloc: Global, nodes: &mut List<Item>, line: CursorCommand) -> Result<(), AllocError>
     requires { length nodes.old < usize.MAX }
     ensures { OnOk result (nodes.new ≡ nodes.old ++ made_for line) }
