@@ -39,7 +39,7 @@ use std::marker::Model;
 ///
 /// | call | beside any call of another party | beside a call of its own row |
 /// |---|---|---|
-/// | `push`, `push_all` | yes | each tries again when the other comes between its steps |
+/// | `push`, `push_was_empty`, `push_all` | yes | each tries again when the other comes between its steps |
 /// | `try_push`, `try_push_all`, `refill_and_try_push` | yes | one may fail, and returns its elements |
 /// | `take_all`, `is_empty` | yes | one takes all elements that are there; the other finds none of them |
 /// | `refill` | yes | one gets the rooms of the pool; the other finds none |
