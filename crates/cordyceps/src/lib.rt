@@ -6,8 +6,9 @@
 //! and own the nodes in between. Linking a node allocates nothing.
 //!
 //! A [`StableList`] returns a [`Spot`] for each element: a stable pointer, by which the element is reached, removed and
-//! moved in O(1). A [`StableSortedList`] does so too, and an order keeps it sorted. A [`StableHeap`] is a priority queue
-//! for many elements. A [`ClockQueue`] is one for times: it has the earliest first, and takes none that has passed.
+//! moved in O(1). A [`StableSortedList`] does so too, and an order keeps it sorted. A [`StableHeap`] is a priority
+//! queue for many elements. A [`ClockQueue`] is one for times: it has the earliest first, and takes none that has
+//! passed.
 //!
 //! A [`TransferStack`] is shared by threads, without a lock: each pushes to it through a party of its own, and takes
 //! all its elements at once. An [`MpscQueue`] is shared in the same way: many put elements in, and one at a time takes

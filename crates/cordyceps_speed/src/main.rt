@@ -7,8 +7,8 @@
 //! times, so that it always prints the same. With the argument `threads` it measures collections at which threads meet,
 //! and nothing else, in so many rounds as a second argument says, or in 25.
 //!
-//! With three arguments it measures some rows alone: which ones, as `lists` or `stack`, how many elements the collection
-//! holds or how many threads put in, and the number of rounds.
+//! With three arguments it measures some rows alone: which ones, as `lists` or `stack`, how many elements the
+//! collection holds or how many threads put in, and the number of rounds.
 //!
 //! The nodes are made before the clock starts: no call of the library that is measured takes memory. The clock is read
 //! outside of the loops over the elements. Elements that are not in a collection wait in a vector, so the time of a

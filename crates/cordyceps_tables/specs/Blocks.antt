@@ -82,7 +82,8 @@ Obeys old new call reply = Goes old new (call_on (elements old) (place old) call
 abbrev pub State : Type 0
 State = Table × ℕ
 
--- what a split on a side of the cursor's element keeps, with the cursor's place, and what goes; after the null place all
+-- what a split on a side of the cursor's element keeps, with the cursor's place, and what goes; after the null place
+-- all
 abbrev pub cut_beside : Side → Elements Item → ℕ → Spot × Elements Item
 cut_beside sides.After s k = if nat_lt k (length s) then ((take (k + 1) s, k), drop (k + 1) s) else (([], 0), s)
 cut_beside sides.Before s k = ((drop k s, 0), take k s)
@@ -102,7 +103,8 @@ split_to (table, k) list other cut =
 -- all of the other list went into the cursor's, where that is another one and the sum of the lengths fits
 abbrev pub splice_from : State → ℕ → ℕ → Spot → State × Line
 splice_from (table, k) list other joined =
-    if not (nat_eq list other) && nat_le (length (held_at table list) + length (held_at table other)) 18446744073709551615
+    if not (nat_eq list other)
+    && nat_le (length (held_at table list) + length (held_at table other)) 18446744073709551615
     then ((slice_set (slice_set table other []) list joined.0, joined.1), done)
     else ((table, k), not_there)
 

@@ -52,7 +52,8 @@ call_on s calls.Show = (s, show (map Some (values s)) ∷ [])
 -- all that the second list holds goes after the first, where these are two and the sum of the lengths fits
 abbrev pub append : Table → ℕ → ℕ → Table × List Line
 append table list other =
-    if not (nat_eq list other) && nat_le (length (held_at table list) + length (held_at table other)) 18446744073709551615
+    if not (nat_eq list other)
+    && nat_le (length (held_at table list) + length (held_at table other)) 18446744073709551615
     then (slice_set (slice_set table other []) list (held_at table list ++ held_at table other), done ∷ [])
     else (table, not_there ∷ [])
 

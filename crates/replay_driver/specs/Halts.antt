@@ -29,7 +29,8 @@ Halted machine ended read_failed takes write_failed old new complete unfinished 
     write_failed × SomeLead machine old.state lines new.state texts × (waiting : List ℕ)
     × Writes takes old.sink old.text new.sink waiting (concat texts)
 Halted machine ended read_failed takes write_failed old new complete unfinished lines texts (Err faults.Memory) =
-    (front : List ℕ) × Stops machine old.state new.state lines front × Writes takes old.sink old.text new.sink new.text front
+    (front : List ℕ) × Stops machine old.state new.state lines front
+    × Writes takes old.sink old.text new.sink new.text front
 
 pub record Halts {S O : Type 0} (machine : Machine S) (gave : List ℕ → Type 0) (ended read_failed : Type 0)
     (takes : O → O → List ℕ → Type 0) (write_failed : Type 0) (old new : RunState S O)

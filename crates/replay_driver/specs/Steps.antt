@@ -56,7 +56,8 @@ TakesOne machine takes failed line old new (Err stops.Bad) =
     × Writes takes old.sink old.text new.sink new.text []
 TakesOne {S} machine takes failed line old new (Err stops.Memory) =
     (next : S) × (texts : List (List ℕ)) × (front : List ℕ) × (step_of machine old.state line ≡ Some (next, texts))
-    × StopsAmong texts front × Writes takes old.sink old.text new.sink new.text front × RanOrNot old.state next new.state
+    × StopsAmong texts front × Writes takes old.sink old.text new.sink new.text front
+    × RanOrNot old.state next new.state
 TakesOne machine takes failed line old new (Err stops.Write) =
     (texts : List (List ℕ)) × (waiting : List ℕ) × (step_of machine old.state line ≡ Some (new.state, texts))
     × Writes takes old.sink old.text new.sink waiting (concat texts) × failed

@@ -47,7 +47,8 @@ command_with (verbs.Bare command) words = option_map (λ none. command) (nothing
 command_with verbs.Set words = option_map (λ value. lines.One (calls.Set value)) (value_of words)
 command_with verbs.SetNext words = option_map (λ value. lines.One (calls.SetNext value)) (value_of words)
 command_with verbs.SetPrev words = option_map (λ value. lines.One (calls.SetPrev value)) (value_of words)
-command_with verbs.RemoveFirst words = option_map (λ filter. lines.One (calls.RemoveFirst filter)) (only filter_of words)
+command_with verbs.RemoveFirst words =
+    option_map (λ filter. lines.One (calls.RemoveFirst filter)) (only filter_of words)
 command_with (verbs.Insert side) words = option_map (λ item. lines.Insert side item) (item_of words)
 command_with (verbs.Split side) words = option_map (λ list. lines.Split side list) (structure_of words)
 command_with (verbs.Splice side) words = option_map (λ list. lines.Splice side list) (structure_of words)

@@ -253,8 +253,8 @@ fn judge(vocabulary: Vocabulary, mut words: Words) -> Reason
 /// Returns why a line is bad that is no command of a mode.
 ///
 /// Of several reasons it returns the first: that the line is empty, has a carriage return, or begins with no command
-/// word; then what is wrong with a word alone, the first such word; then that a structure is above 15. A command word of
-/// mode `list` counts as one outside of blocks if it can be one.
+/// word; then what is wrong with a word alone, the first such word; then that a structure is above 15. A command word
+/// of mode `list` counts as one outside of blocks if it can be one.
 ///
 /// # Complexity
 /// O(b), for b bytes of the line.

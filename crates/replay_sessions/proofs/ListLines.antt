@@ -83,7 +83,7 @@ refused error table held line command all new before after is end more (inr ran)
 
 -- the block without its end, which came back
 pub reopened : (table new : Table) (block full back : Block) (command : CursorCommand) (cut : List CursorCommand) (held : ℕ) → CameBackOrRan table full (Some back) new → full.list ≡ block.list → full.end ≡ block.end →
-    full.lines.items ≡ block.lines.items ++ command ∷ [] → held ≡ length block.lines.items → cut ≡ take held back.lines.items → ◌≡◌ {A = State} (new, Some (back.list, back.end, cut)) (table, Some (open_as block))
+    full.lines.items ≡ block.lines.items ++ command ∷ [] → held ≡ length block.lines.items → cut ≡ take held back.lines.items → ◌≡◌ {A = State} (new, Some (record { list = back.list; end = back.end; lines = cut })) (table, Some (open_as block))
 reopened table new block full back command cut held (same, stays) list end more size is =
     let front : cut ≡ block.lines.items = is ∙ ap (λ (b : Block). take held b.lines.items) same ∙ ap (take held) more ∙ take_at block.lines.items (command ∷ []) held (sym size) in
     rw (front, stays, same, list, end) refl

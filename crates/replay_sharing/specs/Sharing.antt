@@ -31,7 +31,8 @@ pub record Works (a b : Element Item) (u w : PartyOf (Element Item)) : Type 0 wh
   pub rooms : w.rooms ≡ 0
 
 -- a worker did so, or it was called off, and its party is as it was
-abbrev pub Leaves : (a b : Element Item) → PartyOf (Element Item) → Result (PartyOf (Element Item)) (PartyOf (Element Item)) → Type 0
+abbrev pub Leaves : (a b : Element Item) → PartyOf (Element Item)
+    → Result (PartyOf (Element Item)) (PartyOf (Element Item)) → Type 0
 Leaves a b u (Ok w) = Works a b u w
 Leaves a b u (Err w) = w ≡ u
 

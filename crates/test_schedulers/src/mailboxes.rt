@@ -21,8 +21,8 @@ fn four_lists(rt: &impl Abort, alloc: Global) -> Vec<Vec<u64>> {
     made(rt, Vec::from_array(alloc, [first, second, third, fourth]))
 }
 
-/// Delivers twelve messages of four senders by a queue of this many rooms, and compares what comes of each. Where memory
-/// or a thread was refused, it delivers them again.
+/// Delivers twelve messages of four senders by a queue of this many rooms, and compares what comes of each. Where
+/// memory or a thread was refused, it delivers them again.
 fn deliver_twelve<R: Abort + Threads + Wait + Sync>(rt: &R, alloc: Global, rooms: usize)
     requires { (1 ≤ rooms) × (rooms ≤ MAX_ROOMS) }
 {

@@ -26,8 +26,8 @@ fn eight_jobs(alloc: Global) -> Result<Stack<Job>, AllocError> {
     Ok(jobs)
 }
 
-/// Runs eight jobs on a queue of this many rooms, and compares what comes of each. Where memory or a thread was refused,
-/// it runs them again.
+/// Runs eight jobs on a queue of this many rooms, and compares what comes of each. Where memory or a thread was
+/// refused, it runs them again.
 fn run_eight<R: Abort + Threads + Wait + Sync>(
     rt: &R,
     alloc: Global,

@@ -73,8 +73,8 @@ pub fn pops(rt: &impl Abort, stack: Stack<Counted>, wanted: &[u64]) {
     same(rt, left.is_empty(), true);
 }
 
-/// Asserts that a stack pops so many numbers, of which this one is the first and each other one is below the one before,
-/// and that it pops no more.
+/// Asserts that a stack pops so many numbers, of which this one is the first and each other one is below the one
+/// before, and that it pops no more.
 pub fn falls(rt: &impl Abort, stack: Stack<Counted>, first: u64, count: u64) {
     let mut left = stack;
     for popped in 0..count {

@@ -19,8 +19,8 @@ const ROOMS: [(usize, u64); 4] = [
 /// How many elements a party pushes at most.
 const MOST: u64 = 4_000;
 
-/// Pushes elements into the rooms of a party, at most `MOST`, each by one try, which nobody overtakes. Their numbers rise
-/// from the first. Returns the number after the last. Only before the number 0 nothing is held.
+/// Pushes elements into the rooms of a party, at most `MOST`, each by one try, which nobody overtakes. Their numbers
+/// rise from the first. Returns the number after the last. Only before the number 0 nothing is held.
 fn fill(rt: &impl Abort, alloc: Global, seat: &mut Seat<'_>, first: u64, drops: &Drops) -> u64 {
     let end = sum(first, MOST.min(seat.rooms() as u64));
     for number in first..end {

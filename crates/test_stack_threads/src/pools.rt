@@ -50,8 +50,8 @@ impl Pair<'_> {
     }
 }
 
-/// Makes calls of two parties of a stack, of which the first has all rooms at first, and asserts in the end that no room
-/// is lost.
+/// Makes calls of two parties of a stack, of which the first has all rooms at first, and asserts in the end that no
+/// room is lost.
 fn calls_return(rt: &impl Abort, alloc: Global, rooms: usize, calls: &[(By, Call)]) {
     let drops = no_drops(rt, alloc);
     let mut stock = stock(rt, alloc, (1, 4), &drops);

@@ -34,8 +34,8 @@ fn run_task(rt: &impl Abort, task: Task<'_>) -> Stack<Counted> {
     }
 }
 
-/// Runs each task on a thread of its own, and returns what the last one got. The clauses say nothing of what a task does,
-/// which keeps its proof short.
+/// Runs each task on a thread of its own, and returns what the last one got. The clauses say nothing of what a task
+/// does, which keeps its proof short.
 fn run_all<R: Threads + Abort + Sync>(
     rt: &R,
     alloc: Global,

@@ -104,8 +104,9 @@ impl<'f> Remote<'f> {
         puts(rt, self.list, &mut self.party, handle, first);
     }
 
-    /// Puts a block back by one try that takes the rooms of the pool if the party has none, and compares whether nothing
-    /// was shared before with what is wanted. `None`: there is no room, and the block comes back and is dropped.
+    /// Puts a block back by one try that takes the rooms of the pool if the party has none, and compares whether
+    /// nothing was shared before with what is wanted. `None`: there is no room, and the block comes back and is
+    /// dropped.
     pub fn refills_and_puts(&mut self, rt: &impl Abort, handle: Handle, wanted: Option<bool>) {
         let number = handle.id();
         match self.list.refill_and_put_remote(&mut self.party, handle) {

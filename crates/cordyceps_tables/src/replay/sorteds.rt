@@ -141,7 +141,8 @@ fn run_greatest(
     command: &SortedCommand,
 ) -> Result<Reply, AllocError>
     ensures ok { IfOk result (λ reply. IsSortedBy (less (λ x y. ⟦<Item as Ord>⟧.cmp y x)) list.old.elements
-        → (list.new.elements, lines_of reply) ≡ step_on (λ x y. ⟦<Item as Ord>⟧.cmp y x) list.old.elements command.now) }
+        → (list.new.elements, lines_of reply)
+        ≡ step_on (λ x y. ⟦<Item as Ord>⟧.cmp y x) list.old.elements command.now) }
     ensures err { OnErr result (list.new ≡ list.old) }
 {
     let (reply, stack) = run_on(alloc, list, command)?;
