@@ -155,16 +155,6 @@ module _ {X : Type 0} where
   lead_without (g ∷ hs) h (m ∷ ls) f = let on = lead_without hs h ls f.1 in (m ∷ on.0, on.1, ap (λ s. m ∷ s) on.2, (f.0, on.3), on.4)
 
   -- ---- line k, and another in its place
-  pub lead_long : (hs : List Address) (ls : List (List (OwnedNode X))) → Lead hs ls → length hs ≡ length ls
-  lead_long [] [] f = refl
-  lead_long [] (l ∷ ls) f = absurd f
-  lead_long (h ∷ hs) [] f = absurd f
-  lead_long (h ∷ hs) (l ∷ ls) f = ap suc (lead_long hs ls f.1)
-
-  pub seen_long : (ls : List (List (OwnedNode X))) → length (seen ls) ≡ length ls
-  seen_long [] = refl
-  seen_long (l ∷ ls) = ap suc (seen_long ls)
-
   -- all that is known of line k, which h leads to
   pub record LineK (hs : List Address) (ls : List (List (OwnedNode X))) (k : ℕ) (h : Address) : Type 0 where
     pub front : List Address

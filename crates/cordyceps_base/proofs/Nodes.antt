@@ -83,16 +83,6 @@ module _ {X : Type 0} where
   length-drop-within (suc k) [] p = absurd (omega arith)
   length-drop-within (suc k) (n ∷ ns) p = let on = length-drop-within k ns (omega arith) in omega arith
 
-  pub length-take-upto : (k : ℕ) (ns : List (OwnedNode X)) → k ≤ length ns → k ≡ length (take k ns)
-  length-take-upto zero ns p = refl
-  length-take-upto (suc k) [] p = absurd (omega arith)
-  length-take-upto (suc k) (n ∷ ns) p = ap suc (length-take-upto k ns (omega arith))
-
-  pub length-drop-upto : (k : ℕ) (ns : List (OwnedNode X)) → k ≤ length ns → length ns - k ≡ length (drop k ns)
-  length-drop-upto zero ns p = omega arith
-  length-drop-upto (suc k) [] p = absurd (omega arith)
-  length-drop-upto (suc k) (n ∷ ns) p = let on = length-drop-upto k ns (omega arith) in omega arith
-
   pub length-set_value : (ns : List (OwnedNode X)) (k : ℕ) (w : Block X) → length (set_value ns k w) ≡ length ns
   length-set_value [] k w = refl
   length-set_value (n ∷ ns) zero w = refl

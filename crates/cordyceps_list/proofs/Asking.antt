@@ -55,9 +55,6 @@ module _ {F X : Type 0} (g : Mut F (Bor X × Unit {0}) Bool) where
   pub may_ask_all : (xs : List X) (f : F) → always_mut g f → MayAskAll g xs f
   may_ask_all xs f always = record { at = λ ys t q x u along calls step. λ shown shows. ((always_kept ys f q always calls).at ((shown, tt) ∷ [])).0 }
 
-  pub may_ask : (xs : List X) (f : F) → always_mut g f → MayAsk g xs f
-  may_ask xs f always = may_ask_some xs f (may_ask_all xs f always)
-
   all_left : (P : X → Type 0) (xs ys t : List X) → Yields list_steps xs ys t → All P xs → All P t
   all_left P xs [] t along all = subst (All P) along all
   all_left P [] (y ∷ ys) t (mid, step, along) all = absurd cc

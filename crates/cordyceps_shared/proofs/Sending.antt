@@ -21,16 +21,6 @@ module _ {A : Type 0} where
       let next = subst (λ k. Delivers lists k) h.1 d in
       (xs ∷ next.0, next.1, next.2, ap (λ k. xs ∷ k) next.3, delivers_more xs (next.0 ++ next.1 ∷ next.2) h.0 all next.4 h.2)
 
-  one_fewer : (before : List (List A)) (x : A) (left : List A) (after : List (List A)) → how_many (before ++ (x ∷ left) ∷ after) ≡ how_many (before ++ left ∷ after) + 1
-  one_fewer [] x left after = omega arith
-  one_fewer (xs ∷ before) x left after = let rest = one_fewer before x left after in omega (arith, rest)
-
-  -- as many items come in as the senders had
-  pub delivered_length : (lists : List (List A)) (all : List A) → Delivers lists all → length all ≡ how_many lists
-  delivered_length lists [] none = sym none
-  delivered_length lists (x ∷ all) (before, left, after, is, d) =
-      omega (arith, delivered_length (before ++ left ∷ after) all d, ap how_many is, one_fewer before x left after)
-
   no_items : {B : Type 0} (f : B → List A) (lists : List B) → length lists ≡ 0 → Delivers (map f lists) []
   no_items f [] none = refl
   no_items f (x ∷ xs) none = absurd (omega arith)
