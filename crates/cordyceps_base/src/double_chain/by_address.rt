@@ -38,7 +38,8 @@ impl<T> DoubleChain<T> {
         }
     }
 
-    /// Changes nothing. Its contract states that the addresses of the nodes are distinct.
+    /// Does nothing when the program runs, and the chain stays as it is. Its contract states that the addresses of the
+    /// nodes are distinct. It borrows the chain mutably, since the proof needs the nodes to be owned.
     pub fn keep_distinct(&mut self)
         ensures { (self.new ≡ self.old) × AreDistinct (spots self.new) }
     {
