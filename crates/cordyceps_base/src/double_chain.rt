@@ -432,47 +432,34 @@ impl<T: Drop> DoubleChain<T> {
     }
 
     /// Inserts a node before node `k`, which is at `at` and not the first.
-    fn with_inner(self, at: Address, k: usize, node: Node<T, Links<T>>) -> DoubleChain<T>
+    fn link_inner(&mut self, at: Address, k: usize, node: Node<T, Links<T>>)
         requires inner { 0 < k }
-        requires on { IsAt self k at }
-        requires fits { length self + 1 < 2 ^ 64 }
-        ensures { (address : Ptr) × (result ≡ take k self ++ (address, node) ∷ drop k self) }
+        requires on { IsAt self.old k at }
+        requires fits { length self.old + 1 < 2 ^ 64 }
+        ensures { (address : Ptr) × (self.new ≡ take k self.old ++ (address, node) ∷ drop k self.old) }
     {
-        let DoubleChain {
-            head,
-            tail,
-            len,
-            boxes,
-        } = self;
-        DoubleChain {
-            head,
-            tail,
-            len: len + 1,
-            boxes: put_in(boxes, at, k, node).null_comparable(),
-        }
+        let len = self.len;
+        let row = mem::replace(&mut self.boxes, Boxes::empty());
+        let whole = put_in(row, at, k, node).null_comparable();
+        let empty = mem::replace(&mut self.boxes, whole);
+        empty.discard();
+        self.len = len + 1;
     }
 
     /// Removes node `k`, which is at `at` and has a neighbour on either side.
-    fn without_inner(self, at: Address, k: usize) -> (Node<T, Links<T>>, DoubleChain<T>)
-        requires inner { (0 < k) × (k + 1 < length self) }
-        requires on { IsAt self k at }
-        ensures node { slice_get self k ≡ Some (at.ptr, result.0) }
-        ensures others { result.1 ≡ take k self ++ drop (k + 1) self }
+    fn unlink_inner(&mut self, at: Address, k: usize) -> Node<T, Links<T>>
+        requires inner { (0 < k) × (k + 1 < length self.old) }
+        requires on { IsAt self.old k at }
+        ensures node { slice_get self.old k ≡ Some (at.ptr, result) }
+        ensures others { self.new ≡ take k self.old ++ drop (k + 1) self.old }
     {
-        let DoubleChain {
-            head,
-            tail,
-            len,
-            boxes,
-        } = self;
-        let (node, others) = cut_out(boxes, at, k);
-        let left = DoubleChain {
-            head,
-            tail,
-            len: len - 1,
-            boxes: others.null_comparable(),
-        };
-        (node, left)
+        let len = self.len;
+        let row = mem::replace(&mut self.boxes, Boxes::empty());
+        let (node, others) = cut_out(row, at, k);
+        let empty = mem::replace(&mut self.boxes, others.null_comparable());
+        empty.discard();
+        self.len = len - 1;
+        node
     }
 
     /// Removes the first of several nodes.
@@ -570,8 +557,7 @@ impl<T: Drop> DoubleChain<T> {
             self.link_back(node);
             return;
         }
-        let nodes = self.take().with_inner(at, k, node);
-        self.put(nodes);
+        self.link_inner(at, k, node);
     }
 
     /// Removes node `k`, which is at `at`, and returns it.
@@ -586,8 +572,6 @@ impl<T: Drop> DoubleChain<T> {
         if k == self.len - 1 {
             return self.unlink_back();
         }
-        let (node, others) = self.take().without_inner(at, k);
-        self.put(others);
-        node
+        self.unlink_inner(at, k)
     }
 }

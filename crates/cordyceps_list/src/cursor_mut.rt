@@ -330,7 +330,7 @@ impl<'a, T: Linked<Links<T>>> CursorMut<'a, T> {
             → Stands self.old self.new (T.element handle ∷ elements self.old) (length (elements self.old) + 1) }
     {
         if self.index < self.list.len() {
-            self.list.insert_at(self.index + 1, handle);
+            self.list.insert_after(self.index, handle);
         } else {
             self.list.insert_at(0, handle);
             self.index += 1;

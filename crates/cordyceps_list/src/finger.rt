@@ -207,6 +207,17 @@ impl Fingers {
         }
     }
 
+    /// Takes the back finger off every chain of at most `len` nodes, by one write at most. Only the contract needs
+    /// `len`.
+    pub(crate) fn take_back_off(&mut self, len: usize)
+        ensures front { self.new.front ≡ self.old.front }
+        ensures back { len ≤ self.new.back.index }
+    {
+        if self.back.index != usize::MAX {
+            self.back.index = usize::MAX;
+        }
+    }
+
     /// Puts the front finger on a node, and takes the back one off every chain of at most `len` nodes. Only the
     /// contract needs `len`.
     pub(crate) fn stand(&mut self, address: Address, index: usize, len: usize)
@@ -286,11 +297,29 @@ impl Fingers {
         requires { FingersFit chain.now self.old }
         ensures fit { FingersFit chain.now self.new }
         ensures on { to < length chain.now → IsAt chain.now to result }
+        ensures front { to < length chain.now → self.new.front.index < length chain.now }
     {
         if to < chain.len() {
             self.seek(chain, to)
         } else {
             Address::null()
         }
+    }
+
+    /// Returns the address of a node as `seek_within` does, and puts the front finger on it. It is inlined, so that an
+    /// edit at the front finger has no call.
+    #[inline(always)]
+    pub(crate) fn stand_within<T>(&mut self, chain: &DoubleChain<T>, to: usize) -> Address
+        requires { FingersFit chain.now self.old }
+        ensures fit { FingersFit chain.now self.new }
+        ensures index { self.new.front.index ≡ to }
+        ensures address { self.new.front.address ≡ result }
+        ensures on { to < length chain.now → IsAt chain.now to result }
+    {
+        if self.front.index != to {
+            let address = self.seek_within(chain, to);
+            self.front = Finger { address, index: to };
+        }
+        self.front.address
     }
 }

@@ -507,10 +507,12 @@ impl<T: Linked<Links<T>>> List<T> {
         ensures value { slice_get self.old index ≡ Some (T.element result) }
         ensures kept { self.new ≡ take index self.old ++ drop (index + 1) self.old }
     {
-        let address = self.fingers.seek(&self.chain, index);
+        let address = self.fingers.stand_within(&self.chain, index);
         let next = self.chain.next(address, index);
-        self.fingers.stand(next, index, self.chain.len());
-        T::from_ptr(self.chain.unlink(address, index))
+        let node = self.chain.unlink(address, index);
+        self.fingers.front.address = next;
+        self.fingers.take_back_off(self.chain.len());
+        T::from_ptr(node)
     }
 
     /// Removes the element at an index and returns it, or `None` if the index is not below the length.
@@ -562,12 +564,23 @@ impl<T: Linked<Links<T>>> List<T> {
         requires fits { length self.old < usize.MAX }
         ensures { self.new ≡ take index self.old ++ T.element handle ∷ drop index self.old }
     {
-        if index == self.chain.len() {
-            return self.push_back(handle);
-        }
-        let address = self.fingers.seek(&self.chain, index);
-        self.fingers.stand(address, index + 1, self.chain.len() + 1);
+        let address = self.fingers.stand_within(&self.chain, index);
         self.chain.link(address, index, T::into_ptr(handle));
+        self.fingers.front.index = index + 1;
+        self.fingers.take_back_off(self.chain.len());
+    }
+
+    /// Inserts an element after the one at an index, on which the front finger stays. Requires a length below
+    /// `usize::MAX`.
+    pub(crate) fn insert_after(&mut self, index: usize, handle: T::Handle)
+        requires inside { index < length self.old }
+        requires fits { length self.old < usize.MAX }
+        ensures { self.new ≡ take (index + 1) self.old ++ T.element handle ∷ drop (index + 1) self.old }
+    {
+        let address = self.fingers.stand_within(&self.chain, index);
+        let next = self.chain.next(address, index);
+        self.chain.link(next, index + 1, T::into_ptr(handle));
+        self.fingers.take_back_off(self.chain.len());
     }
 
     /// Moves a finger to a place, so that calls near it are O(1).

@@ -2,7 +2,6 @@ use Rattle.std.proofs.Common.{◌∷◌, [], ◌++◌, ap, ◌∙◌, sym, subst
 use denote.RawPtr.{null_ptr}
 use Rattle.cordyceps_base.specs.Boxes.{box_addresses}
 use Rattle.cordyceps_base.specs.DoubleChain.{Segment}
-use Rattle.cordyceps_base.specs.Nodes.{nodes_of}
 use Rattle.cordyceps_base.proofs.DoubleChain.{with_next, with_prev, linked_one, segment_join}
 use Rattle.cordyceps_base.proofs.Nodes.{box_addresses-set}
 use Rattle.cordyceps_base.proofs.double_row.between.Goals as goal

@@ -1,4 +1,4 @@
-use Rattle.std.proofs.Common.{rules, arith, ◌∷◌, ◌++◌, take, drop, ap, ◌∙◌}
+use Rattle.std.proofs.Common.{rules, arith}
 use Rattle.std.proofs.lemmas.Grind.{common_steps}
 use Rattle.cordyceps_base.proofs.double_chain.DoubleChain.link.Goals as goal
 
@@ -9,6 +9,4 @@ pub returns-then-k-self : goal.returns-then-k-self
 returns-then-k-self g c = (c.link_back.result.ptr, grind (arith, common_steps))
 
 pub returns : goal.returns
-returns g c =
-    let (address, is) = c.with_inner-nodes.ensures in
-    (address, c.put.ensures ∙ is ∙ ap (λ s. take c.args.k s ++ (address, c.args.node) ∷ drop c.args.k s) c.take.ensures.0)
+returns g c = c.link_inner.ensures

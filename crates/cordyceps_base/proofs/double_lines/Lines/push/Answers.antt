@@ -1,8 +1,7 @@
-use Rattle.std.proofs.Common.{ℕ, [], ◌+◌, ◌<◌, ◌++◌, arith, sym, ap, ◌∙◌, subst}
+use Rattle.std.proofs.Common.{ℕ, [], ◌+◌, ◌<◌, ◌++◌, arith, sym, ◌∙◌, subst}
 use Rattle.std.proofs.lemmas.List.{append-nil}
 use Rattle.cordyceps_base.specs.Boxes.{box_addresses}
 use Rattle.cordyceps_base.specs.DoubleChain.{Segment}
-use Rattle.cordyceps_base.specs.Nodes.{nodes_of}
 use Rattle.cordyceps_base.specs.Spots.{AreDistinct, AreNullComparable}
 use Rattle.cordyceps_base.proofs.LineTables.{table_count, table_with, table_with_shown}
 use Rattle.cordyceps_base.proofs.double_lines.Lines.push.Goals as goal
