@@ -443,7 +443,8 @@ impl<T: Drop> DoubleChain<T> {
         let whole = put_in(row, at, k, node).null_comparable();
         let empty = mem::replace(&mut self.boxes, whole);
         empty.discard();
-        self.len = len + 1;
+        let count = &mut self.len;
+        *count = len + 1;
     }
 
     /// Removes node `k`, which is at `at` and has a neighbour on either side.
@@ -458,7 +459,8 @@ impl<T: Drop> DoubleChain<T> {
         let (node, others) = cut_out(row, at, k);
         let empty = mem::replace(&mut self.boxes, others.null_comparable());
         empty.discard();
-        self.len = len - 1;
+        let count = &mut self.len;
+        *count = len - 1;
         node
     }
 
