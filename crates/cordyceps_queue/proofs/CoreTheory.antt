@@ -23,5 +23,6 @@ pub mod RoomsAtStages
 pub mod Simulation
 pub mod SpareMoves
 pub mod SplitParties
+pub mod StepLeaves
 pub mod StubSteps
 pub mod TryGoesOn

@@ -1,14 +1,13 @@
 -- A party and a room more.
-use Rattle.std.proofs.Common.{◌≡◌, ℕ, List, [], Option, Some, None, refl, sym, ap, ◌∙◌, inl, inr, arith}
-use native.Mathlib.Decide.{ℕ_discrete}
+use Rattle.std.proofs.Common.{◌≡◌, ℕ, suc, List, [], Option, Some, None, refl, sym, ap, ◌∙◌, inl, inr, arith}
 use Rattle.cordyceps_queue.specs.History.{Event}
-use Rattle.cordyceps_queue.specs.declared.cores.stage.Stage.{Stage}
-use Rattle.cordyceps_queue.specs.declared.cores.stage.Stage.TheVariants.{Rest, Cleared, Swapped, Holding, StubNull, Second, Null, PutClear, PutSwap, PutLink, PutRead}
+use Rattle.cordyceps_queue.specs.declared.cores.stage.Stage.TheVariants.{Rest}
 use Rattle.cordyceps_queue.specs.Cores.Abstract.{AbstractParty, AbstractMachine, update, insert_room, add_party, add_room}
-use Rattle.cordyceps_queue.specs.Cores.Meets.{Owner, Shared, Spare, Ready, Unmade, tail_of, Chain, OwnsRooms, Joined, IsStranger, AtStage, RightIs, Meets}
+use Rattle.cordyceps_queue.specs.Cores.Meets.{Owner, Shared, Spare, Ready, Unmade, Chain, OwnsRooms, Joined, IsStranger, AtStage, RightIs, Meets}
 use Rattle.cordyceps_queue.specs.Cores.StepKeeps.{AddsKeep}
-use Rattle.cordyceps_queue.proofs.CoreTheory.Basics.{ready_with, some_inj, none_some, put_same, put_other, put_all}
-use Rattle.cordyceps_queue.proofs.CoreTheory.OtherParties.{taken_with, joined_put, names_put, strange}
+use Rattle.cordyceps_queue.proofs.CoreTheory.Basics.{none_some, put_same, put_other, put_all}
+use Rattle.cordyceps_queue.proofs.CoreTheory.OtherParties.{fits_dealt, goes_dealt, taken_with}
+use Rattle.cordyceps_queue.proofs.CoreTheory.StepLeaves.{chain_dealt, joined_still, moves_on, right_kept, rooms_on}
 use Rattle.cordyceps_queue.proofs.CoreTheory.ProducerSteps.{spare_unmade, ready_unmade, shared_unmade}
 use Rattle.cordyceps_queue.proofs.CoreTheory.ChainShrinks.{room_was, room_once}
 
@@ -23,9 +22,9 @@ module _ {P E : Type 0} (m : AbstractMachine P E) (c : Chain) (h : List (Event P
     still : (j : ℕ) (p : AbstractParty P) → m.party j ≡ Some p → parties j ≡ Some p
     still j p e = put_other m.party k (Some added_party) j (λ s. none_some (sym absent ∙ ap m.party (sym s) ∙ e)) ∙ e
 
-    joined_still : (a b : ℕ) → Joined m.next m.party a b → Joined m.next parties a b
-    joined_still a b (inl l) = inl l
-    joined_still a b (inr o) =
+    joined_yet : (a b : ℕ) → Joined m.next m.party a b → Joined m.next parties a b
+    joined_yet a b (inl l) = inl l
+    joined_yet a b (inr o) =
         let d = o.1 in
         inr (o.0, record { by = d.by; who = d.who; there = still d.by d.who d.there; owes = d.owes })
 
@@ -38,7 +37,7 @@ module _ {P E : Type 0} (m : AbstractMachine P E) (c : Chain) (h : List (Event P
       legal = M.legal;
       last = M.last;
       ends = M.ends;
-      joined = λ i a b ia ib. joined_still a b (M.joined i a b ia ib);
+      joined = λ i a b ia ib. joined_yet a b (M.joined i a b ia ib);
       once = M.once;
       shared = M.shared;
       stub = M.stub;
@@ -61,28 +60,14 @@ module _ {P E : Type 0} (m : AbstractMachine P E) (c : Chain) (h : List (Event P
     abbrev owner' : ℕ → Owner
     owner' = update c.owner new_room (Spare k)
 
-    abbrev roomier : AbstractParty P
-    roomier = record p { spare = insert_room new_room p.spare }
-
     is_new : c.owner new_room ≡ Unmade
     is_new = M.unmade new_room (omega arith)
 
     kept_owner : (x : ℕ) (o : Owner) → c.owner x ≡ o → (o ≡ Unmade → ⊥) → owner' x ≡ o
     kept_owner x o e ne = put_other c.owner new_room (Spare k) x (λ s. ne (sym e ∙ ap c.owner s ∙ is_new)) ∙ e
 
-    fits_still : (j : ℕ) (q : P) (stage : Stage) → AtStage m.head m.next m.cell c.owner c.keeper c.rooms h j q stage → AtStage m.head m.next m.cell owner' c.keeper c.rooms h j q stage
-    fits_still j q Rest f = f
-    fits_still j q (Cleared x) f = ready_with f f.settled (kept_owner x (Ready j) f.ready (λ e. ready_unmade refl e))
-        f.null f.full
-    fits_still j q (Swapped x old) f = f
-    fits_still j q (Holding t) f = f
-    fits_still j q StubNull f = f
-    fits_still j q (Second t) f = f
-    fits_still j q (Null t) f = f
-    fits_still j q (PutClear t) f = f
-    fits_still j q (PutSwap t) f = f
-    fits_still j q (PutLink t old) f = f
-    fits_still j q (PutRead t) f = f
+    still_ready : (j x : ℕ) → c.owner x ≡ Ready j → owner' x ≡ Ready j
+    still_ready j x e = kept_owner x (Ready j) e (λ e. ready_unmade refl e)
 
     rooms_still : (j : ℕ) (s : List ℕ) → OwnsRooms c.owner j s → OwnsRooms owner' j s
     rooms_still j s R = record { own = λ i x ix. kept_owner x (Spare j) (R.own i x ix) (λ e. spare_unmade refl e); once = R.once }
@@ -96,37 +81,19 @@ module _ {P E : Type 0} (m : AbstractMachine P E) (c : Chain) (h : List (Event P
       once = room_once new_room p.spare (λ i a. spare_unmade (R.own i new_room a) is_new) R.once;
     }
 
-    right_kept : (keeper : Option ℕ) → RightIs m.right m.party c.rooms h keeper → RightIs m.right (update m.party k (Some roomier)) c.rooms h keeper
-    right_kept None R = R
-    right_kept (Some j) R = elim (ℕ_discrete j k) [
-      | yes same ↦
-          let e : R.by ≡ p = some_inj (sym R.there ∙ ap m.party same ∙ at) in record {
-            zero_is = R.zero_is;
-            by = roomier;
-            tail = R.tail;
-            there = ap (update m.party k (Some roomier)) same ∙ put_same m.party k (Some roomier);
-            has = ap (λ (q : AbstractParty P). tail_of q.stage) (sym e) ∙ R.has;
-            held = R.held ∙ ap (λ (q : AbstractParty P). Some q.name) e;
-          }
-      | no ne ↦ taken_with R (put_other m.party k (Some roomier) j ne ∙ R.there) R.held
-    ]
-
     room_keeps : Meets (add_room m k p) (record c { owner = owner' }) h
-    room_keeps = record {
+    room_keeps = moves_on m c h M k p at p.stage (insert_room new_room p.spare) (add_room m k p) (record c { owner = owner' }) h record {
       legal = M.legal;
-      last = M.last;
+      chain = chain_dealt m c h M (suc m.count) owner' (λ x e. kept_owner x Shared e (λ e. shared_unmade refl e))
+          (λ x lt. put_other c.owner new_room (Spare k) x (λ s. absurd (omega arith)) ∙ M.unmade x (omega arith));
       ends = M.ends;
-      joined = λ i a b ia ib. joined_put m.party k p roomier at m.next a b (λ o. o) (M.joined i a b ia ib);
-      once = M.once;
-      shared = λ i x ix. kept_owner x Shared (M.shared i x ix) (λ e. shared_unmade refl e);
-      stub = kept_owner 0 Shared M.stub (λ e. shared_unmade refl e);
-      unmade = λ x lt. put_other c.owner new_room (Spare k) x (λ s. absurd (omega arith)) ∙ M.unmade x (omega arith);
+      joined = joined_still m c h M k p at p.stage (insert_room new_room p.spare) (λ a b o. o);
       holds = M.holds;
-      right = right_kept c.keeper M.right;
-      fits = put_all (λ j q. AtStage m.head m.next m.cell owner' c.keeper c.rooms h j q.name q.stage) m.party k roomier (λ j q ne eq. fits_still j q.name q.stage (M.fits j q eq)) (fits_still k p.name p.stage (M.fits k p at));
-      rooms = put_all (λ j q. OwnsRooms owner' j q.spare) m.party k roomier (λ j q ne eq. rooms_still j q.spare (M.rooms j q eq)) (rooms_grow (M.rooms k p at));
-      names = names_put m.party k p roomier at refl M.names;
-      strangers = λ n away. M.strangers n (strange m.party k p roomier at refl n away);
+      right = right_kept m c h M k p at p.stage (insert_room new_room p.spare) refl;
+      goes = λ j q _ _. goes_dealt (still_ready j);
+      mine = fits_dealt m c h owner' k p.name (still_ready k) p.stage (M.fits k p at);
+      rooms = rooms_on m c h M k p at p.stage (insert_room new_room p.spare) owner' (λ j free _. rooms_still j free) (rooms_grow (M.rooms k p at));
+      strangers = λ n _ s. s;
     }
 
 pub adds_keep : (P E : Type 0) → AddsKeep P E

@@ -1,5 +1,6 @@
 -- Lists by place, functions changed at one number, and what histories say of places.
 use Rattle.std.proofs.Common.{◌≡◌, ℕ, zero, suc, ◌<◌, ◌≤◌, ◌≢◌, ◌⊎◌, cond, List, [], ◌∷◌, ◌++◌, map, drop, length, Option, Some, None, refl, sym, ap, ◌∙◌, subst, inl, inr, arith, length-append, ne_eqb, eq-eqb, eqb}
+use mathlib.Core.Path.{fun_ext}
 use native.Mathlib.Decide.{ℕ_discrete}
 use Rattle.cordyceps_shared.specs.Counts.{times, one_if}
 use Rattle.cordyceps_shared.proofs.Counting.{one_here, one_else}
@@ -41,6 +42,12 @@ put_same f k v = ap (λ b. cond b v (f k)) (eq-eqb k k refl)
 
 pub put_other : {A : Type 0} (f : ℕ → A) (k : ℕ) (v : A) (j : ℕ) → j ≢ k → update f k v j ≡ f j
 put_other f k v j ne = ap (λ b. cond b v (f j)) (ne_eqb j k ne)
+
+pub put_again : {A : Type 0} (f : ℕ → Option A) (k : ℕ) (v : A) → f k ≡ Some v → update f k (Some v) ≡ f
+put_again f k v e = fun_ext (λ j. elim (ℕ_discrete j k) [
+  | yes same ↦ subst (λ i. update f k (Some v) i ≡ f i) (sym same) (put_same f k (Some v) ∙ sym e)
+  | no ne ↦ put_other f k (Some v) j ne
+])
 
 -- what holds of each value stays so when one is changed
 pub put_all : {A : Type 0} (F : ℕ → A → Type 0) (f : ℕ → Option A) (k : ℕ) (v : A) → ((j : ℕ) (a : A) → j ≢ k → f j ≡ Some a → F j a) → F k v → (j : ℕ) (a : A) → update f k (Some v) j ≡ Some a → F j a

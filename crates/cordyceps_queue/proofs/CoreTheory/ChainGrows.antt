@@ -1,12 +1,12 @@
 -- A room comes to the end of the chain.
 use Rattle.std.proofs.Common.{◌≡◌, ℕ, zero, suc, ◌<◌, ◌≤◌, ◌≢◌, List, [], ◌∷◌, ◌++◌, length, Option, Some, None, refl, sym, ap, ◌∙◌, subst, inl, inr, arith, length-append}
 use Rattle.cordyceps_queue.specs.History.{Event}
-use Rattle.cordyceps_queue.specs.Past.{held_reversed, holder_reversed}
+use Rattle.cordyceps_queue.specs.Past.{held_reversed, holder_reversed, IsPendingAt}
 use Rattle.cordyceps_queue.specs.Cores.Abstract.{update, AbstractParty, AbstractMachine}
 use Rattle.cordyceps_shared.specs.Places.{ItemAt}
-use Rattle.cordyceps_queue.specs.Cores.Meets.{EndsAt, real, Owes, Chain, Joined, RightIs, Meets}
+use Rattle.cordyceps_queue.specs.Cores.Meets.{EndsAt, real, rank, Owes, Chain, Joined, HasOpen, RightIs, Meets}
 use Rattle.cordyceps_shared.proofs.Places.{at_end}
-use Rattle.cordyceps_queue.proofs.CoreTheory.Basics.{put_same, at_one, at_within, at_more, at_split, length_map}
+use Rattle.cordyceps_queue.proofs.CoreTheory.Basics.{put_same, at_one, at_within, at_more, at_split, length_map, rank_more}
 use Rattle.cordyceps_queue.proofs.CoreTheory.OtherParties.{joined_put, taken_with}
 
 pub real_one : (r : ℕ) → r ≢ 0 → real (r ∷ []) ≡ r ∷ []
@@ -33,6 +33,19 @@ pub right_same : {P E : Type 0} (right : ℕ) (party : ℕ → Option (AbstractP
 right_same right party rooms h x None same R =
     record { unheld = same ∙ R.unheld; tail = R.tail; right_is = R.right_is; tail_at = R.tail_at }
 right_same right party rooms h x (Some k) same R = taken_with R R.there (same ∙ R.held)
+
+-- a party that is yet to link its room
+pub open_more : {P E : Type 0} {next : ℕ → Option ℕ} {h h' : List (Event P E)} {name : P} {x old : ℕ} (rooms : List ℕ) (r : ℕ) (f : HasOpen next rooms h name x old) → IsPendingAt name (rank rooms (suc f.at)) h' → HasOpen next (rooms ++ r ∷ []) h' name x old
+open_more {P} {E} {next} {h} {h'} {name} {x} {old} rooms r f pending =
+    let within = at_within rooms (suc f.at) x f.room_at in
+    let ranks = rank_more rooms (r ∷ []) (suc f.at) (omega arith) in record {
+      at = f.at;
+      old_at = at_more rooms (r ∷ []) f.at old f.old_at;
+      room_at = at_more rooms (r ∷ []) (suc f.at) x f.room_at;
+      is_real = f.is_real;
+      null = f.null;
+      pending = subst (λ n. IsPendingAt name n h') (sym ranks) pending;
+    }
 
 module _ {P E : Type 0} (m : AbstractMachine P E) (c : Chain) (h : List (Event P E)) (M : Meets m c h) where
   pub held_length : length (real c.rooms) ≡ length (held_reversed h)
@@ -62,7 +75,7 @@ module _ {P E : Type 0} (m : AbstractMachine P E) (c : Chain) (h : List (Event P
     pub joined_more : ((a b : ℕ) → Owes p.stage a b → Owes q.stage a b) → Owes q.stage m.head r → (i a b : ℕ) → ItemAt (c.rooms ++ r ∷ []) i a → ItemAt (c.rooms ++ r ∷ []) (suc i) b → Joined m.next (update m.party k (Some q)) a b
     joined_more on owes i a b ia ib = elim (at_split c.rooms r (suc i) b ib) [
       | inl jb ↦ elim (at_split c.rooms r i a ia) [
-        | inl ja ↦ joined_put m.party k p q at m.next a b (on a b) (M.joined i a b ja jb)
+        | inl ja ↦ joined_put m.party k p q at m.next m.next a b refl (on a b) (M.joined i a b ja jb)
         | inr ja ↦ let l = at_within c.rooms (suc i) b jb in absurd (omega (arith, ja.0))
       ]
       | inr jb ↦ elim (at_split c.rooms r i a ia) [

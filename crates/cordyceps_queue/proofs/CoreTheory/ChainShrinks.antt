@@ -1,13 +1,12 @@
 -- The tail goes on by one room.
-use Rattle.std.proofs.Common.{◌≡◌, ℕ, zero, suc, ◌≢◌, ◌⊎◌, Bool, true, false, cond, ltb, List, [], ◌∷◌, map, drop, length, Option, Some, None, refl, sym, ap, ◌∙◌, subst, inl, inr, arith}
+use Rattle.std.proofs.Common.{◌≡◌, ℕ, zero, suc, ◌≢◌, ◌⊎◌, Bool, true, false, cond, ltb, List, [], ◌∷◌, map, drop, length, Option, Some, refl, sym, ap, ◌∙◌, subst, inl, inr, arith}
 use Rattle.cordyceps_queue.specs.History.{Event}
 use Rattle.cordyceps_queue.specs.Past.{held_reversed, IsSettled, IsPendingAt}
-use Rattle.cordyceps_queue.specs.declared.cores.stage.Stage.{Stage}
-use Rattle.cordyceps_queue.specs.declared.cores.stage.Stage.TheVariants.{Rest, Cleared, Swapped}
 use Rattle.cordyceps_queue.specs.Cores.Abstract.{insert_room, AbstractMachine}
 use Rattle.cordyceps_shared.specs.Places.{ItemAt}
-use Rattle.cordyceps_queue.specs.Cores.Meets.{EndsAt, real, rank, Owner, Ready, tail_of, Chain, Joined, AtStage, Meets}
+use Rattle.cordyceps_queue.specs.Cores.Meets.{EndsAt, real, rank, Owner, Ready, HasOpen, Chain, Joined, Meets}
 use Rattle.cordyceps_queue.proofs.CoreTheory.Basics.{ready_with, some_inj, some_none, zero_suc, suc_inj, at_one}
+use Rattle.cordyceps_queue.proofs.CoreTheory.OtherParties.{Goes}
 use Rattle.cordyceps_queue.proofs.CoreTheory.HolderSteps.{at_some}
 
 pub at_down : {A : Type 0} (xs : List A) (i : ℕ) (a : A) → ItemAt (drop 1 xs) i a → ItemAt xs (suc i) a
@@ -134,17 +133,11 @@ module _ {P E : Type 0} (m : AbstractMachine P E) (c : Chain) (h : List (Event P
   pub tail_away : (i : ℕ) → ItemAt (drop 1 c.rooms) i t → ⊥
   tail_away i a = zero_suc (M.once 0 (suc i) t first (at_down c.rooms i t a))
 
-  -- a party without the right, where the tail goes on
-  pub producer_drops : (cell' : ℕ → Option E) (owner' : ℕ → Owner) (keeper keeper' : Option ℕ) (h' : List (Event P E)) (j : ℕ) (q : P) →
-      ((x : ℕ) (e : E) → c.owner x ≡ Ready j → m.cell x ≡ Some e → cell' x ≡ Some e) → ((x : ℕ) → c.owner x ≡ Ready j → owner' x ≡ Ready j) → (IsSettled q h → IsSettled q h') → ((i : ℕ) → IsPendingAt q (rank c.rooms (suc i)) h → IsPendingAt q (rank (drop 1 c.rooms) i) h') →
-      (stage : Stage) → tail_of stage ≡ None → AtStage m.head m.next m.cell c.owner keeper c.rooms h j q stage → AtStage m.head m.next cell' owner' keeper' (drop 1 c.rooms) h' j q stage
-  producer_drops cell' owner' keeper keeper' h' j q stays ready settled pending Rest e f = settled f
-  producer_drops cell' owner' keeper keeper' h' j q stays ready settled pending (Cleared x) e f =
-      ready_with f (settled f.settled) (ready x f.ready) f.null (stays x f.element f.ready f.full)
-  producer_drops cell' owner' keeper keeper' h' j q stays ready settled pending
-      (Swapped x old) e f = from f.at f.old_at f.room_at f.pending
+  -- a party that is yet to link its room, where the tail goes on
+  opened_drops : (h' : List (Event P E)) (q : P) (x old : ℕ) → ((i : ℕ) → IsPendingAt q (rank c.rooms (suc i)) h → IsPendingAt q (rank (drop 1 c.rooms) i) h') → HasOpen m.next c.rooms h q x old → HasOpen m.next (drop 1 c.rooms) h' q x old
+  opened_drops h' q x old pending f = from f.at f.old_at f.room_at f.pending
     where
-      from : (i : ℕ) → ItemAt c.rooms i old → ItemAt c.rooms (suc i) x → IsPendingAt q (rank c.rooms (suc i)) h → AtStage m.head m.next cell' owner' keeper' (drop 1 c.rooms) h' j q (Swapped x old)
+      from : (i : ℕ) → ItemAt c.rooms i old → ItemAt c.rooms (suc i) x → IsPendingAt q (rank c.rooms (suc i)) h → HasOpen m.next (drop 1 c.rooms) h' q x old
       from zero a b w = absurd (some_none (sym linked ∙ ap m.next (at_one c.rooms 0 t old first a) ∙ f.null))
       from (suc i) a b w = record {
         at = i;
@@ -154,7 +147,17 @@ module _ {P E : Type 0} (m : AbstractMachine P E) (c : Chain) (h : List (Event P
         null = f.null;
         pending = pending (suc i) w;
       }
-  producer_drops cell' owner' keeper keeper' h' j q stays ready settled pending stage e f = absurd (some_none e)
+
+  -- a party without the right
+  pub goes_drops : (cell' : ℕ → Option E) (owner' : ℕ → Owner) (h' : List (Event P E)) (j : ℕ) (q : P) →
+      ((x : ℕ) (e : E) → c.owner x ≡ Ready j → m.cell x ≡ Some e → cell' x ≡ Some e) → ((x : ℕ) → c.owner x ≡ Ready j → owner' x ≡ Ready j) → (IsSettled q h → IsSettled q h') → ((i : ℕ) → IsPendingAt q (rank c.rooms (suc i)) h → IsPendingAt q (rank (drop 1 c.rooms) i) h') →
+      (c.keeper ≡ Some j → ⊥) → Goes m.head m.head m.next m.next m.cell cell' c.owner owner' c.keeper c.keeper c.rooms (drop 1 c.rooms) h h' j q
+  goes_drops cell' owner' h' j q stays ready settled pending not = record {
+    settled = settled;
+    ready = λ x f. ready_with f (settled f.settled) (ready x f.ready) f.null (stays x f.element f.ready f.full);
+    opened = λ x old f. opened_drops h' q x old pending f;
+    right = λ is. absurd (not is);
+  }
 
 -- the tail's element is the oldest that is held
 pub tail_full : {P E : Type 0} (m : AbstractMachine P E) (c : Chain) (h : List (Event P E)) (M : Meets m c h) (t : ℕ) → t ≢ 0 → ItemAt c.rooms 0 t → (e : E) × (rest : List E) × (held_reversed h ≡ e ∷ rest) × (m.cell t ≡ Some e) × (map m.cell (real (drop 1 c.rooms)) ≡ map Some rest)

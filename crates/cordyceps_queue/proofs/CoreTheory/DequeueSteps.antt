@@ -6,11 +6,12 @@ use Rattle.cordyceps_queue.specs.declared.cores.stage.Stage.TheVariants.{Rest, H
 use Rattle.cordyceps_queue.specs.Cores.Abstract.{update, insert_room, AbstractParty, AbstractMachine, set_stage, set_right, hand_out}
 use Rattle.cordyceps_shared.specs.Places.{ItemAt}
 use Rattle.cordyceps_queue.specs.Cores.Meets.{real, Owner, Shared, Spare, Ready, Unmade, Owes, tail_of, Chain, OwnsRooms, Keeps, AtStage, RightIs, Meets}
-use Rattle.cordyceps_queue.proofs.CoreTheory.Basics.{some_inj, none_some, suc_zero, zero_suc, suc_inj, put_same, put_other, put_all, map_put}
-use Rattle.cordyceps_queue.proofs.CoreTheory.OtherParties.{joined_put, names_put, strange, has_none}
+use Rattle.cordyceps_queue.proofs.CoreTheory.Basics.{some_inj, none_some, suc_zero, zero_suc, suc_inj, put_same, put_other, map_put}
+use Rattle.cordyceps_queue.proofs.CoreTheory.OtherParties.{goes_without}
+use Rattle.cordyceps_queue.proofs.CoreTheory.StepLeaves.{chain_of, joined_still, moves_on, rooms_on, rooms_still}
 use Rattle.cordyceps_queue.proofs.CoreTheory.ProducerSteps.{spare_shared, ready_shared, shared_unmade}
-use Rattle.cordyceps_queue.proofs.CoreTheory.HolderSteps.{producer_moves, keeping, other_none, right_with}
-use Rattle.cordyceps_queue.proofs.CoreTheory.ChainShrinks.{at_down, at_up, real_stub, real_first, rank_stub, rank_first, map_split, room_was, room_once, second, last_less, once_less, tail_away, producer_drops}
+use Rattle.cordyceps_queue.proofs.CoreTheory.HolderSteps.{keeping, not_keeper, right_with}
+use Rattle.cordyceps_queue.proofs.CoreTheory.ChainShrinks.{at_down, at_up, real_stub, real_first, rank_stub, rank_first, map_split, room_was, room_once, second, last_less, once_less, tail_away, goes_drops}
 
 pub free_right : {P E : Type 0} (right : ℕ) (party : ℕ → Option (AbstractParty P)) (rooms : List ℕ) (h : List (Event P E)) (keeper : Option ℕ) (t : ℕ) → right ≡ suc t → RightIs right party rooms h keeper → (keeper ≡ None) × (holder_reversed h ≡ None) × ItemAt rooms 0 t
 free_right right party rooms h None t e R =
@@ -23,9 +24,6 @@ module _ {P E : Type 0} (m : AbstractMachine P E) (c : Chain) (h : List (Event P
     abbrev pub chain_after_take : Chain
     chain_after_take = record c { keeper = Some k }
 
-    abbrev taker : AbstractParty P
-    taker = record p { stage = Holding t }
-
     free : (c.keeper ≡ None) × (holder_reversed h ≡ None) × ItemAt c.rooms 0 t
     free = free_right m.right m.party c.rooms h c.keeper t right M.right
 
@@ -33,31 +31,24 @@ module _ {P E : Type 0} (m : AbstractMachine P E) (c : Chain) (h : List (Event P
     settled = subst (AtStage m.head m.next m.cell c.owner c.keeper c.rooms h k p.name) rest (M.fits k p at)
 
     pub take_keeps : Meets (set_right m k p 0 (Holding t)) chain_after_take (Event.Take p.name ∷ h)
-    take_keeps = record {
+    take_keeps = moves_on m c h M k p at (Holding t) p.spare (set_right m k p 0 (Holding t)) chain_after_take (Event.Take p.name ∷ h) record {
       legal = (free.1, M.legal);
-      last = M.last;
+      chain = chain_of m c h M;
       ends = M.ends;
-      joined = λ i a b ia ib. joined_put m.party k p taker at m.next a b (λ o. absurd (subst (λ l. Owes l a b) rest o)) (M.joined i a b ia ib);
-      once = M.once;
-      shared = M.shared;
-      stub = M.stub;
-      unmade = M.unmade;
+      joined = joined_still m c h M k p at (Holding t) p.spare (λ a b o. absurd (subst (λ l. Owes l a b) rest o));
       holds = M.holds;
       right = record {
         zero_is = refl;
-        by = taker;
+        by = record p { stage = Holding t };
         tail = t;
-        there = put_same m.party k (Some taker);
+        there = put_same m.party k (Some record p { stage = Holding t });
         has = refl;
         held = refl;
       };
-      fits = put_all (λ j q. AtStage m.head m.next m.cell c.owner (Some k) c.rooms (Event.Take p.name ∷ h) j q.name q.stage) m.party k taker
-          (λ j q ne eq. producer_moves m.head m.head m.next m.next m.cell c.owner c.keeper (Some k) c.rooms h (Event.Take p.name ∷ h) j q.name (λ a n. n) (λ s. s) (λ n w. w) q.stage
-          (has_none m.head m.next m.cell c.owner c.keeper c.rooms h j q.name q.stage (tail_of q.stage) refl (λ e. none_some (sym free.0 ∙ e)) (M.fits j q eq)) (M.fits j q eq))
-          (record { kept = refl; held_by = refl; tail = free.2; settled = settled });
-      rooms = put_all (λ j q. OwnsRooms c.owner j q.spare) m.party k taker (λ j q ne eq. M.rooms j q eq) (M.rooms k p at);
-      names = names_put m.party k p taker at refl M.names;
-      strangers = λ n away. M.strangers n (strange m.party k p taker at refl n away);
+      goes = λ j q _ _. goes_without (λ a n. n) (λ s. s) (λ n w. w) (λ is. none_some (sym free.0 ∙ is));
+      mine = record { kept = refl; held_by = refl; tail = free.2; settled = settled };
+      rooms = rooms_still m c h M k p at (Holding t) p.spare (M.rooms k p at);
+      strangers = λ n _ s. s;
     }
 
   -- Give
@@ -65,40 +56,27 @@ module _ {P E : Type 0} (m : AbstractMachine P E) (c : Chain) (h : List (Event P
     abbrev pub chain_after_give : Chain
     chain_after_give = record c { keeper = None }
 
-    abbrev giver : AbstractParty P
-    giver = record p { stage = Rest }
-
     keeps_right : Keeps c.keeper c.rooms h k p.name t
     keeps_right = keeping m c h M k p at t (ap tail_of holding)
 
     pub give_keeps : Meets (set_right m k p (suc t) Rest) chain_after_give (Event.Free p.name ∷ h)
-    give_keeps = record {
+    give_keeps = moves_on m c h M k p at Rest p.spare (set_right m k p (suc t) Rest) chain_after_give (Event.Free p.name ∷ h) record {
       legal = (keeps_right.held_by, M.legal);
-      last = M.last;
+      chain = chain_of m c h M;
       ends = M.ends;
-      joined = λ i a b ia ib. joined_put m.party k p giver at m.next a b (λ o. subst (λ l. Owes l a b) holding o) (M.joined i a b ia ib);
-      once = M.once;
-      shared = M.shared;
-      stub = M.stub;
-      unmade = M.unmade;
+      joined = joined_still m c h M k p at Rest p.spare (λ a b o. subst (λ l. Owes l a b) holding o);
       holds = M.holds;
       right = record { unheld = refl; tail = t; right_is = refl; tail_at = keeps_right.tail };
-      fits = put_all (λ j q. AtStage m.head m.next m.cell c.owner None c.rooms (Event.Free p.name ∷ h) j q.name q.stage) m.party k giver
-          (λ j q ne eq. producer_moves m.head m.head m.next m.next m.cell c.owner c.keeper None c.rooms h (Event.Free p.name ∷ h) j q.name (λ a n. n) (λ s. s) (λ n w. w) q.stage
-          (other_none m c h M k p at t (ap tail_of holding) j q ne eq) (M.fits j q eq))
-          keeps_right.settled;
-      rooms = put_all (λ j q. OwnsRooms c.owner j q.spare) m.party k giver (λ j q ne eq. M.rooms j q eq) (M.rooms k p at);
-      names = names_put m.party k p giver at refl M.names;
-      strangers = λ n away. M.strangers n (strange m.party k p giver at refl n away);
+      goes = λ j q ne _. goes_without (λ a n. n) (λ s. s) (λ n w. w) (not_keeper m c h M k p at t (ap tail_of holding) j ne);
+      mine = keeps_right.settled;
+      rooms = rooms_still m c h M k p at Rest p.spare (M.rooms k p at);
+      strangers = λ n _ s. s;
     }
 
   -- the stub is passed
   module _ (r : ℕ) (holding : p.stage ≡ Holding 0) (linked : m.next 0 ≡ Some r) (looked : HasLooked p.name h) where
     abbrev pub chain_after_pass : Chain
     chain_after_pass = record c { rooms = drop 1 c.rooms }
-
-    abbrev passed_party : AbstractParty P
-    passed_party = record p { stage = Second r }
 
     keeps_stub : Keeps c.keeper c.rooms h k p.name 0
     keeps_stub = keeping m c h M k p at 0 (ap tail_of holding)
@@ -107,38 +85,34 @@ module _ {P E : Type 0} (m : AbstractMachine P E) (c : Chain) (h : List (Event P
     at_second = second m c h M 0 r keeps_stub.tail linked
 
     pub pass_keeps : Meets (set_stage m k p (Second r)) chain_after_pass h
-    pass_keeps = record {
+    pass_keeps = moves_on m c h M k p at (Second r) p.spare (set_stage m k p (Second r)) chain_after_pass h record {
       legal = M.legal;
-      last = last_less m c h M 0 r keeps_stub.tail linked;
+      chain = record {
+        last = last_less m c h M 0 r keeps_stub.tail linked;
+        once = once_less m c h M 0 r keeps_stub.tail linked;
+        shared = λ i x ix. M.shared (suc i) x (at_down c.rooms i x ix);
+        stub = M.stub;
+        unmade = M.unmade;
+      };
       ends = M.ends;
-      joined = λ i a b ia ib. joined_put m.party k p passed_party at m.next a b (λ o. subst (λ l. Owes l a b) holding o) (M.joined (suc i) a b (at_down c.rooms i a ia) (at_down c.rooms (suc i) b ib));
-      once = once_less m c h M 0 r keeps_stub.tail linked;
-      shared = λ i x ix. M.shared (suc i) x (at_down c.rooms i x ix);
-      stub = M.stub;
-      unmade = M.unmade;
+      joined = λ i a b ia ib. joined_still m c h M k p at (Second r) p.spare (λ a b o. subst (λ l. Owes l a b) holding o) (suc i) a b (at_down c.rooms i a ia) (at_down c.rooms (suc i) b ib);
       holds = ap (map m.cell) (sym (real_stub c.rooms keeps_stub.tail)) ∙ M.holds;
-      right = right_with m c h M k p at 0 (ap tail_of holding) (update m.party k (Some passed_party)) (drop 1 c.rooms) h passed_party r (put_same m.party k (Some passed_party)) refl keeps_stub.held_by;
-      fits = put_all (λ j q. AtStage m.head m.next m.cell c.owner c.keeper (drop 1 c.rooms) h j q.name q.stage) m.party k passed_party
-          (λ j q ne eq. producer_drops m c h M 0 r keeps_stub.tail linked m.cell c.owner c.keeper c.keeper h j q.name (λ x e o f. f) (λ x e. e) (λ s. s)
-          (λ i w. subst (λ n. IsPendingAt q.name n h) (rank_stub c.rooms i keeps_stub.tail) w) q.stage
-          (other_none m c h M k p at 0 (ap tail_of holding) j q ne eq) (M.fits j q eq))
-          (record {
-            keeps = record { kept = keeps_stub.kept; held_by = keeps_stub.held_by; tail = at_up c.rooms 0 r at_second; settled = keeps_stub.settled };
-            is_real = λ e. zero_suc (M.once 0 1 0 keeps_stub.tail (subst (ItemAt c.rooms 1) e at_second));
-            looked = looked;
-          });
-      rooms = put_all (λ j q. OwnsRooms c.owner j q.spare) m.party k passed_party (λ j q ne eq. M.rooms j q eq) (M.rooms k p at);
-      names = names_put m.party k p passed_party at refl M.names;
-      strangers = λ n away. M.strangers n (strange m.party k p passed_party at refl n away);
+      right = right_with m c h M k p at 0 (ap tail_of holding) (Second r) p.spare (drop 1 c.rooms) h r refl keeps_stub.held_by;
+      goes = λ j q ne _. goes_drops m c h M 0 r keeps_stub.tail linked m.cell c.owner h j q (λ x e o f. f) (λ x e. e) (λ s. s)
+          (λ i w. subst (λ n. IsPendingAt q n h) (rank_stub c.rooms i keeps_stub.tail) w) (not_keeper m c h M k p at 0 (ap tail_of holding) j ne);
+      mine = record {
+        keeps = record { kept = keeps_stub.kept; held_by = keeps_stub.held_by; tail = at_up c.rooms 0 r at_second; settled = keeps_stub.settled };
+        is_real = λ e. zero_suc (M.once 0 1 0 keeps_stub.tail (subst (ItemAt c.rooms 1) e at_second));
+        looked = looked;
+      };
+      rooms = rooms_still m c h M k p at (Second r) p.spare (M.rooms k p at);
+      strangers = λ n _ s. s;
     }
 
   -- the tail's element is handed out
   module _ (t r : ℕ) (has : tail_of p.stage ≡ Some t) (nothing : (a b : ℕ) → Owes p.stage a b → ⊥) (is_real : t ≢ 0) (linked : m.next t ≡ Some r) (e : E) (full : m.cell t ≡ Some e) where
     abbrev pub chain_after_out : Chain
     chain_after_out = record { rooms = drop 1 c.rooms; owner = update c.owner t (Spare k); keeper = c.keeper }
-
-    abbrev out : AbstractParty P
-    out = record { name = p.name; stage = Holding r; spare = insert_room t p.spare }
 
     keeps_tail : Keeps c.keeper c.rooms h k p.name t
     keeps_tail = keeping m c h M k p at t has
@@ -171,25 +145,24 @@ module _ {P E : Type 0} (m : AbstractMachine P E) (c : Chain) (h : List (Event P
     }
 
     pub out_keeps : Meets (hand_out m k p t r) chain_after_out (Event.Out p.name e ∷ h)
-    out_keeps = record {
+    out_keeps = moves_on m c h M k p at (Holding r) (insert_room t p.spare) (hand_out m k p t r) chain_after_out (Event.Out p.name e ∷ h) record {
       legal = ((keeps_tail.held_by, oldest.1, is_oldest), M.legal);
-      last = last_less m c h M t r keeps_tail.tail linked;
+      chain = record {
+        last = last_less m c h M t r keeps_tail.tail linked;
+        once = once_less m c h M t r keeps_tail.tail linked;
+        shared = λ i x ix. put_other c.owner t (Spare k) x (λ s. tail_away m c h M t r keeps_tail.tail linked i (subst (ItemAt (drop 1 c.rooms) i) s ix)) ∙ M.shared (suc i) x (at_down c.rooms i x ix);
+        stub = put_other c.owner t (Spare k) 0 (λ s. is_real (sym s)) ∙ M.stub;
+        unmade = λ x lt. not_tail x Unmade (M.unmade x lt) (λ e. shared_unmade e refl);
+      };
       ends = M.ends;
-      joined = λ i a b ia ib. joined_put m.party k p out at m.next a b (λ o. nothing a b o) (M.joined (suc i) a b (at_down c.rooms i a ia) (at_down c.rooms (suc i) b ib));
-      once = once_less m c h M t r keeps_tail.tail linked;
-      shared = λ i x ix. put_other c.owner t (Spare k) x (λ s. tail_away m c h M t r keeps_tail.tail linked i (subst (ItemAt (drop 1 c.rooms) i) s ix)) ∙ M.shared (suc i) x (at_down c.rooms i x ix);
-      stub = put_other c.owner t (Spare k) 0 (λ s. is_real (sym s)) ∙ M.stub;
-      unmade = λ x lt. not_tail x Unmade (M.unmade x lt) (λ e. shared_unmade e refl);
+      joined = λ i a b ia ib. joined_still m c h M k p at (Holding r) (insert_room t p.spare) (λ a b o. absurd (nothing a b o)) (suc i) a b (at_down c.rooms i a ia) (at_down c.rooms (suc i) b ib);
       holds = map_put m.cell t None (drop 1 c.rooms) (tail_away m c h M t r keeps_tail.tail linked) ∙ oldest.4 ∙ ap (map Some) (sym (ap (drop 1) is_oldest));
-      right = right_with m c h M k p at t has (update m.party k (Some out)) (drop 1 c.rooms) (Event.Out p.name e ∷ h) out r (put_same m.party k (Some out)) refl keeps_tail.held_by;
-      fits = put_all (λ j q. AtStage m.head m.next (update m.cell t None) (update c.owner t (Spare k)) c.keeper (drop 1 c.rooms) (Event.Out p.name e ∷ h) j q.name q.stage) m.party k out
-          (λ j q ne eq. producer_drops m c h M t r keeps_tail.tail linked (update m.cell t None) (update c.owner t (Spare k)) c.keeper c.keeper (Event.Out p.name e ∷ h) j q.name
+      right = right_with m c h M k p at t has (Holding r) (insert_room t p.spare) (drop 1 c.rooms) (Event.Out p.name e ∷ h) r refl keeps_tail.held_by;
+      goes = λ j q ne _. goes_drops m c h M t r keeps_tail.tail linked (update m.cell t None) (update c.owner t (Spare k)) (Event.Out p.name e ∷ h) j q
           (λ x y o f. put_other m.cell t None x (λ s. ready_shared o (ap c.owner s ∙ tail_shared)) ∙ f)
           (λ x e. not_tail x (Ready j) e (λ s. ready_shared refl s)) (λ s. s)
-          (λ i w. subst (λ n. IsPendingAt q.name n h) (rank_first c.rooms t i is_real keeps_tail.tail) w) q.stage
-          (other_none m c h M k p at t has j q ne eq) (M.fits j q eq))
-          (record { kept = keeps_tail.kept; held_by = keeps_tail.held_by; tail = at_up c.rooms 0 r next_at; settled = keeps_tail.settled });
-      rooms = put_all (λ j q. OwnsRooms (update c.owner t (Spare k)) j q.spare) m.party k out (λ j q ne eq. spares_stay j q.spare (M.rooms j q eq)) (spares_grow (M.rooms k p at));
-      names = names_put m.party k p out at refl M.names;
-      strangers = λ n away. M.strangers n (strange m.party k p out at refl n away);
+          (λ i w. subst (λ n. IsPendingAt q n h) (rank_first c.rooms t i is_real keeps_tail.tail) w) (not_keeper m c h M k p at t has j ne);
+      mine = record { kept = keeps_tail.kept; held_by = keeps_tail.held_by; tail = at_up c.rooms 0 r next_at; settled = keeps_tail.settled };
+      rooms = rooms_on m c h M k p at (Holding r) (insert_room t p.spare) (update c.owner t (Spare k)) (λ j free _. spares_stay j free) (spares_grow (M.rooms k p at));
+      strangers = λ n _ s. s;
     }

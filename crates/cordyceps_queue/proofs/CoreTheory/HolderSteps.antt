@@ -5,14 +5,15 @@ use Rattle.cordyceps_queue.specs.History.{Event}
 use Rattle.cordyceps_queue.specs.Past.{held_reversed, holder_reversed, MayCome, IsSettled, IsPendingAt, IsBlockedReversed, HasLooked, WasBlockedReversed}
 use Rattle.cordyceps_queue.specs.declared.cores.stage.Stage.{Stage}
 use Rattle.cordyceps_queue.specs.declared.cores.stage.Stage.TheVariants.{Rest, Cleared, Swapped, Holding}
-use Rattle.cordyceps_queue.specs.Cores.Abstract.{update, AbstractParty, AbstractMachine, set_stage}
+use Rattle.cordyceps_queue.specs.Cores.Abstract.{AbstractParty, AbstractMachine, set_stage}
 use Rattle.cordyceps_shared.specs.Places.{ItemAt}
-use Rattle.cordyceps_queue.specs.Cores.Meets.{real, rank, Owner, Owes, tail_of, Chain, IsOut, OwnsRooms, Joined, Keeps}
+use Rattle.cordyceps_queue.specs.Cores.Meets.{real, rank, Owes, tail_of, Chain, IsOut, Joined, Keeps}
 use Rattle.cordyceps_queue.specs.Cores.Meets.{AtStage, IsTaken, RightIs, Meets}
-use Rattle.cordyceps_queue.proofs.CoreTheory.Basics.{open_with, ready_with, some_inj, some_none, none_some, suc_zero}
-use Rattle.cordyceps_queue.proofs.CoreTheory.Basics.{put_same, put_all, at_one, at_within}
+use Rattle.cordyceps_queue.proofs.CoreTheory.Basics.{put_again, some_inj, some_none, none_some, suc_zero}
+use Rattle.cordyceps_queue.proofs.CoreTheory.Basics.{put_same, at_one, at_within}
 use Rattle.cordyceps_queue.proofs.CoreTheory.ChainGrows.{held_length}
-use Rattle.cordyceps_queue.proofs.CoreTheory.OtherParties.{joined_put, names_put, strange, keeps_of, has_none}
+use Rattle.cordyceps_queue.proofs.CoreTheory.OtherParties.{goes_without, keeps_of, has_none}
+use Rattle.cordyceps_queue.proofs.CoreTheory.StepLeaves.{chain_of, joined_still, moved, moves_on, parties, rooms_still}
 
 -- blocked now, and the party has looked
 pub was_now : {P E : Type 0} (q : P) (h : List (Event P E)) → HasLooked q h → IsBlockedReversed h → WasBlockedReversed q h
@@ -52,17 +53,6 @@ no_items : {A : Type 0} (xs : List A) → length xs ≡ 0 → xs ≡ []
 no_items [] e = refl
 no_items (x ∷ xs) e = absurd (suc_zero e)
 
--- a party without the right, beside a change of the words and the history
-pub producer_moves : {P E : Type 0} (head head' : ℕ) (next next' : ℕ → Option ℕ) (cell : ℕ → Option E) (owner : ℕ → Owner) (keeper keeper' : Option ℕ) (rooms : List ℕ) (h h' : List (Event P E)) (j : ℕ) (q : P) →
-    ((a : ℕ) → next a ≡ None → next' a ≡ None) → (IsSettled q h → IsSettled q h') → ((n : ℕ) → IsPendingAt q n h → IsPendingAt q n h') →
-    (stage : Stage) → tail_of stage ≡ None → AtStage head next cell owner keeper rooms h j q stage → AtStage head' next' cell owner keeper' rooms h' j q stage
-producer_moves head head' next next' cell owner keeper keeper' rooms h h' j q none settled pending Rest t f = settled f
-producer_moves head head' next next' cell owner keeper keeper' rooms h h' j q none settled pending (Cleared x) t f =
-    ready_with f (settled f.settled) f.ready (none x f.null) f.full
-producer_moves head head' next next' cell owner keeper keeper' rooms h h' j q none settled pending (Swapped x old) t f =
-    open_with f (none old f.null) (pending (rank rooms (suc f.at)) f.pending)
-producer_moves head head' next next' cell owner keeper keeper' rooms h h' j q none settled pending stage t f = absurd (some_none t)
-
 right_zero : {P E : Type 0} (right : ℕ) (party : ℕ → Option (AbstractParty P)) (rooms : List ℕ) (h : List (Event P E)) (keeper : Option ℕ) (k : ℕ) → keeper ≡ Some k → RightIs right party rooms h keeper → right ≡ 0
 right_zero right party rooms h None k e R = absurd (none_some e)
 right_zero right party rooms h (Some j) k e R = R.zero_is
@@ -72,64 +62,52 @@ module _ {P E : Type 0} (m : AbstractMachine P E) (c : Chain) (h : List (Event P
   keeping = keeps_of m.head m.next m.cell c.owner c.keeper c.rooms h k p.name p.stage t has (M.fits k p at)
 
   -- every other party is without the right
-  pub other_none : (j : ℕ) (q : AbstractParty P) → j ≢ k → m.party j ≡ Some q → tail_of q.stage ≡ None
-  other_none j q ne eq = has_none m.head m.next m.cell c.owner c.keeper c.rooms h j q.name q.stage (tail_of q.stage) refl (λ e. ne (some_inj (sym e ∙ keeping.kept))) (M.fits j q eq)
+  pub not_keeper : (j : ℕ) → j ≢ k → c.keeper ≡ Some j → ⊥
+  not_keeper j ne e = ne (some_inj (sym e ∙ keeping.kept))
+
+  other_none : (j : ℕ) (q : AbstractParty P) → j ≢ k → m.party j ≡ Some q → tail_of q.stage ≡ None
+  other_none j q ne eq = has_none m.head m.next m.cell c.owner c.keeper c.rooms h j q.name q.stage (tail_of q.stage) refl (not_keeper j ne) (M.fits j q eq)
 
   zero_right : m.right ≡ 0
   zero_right = right_zero m.right m.party c.rooms h c.keeper k keeping.kept M.right
 
   -- the right stays with the party
-  pub right_with : (party : ℕ → Option (AbstractParty P)) (rooms : List ℕ) (h' : List (Event P E)) (q : AbstractParty P) (u : ℕ) → party k ≡ Some q → tail_of q.stage ≡ Some u → holder_reversed h' ≡ Some q.name → RightIs m.right party rooms h' c.keeper
-  right_with party rooms h' q u e tail held =
-      let taken : IsTaken m.right party h' k =
-      record { zero_is = zero_right; by = q; tail = u; there = e; has = tail; held = held } in
-      subst (RightIs m.right party rooms h') (sym keeping.kept) taken
+  pub right_with : (stage : Stage) (spare rooms : List ℕ) (h' : List (Event P E)) (u : ℕ) → tail_of stage ≡ Some u → holder_reversed h' ≡ Some p.name → RightIs m.right (parties m c h M k p at stage spare) rooms h' c.keeper
+  right_with stage spare rooms h' u tail held =
+      let now = parties m c h M k p at stage spare in
+      let there = put_same m.party k (Some (moved m c h M k p at stage spare)) in
+      let taken : IsTaken m.right now h' k = record { zero_is = zero_right; by = moved m c h M k p at stage spare; tail = u; there = there; has = tail; held = held } in
+      subst (RightIs m.right now rooms h') (sym keeping.kept) taken
 
   -- only the stage changes
   pub stage_keeps : (stage : Stage) → tail_of stage ≡ Some t → ((a b : ℕ) → Owes p.stage a b → Owes stage a b) → AtStage m.head m.next m.cell c.owner c.keeper c.rooms h k p.name stage → Meets (set_stage m k p stage) c h
-  stage_keeps stage has' on mine = record {
+  stage_keeps stage has' on mine = moves_on m c h M k p at stage p.spare m c h record {
     legal = M.legal;
-    last = M.last;
+    chain = chain_of m c h M;
     ends = M.ends;
-    joined = λ i a b ia ib. joined_put m.party k p moved at m.next a b (on a b) (M.joined i a b ia ib);
-    once = M.once;
-    shared = M.shared;
-    stub = M.stub;
-    unmade = M.unmade;
+    joined = joined_still m c h M k p at stage p.spare on;
     holds = M.holds;
-    right = right_with (update m.party k (Some moved)) c.rooms h moved t (put_same m.party k (Some moved)) has' keeping.held_by;
-    fits = put_all (λ j q. AtStage m.head m.next m.cell c.owner c.keeper c.rooms h j q.name q.stage) m.party k moved (λ j q ne eq. M.fits j q eq) mine;
-    rooms = put_all (λ j q. OwnsRooms c.owner j q.spare) m.party k moved (λ j q ne eq. M.rooms j q eq) (M.rooms k p at);
-    names = names_put m.party k p moved at refl M.names;
-    strangers = λ n away. M.strangers n (strange m.party k p moved at refl n away);
+    right = right_with stage p.spare c.rooms h t has' keeping.held_by;
+    goes = λ j q ne _. goes_without (λ a n. n) (λ s. s) (λ n w. w) (not_keeper j ne);
+    mine = mine;
+    rooms = rooms_still m c h M k p at stage p.spare (M.rooms k p at);
+    strangers = λ n _ s. s;
   }
-    where
-      moved : AbstractParty P
-      moved = record p { stage = stage }
 
   -- only the history grows, by a look or an answer
   pub tell_keeps : (x : Event P E) → p.stage ≡ Holding t → MayCome x h → held_reversed (x ∷ h) ≡ held_reversed h → holder_reversed (x ∷ h) ≡ holder_reversed h → ((q : P) → IsSettled q h → IsSettled q (x ∷ h)) → ((q : P) (n : ℕ) → IsPendingAt q n h → IsPendingAt q n (x ∷ h)) → Meets m c (x ∷ h)
-  tell_keeps x holding may same_held same_holder settled pending = record {
+  tell_keeps x holding may same_held same_holder settled pending = subst (λ f. Meets (record m { party = f }) c (x ∷ h)) (put_again m.party k p at) (moves_on m c h M k p at p.stage p.spare m c (x ∷ h) record {
     legal = (may, M.legal);
-    last = M.last;
+    chain = chain_of m c h M;
     ends = M.ends;
-    joined = M.joined;
-    once = M.once;
-    shared = M.shared;
-    stub = M.stub;
-    unmade = M.unmade;
+    joined = joined_still m c h M k p at p.stage p.spare (λ a b o. o);
     holds = M.holds ∙ ap (map Some) (sym same_held);
-    right = right_with m.party c.rooms (x ∷ h) p t at has (same_holder ∙ keeping.held_by);
-    fits = λ j q eq. elim (ℕ_discrete j k) [
-      | yes same ↦
-          let e : p ≡ q = some_inj (sym at ∙ ap m.party (sym same) ∙ eq) in
-          subst (λ (r : AbstractParty P). AtStage m.head m.next m.cell c.owner c.keeper c.rooms (x ∷ h) j r.name r.stage) e (subst (λ i. AtStage m.head m.next m.cell c.owner c.keeper c.rooms (x ∷ h) i p.name p.stage) (sym same) mine)
-      | no ne ↦ producer_moves m.head m.head m.next m.next m.cell c.owner c.keeper c.keeper c.rooms h (x ∷ h) j q.name (λ a n. n) (settled q.name) (pending q.name) q.stage (other_none j q ne eq) (M.fits j q eq)
-    ];
-    rooms = M.rooms;
-    names = M.names;
-    strangers = λ n away. settled n (M.strangers n away);
-  }
+    right = right_with p.stage p.spare c.rooms (x ∷ h) t has (same_holder ∙ keeping.held_by);
+    goes = λ j q ne _. goes_without (λ a n. n) (settled q) (pending q) (not_keeper j ne);
+    mine = mine;
+    rooms = rooms_still m c h M k p at p.stage p.spare (M.rooms k p at);
+    strangers = λ n _. settled n;
+  })
     where
       mine : AtStage m.head m.next m.cell c.owner c.keeper c.rooms (x ∷ h) k p.name p.stage
       mine = subst (AtStage m.head m.next m.cell c.owner c.keeper c.rooms (x ∷ h) k p.name) (sym holding) (record { kept = keeping.kept; held_by = same_holder ∙ keeping.held_by; tail = keeping.tail; settled = settled p.name keeping.settled })

@@ -1,14 +1,15 @@
 -- One party goes to another stage: what stays so of the others.
-use Rattle.std.proofs.Common.{◌≡◌, ℕ, List, Option, Some, None, refl, sym, ap, ◌∙◌, subst, inl, inr}
+use Rattle.std.proofs.Common.{◌≡◌, ◌≢◌, ℕ, suc, List, Option, Some, None, refl, sym, ap, ◌∙◌, subst, inl, inr}
 use native.Mathlib.Decide.{ℕ_discrete}
 use Rattle.cordyceps_queue.specs.History.{Event}
-use Rattle.cordyceps_queue.specs.Past.{holder_reversed}
+use Rattle.cordyceps_shared.specs.Places.{ItemAt}
+use Rattle.cordyceps_queue.specs.Past.{holder_reversed, IsSettled, IsPendingAt, HasLooked, WasBlockedReversed}
 use Rattle.cordyceps_queue.specs.declared.cores.stage.Stage.{Stage}
 use Rattle.cordyceps_queue.specs.declared.cores.stage.Stage.TheVariants.{Rest, Cleared, Swapped, Holding, StubNull, Second, Null, PutClear, PutSwap, PutLink, PutRead}
-use Rattle.cordyceps_queue.specs.Cores.Abstract.{update, AbstractParty}
-use Rattle.cordyceps_queue.specs.Cores.Meets.{Owes, tail_of, Owner, Owed, Joined, IsStranger, Keeps, AtStage, IsTaken}
-use Rattle.cordyceps_queue.specs.Cores.Meets.{RightIs}
-use Rattle.cordyceps_queue.proofs.CoreTheory.Basics.{some_inj, some_none, none_some, put_same, put_other, put_all}
+use Rattle.cordyceps_queue.specs.Cores.Abstract.{update, AbstractParty, AbstractMachine}
+use Rattle.cordyceps_queue.specs.Cores.Meets.{Owes, tail_of, Owner, Ready, IsOut, Owed, Joined, IsStranger, Keeps, Real}
+use Rattle.cordyceps_queue.specs.Cores.Meets.{HasReady, HasOpen, AtStage, IsTaken, RightIs, Chain}
+use Rattle.cordyceps_queue.proofs.CoreTheory.Basics.{open_with, ready_with, some_inj, some_none, none_some, put_same, put_other, put_all}
 
 module _ {P : Type 0} (party : ℕ → Option (AbstractParty P)) (k : ℕ) (p q : AbstractParty P) (at : party k ≡ Some p) where
   owed_put : (a b : ℕ) → (Owes p.stage a b → Owes q.stage a b) → Owed party a b → Owed (update party k (Some q)) a b
@@ -20,9 +21,9 @@ module _ {P : Type 0} (party : ℕ → Option (AbstractParty P)) (k : ℕ) (p q 
     | no ne ↦ record { by = o.by; who = o.who; there = put_other party k (Some q) o.by ne ∙ o.there; owes = o.owes }
   ]
 
-  pub joined_put : (next : ℕ → Option ℕ) (a b : ℕ) → (Owes p.stage a b → Owes q.stage a b) → Joined next party a b → Joined next (update party k (Some q)) a b
-  joined_put next a b on (inl l) = inl l
-  joined_put next a b on (inr o) = inr (o.0, owed_put a b on o.1)
+  pub joined_put : (next next' : ℕ → Option ℕ) (a b : ℕ) → next' a ≡ next a → (Owes p.stage a b → Owes q.stage a b) → Joined next party a b → Joined next' (update party k (Some q)) a b
+  joined_put next next' a b same on (inl l) = inl (same ∙ l)
+  joined_put next next' a b same on (inr o) = inr (same ∙ o.0, owed_put a b on o.1)
 
   pub names_put : q.name ≡ p.name → ((i j : ℕ) (x y : AbstractParty P) → party i ≡ Some x → party j ≡ Some y → x.name ≡ y.name → i ≡ j) → (i j : ℕ) (x y : AbstractParty P) → update party k (Some q) i ≡ Some x → update party k (Some q) j ≡ Some y → x.name ≡ y.name → i ≡ j
   names_put same apart i j x y ei ej =
@@ -55,6 +56,130 @@ module _ {P E : Type 0} (party : ℕ → Option (AbstractParty P)) (k : ℕ) (p 
         absurd (some_none (sym r.has ∙ ap (λ (x : AbstractParty P). tail_of x.stage) e ∙ none))
     | no ne ↦ taken_with r (put_other party k (Some q) j ne ∙ r.there) r.held
   ]
+
+  -- a party that may have it, at the same stage
+  pub right_same_stage : (right : ℕ) (rooms : List ℕ) (h : List (Event P E)) (keeper : Option ℕ) → q.name ≡ p.name → q.stage ≡ p.stage → RightIs right party rooms h keeper → RightIs right (update party k (Some q)) rooms h keeper
+  right_same_stage right rooms h None name stage r = r
+  right_same_stage right rooms h (Some j) name stage r = elim (ℕ_discrete j k) [
+    | yes same ↦
+        let is : p ≡ r.by = some_inj (sym at ∙ ap party (sym same) ∙ r.there) in record {
+          zero_is = r.zero_is;
+          by = q;
+          tail = r.tail;
+          there = ap (update party k (Some q)) same ∙ put_same party k (Some q);
+          has = ap tail_of stage ∙ ap (λ (x : AbstractParty P). tail_of x.stage) is ∙ r.has;
+          held = r.held ∙ ap (λ (x : AbstractParty P). Some x.name) (sym is) ∙ ap Some (sym name);
+        }
+    | no ne ↦ taken_with r (put_other party k (Some q) j ne ∙ r.there) r.held
+  ]
+
+-- what a step of another party leaves to the party j with this name, if that has the right
+pub record GoesRight {P E : Type 0} (head head' : ℕ) (next next' : ℕ → Option ℕ) (keeper keeper' : Option ℕ)
+    (rooms rooms' : List ℕ) (h h' : List (Event P E)) (name : P) : Type 0 where
+  pub keeper_is : keeper' ≡ keeper
+  pub holder_is : holder_reversed h' ≡ holder_reversed h
+  pub place : (i x : ℕ) → ItemAt rooms i x → ItemAt rooms' i x
+  pub looked : HasLooked name h → HasLooked name h'
+  pub blocked : (t : ℕ) → ItemAt rooms 0 t → HasLooked name h → (head ≢ t → WasBlockedReversed name h) → head' ≢ t
+      → WasBlockedReversed name h'
+  pub far : (t : ℕ) → ItemAt rooms 0 t → head ≢ t → head' ≢ t
+  pub out : IsOut rooms → IsOut rooms'
+  pub stub : IsOut rooms → next 0 ≡ None → next' 0 ≡ None
+  pub before_stub : (i old : ℕ) → ItemAt rooms i old → ItemAt rooms (suc i) 0 → next old ≡ None → next' old ≡ None
+
+-- what it leaves to that party at any stage
+pub record Goes {P E : Type 0} (head head' : ℕ) (next next' : ℕ → Option ℕ) (cell cell' : ℕ → Option E)
+    (owner owner' : ℕ → Owner) (keeper keeper' : Option ℕ) (rooms rooms' : List ℕ) (h h' : List (Event P E)) (j : ℕ)
+    (name : P) : Type 0 where
+  pub settled : IsSettled name h → IsSettled name h'
+  pub ready : (r : ℕ) → HasReady next cell owner h j name r → HasReady next' cell' owner' h' j name r
+  pub opened : (r old : ℕ) → HasOpen next rooms h name r old → HasOpen next' rooms' h' name r old
+  pub right : keeper ≡ Some j → GoesRight head head' next next' keeper keeper' rooms rooms' h h' name
+
+-- the same, by machines and chains
+abbrev pub GoesOn : {P E : Type 0} → AbstractMachine P E → AbstractMachine P E → Chain → Chain → List (Event P E) → List (Event P E) → ℕ → P → Type 0
+GoesOn m m' c c' h h' j name = Goes m.head m'.head m.next m'.next m.cell m'.cell c.owner c'.owner c.keeper c'.keeper c.rooms c'.rooms h h' j name
+
+-- where it does not have the right, and no link is set
+pub goes_without : {P E : Type 0} {head head' : ℕ} {next next' : ℕ → Option ℕ} {cell : ℕ → Option E} {owner : ℕ → Owner}
+    {keeper keeper' : Option ℕ} {rooms : List ℕ} {h h' : List (Event P E)} {j : ℕ} {name : P}
+    → ((r : ℕ) → next r ≡ None → next' r ≡ None) → (IsSettled name h → IsSettled name h')
+    → ((n : ℕ) → IsPendingAt name n h → IsPendingAt name n h') → (keeper ≡ Some j → ⊥)
+    → Goes head head' next next' cell cell owner owner keeper keeper' rooms rooms h h' j name
+goes_without none settled pending not = record {
+  settled = settled;
+  ready = λ r f. ready_with f (settled f.settled) f.ready (none r f.null) f.full;
+  opened = λ r old f. open_with f (none old f.null) (pending _ f.pending);
+  right = λ is. absurd (not is);
+}
+
+-- where head and the chain are as they were
+pub right_stays : {P E : Type 0} {head : ℕ} {next next' : ℕ → Option ℕ} {keeper : Option ℕ} {rooms : List ℕ}
+    {h h' : List (Event P E)} {name : P} → holder_reversed h' ≡ holder_reversed h
+    → (HasLooked name h → HasLooked name h') → (WasBlockedReversed name h → WasBlockedReversed name h')
+    → (IsOut rooms → next 0 ≡ None → next' 0 ≡ None)
+    → ((i old : ℕ) → ItemAt rooms i old → ItemAt rooms (suc i) 0 → next old ≡ None → next' old ≡ None)
+    → GoesRight head head next next' keeper keeper rooms rooms h h' name
+right_stays holder looked blocked stub before_stub = record {
+  keeper_is = refl;
+  holder_is = holder;
+  place = λ i x a. a;
+  looked = looked;
+  blocked = λ t a l was far. blocked (was far);
+  far = λ t a ne. ne;
+  out = λ o. o;
+  stub = stub;
+  before_stub = before_stub;
+}
+
+-- where only rooms change hands that no party has cleared
+pub goes_dealt : {P E : Type 0} {head : ℕ} {next : ℕ → Option ℕ} {cell : ℕ → Option E} {owner owner' : ℕ → Owner}
+    {keeper : Option ℕ} {rooms : List ℕ} {h : List (Event P E)} {j : ℕ} {name : P}
+    → ((r : ℕ) → owner r ≡ Ready j → owner' r ≡ Ready j)
+    → Goes head head next next cell cell owner owner' keeper keeper rooms rooms h h j name
+goes_dealt ready = record {
+  settled = λ s. s;
+  ready = λ r f. ready_with f f.settled (ready r f.ready) f.null f.full;
+  opened = λ r old f. f;
+  right = λ _. right_stays refl (λ l. l) (λ b. b) (λ _ n. n) (λ _ _ _ _ n. n);
+}
+
+module _ {P E : Type 0} {head head' : ℕ} {next next' : ℕ → Option ℕ} {cell cell' : ℕ → Option E} {owner owner' : ℕ → Owner} {keeper keeper' : Option ℕ} {rooms rooms' : List ℕ} {h h' : List (Event P E)} {j : ℕ} {name : P} (g : Goes head head' next next' cell cell' owner owner' keeper keeper' rooms rooms' h h' j name) where
+  keeps_on : (t : ℕ) → Keeps keeper rooms h j name t → Keeps keeper' rooms' h' j name t
+  keeps_on t K =
+      let r = g.right K.kept in
+      record { kept = r.keeper_is ∙ K.kept; held_by = r.holder_is ∙ K.held_by; tail = r.place 0 t K.tail; settled = g.settled K.settled }
+
+  real_on : (t : ℕ) → Real keeper rooms h j name t → Real keeper' rooms' h' j name t
+  real_on t K = record { keeps = keeps_on t K.keeps; is_real = K.is_real; looked = (g.right K.keeps.kept).looked K.looked }
+
+  -- a party that takes no step is where it was
+  pub bystander : (stage : Stage) → AtStage head next cell owner keeper rooms h j name stage → AtStage head' next' cell' owner' keeper' rooms' h' j name stage
+  bystander Rest f = g.settled f
+  bystander (Cleared r) f = g.ready r f
+  bystander (Swapped r old) f = g.opened r old f
+  bystander (Holding t) f = keeps_on t f
+  bystander StubNull f =
+      let r = g.right f.keeps.kept in
+      record { keeps = keeps_on 0 f.keeps; looked = r.looked f.looked; blocked = r.blocked 0 f.keeps.tail f.looked f.blocked }
+  bystander (Second t) f = real_on t f
+  bystander (Null t) f = (real_on t f.0, (g.right f.0.keeps.kept).blocked t f.0.keeps.tail f.0.looked f.1)
+  bystander (PutClear t) f = (real_on t f.0, (g.right f.0.keeps.kept).out f.1)
+  bystander (PutSwap t) f =
+      let r = g.right f.has.keeps.kept in record { has = real_on t f.has; out = r.out f.out; null = r.stub f.out f.null }
+  bystander (PutLink t old) f =
+      let r = g.right f.has.keeps.kept in record {
+        has = real_on t f.has;
+        at = f.at;
+        old_at = r.place f.at old f.old_at;
+        stub_at = r.place (suc f.at) 0 f.stub_at;
+        null = r.before_stub f.at old f.old_at f.stub_at f.null;
+      }
+  bystander (PutRead t) f = (real_on t f.0, (g.right f.0.keeps.kept).far t f.0.keeps.tail f.1)
+
+-- where the rooms that it has cleared stay its own
+pub fits_dealt : {P E : Type 0} (m : AbstractMachine P E) (c : Chain) (h : List (Event P E)) (owner : ℕ → Owner) (j : ℕ) (name : P) → ((r : ℕ) → c.owner r ≡ Ready j → owner r ≡ Ready j) → (stage : Stage) → AtStage m.head m.next m.cell c.owner c.keeper c.rooms h j name stage → AtStage m.head m.next m.cell owner c.keeper c.rooms h j name stage
+fits_dealt m c h owner j name ready stage f = let g : GoesOn m m c (record c { owner = owner }) h h j name = goes_dealt ready in bystander g stage f
 
 module _ {P E : Type 0} (head : ℕ) (next : ℕ → Option ℕ) (cell : ℕ → Option E) (owner : ℕ → Owner) (keeper : Option ℕ) (rooms : List ℕ) (h : List (Event P E)) (k : ℕ) (name : P) where
   -- what each stage with the right says of it

@@ -1,22 +1,22 @@
 -- The steps of a party that enqueues keep what a machine meets.
-use Rattle.std.proofs.Common.{◌≡◌, ℕ, suc, ◌≢◌, ◌⊎◌, List, [], ◌∷◌, ◌++◌, map, length, Option, Some, None, refl, sym, ap, ◌∙◌, subst, inl, inr, arith}
+use Rattle.std.proofs.Common.{◌≡◌, ℕ, suc, ◌≢◌, List, [], ◌∷◌, ◌++◌, map, length, Option, Some, None, refl, sym, ap, ◌∙◌, subst, inl, inr, arith}
 use native.Mathlib.Decide.{ℕ_discrete}
 use Rattle.std.proofs.lemmas.List.{map-append}
 use Rattle.cordyceps_queue.specs.History.{Event}
 use Rattle.cordyceps_queue.specs.Past.{held_reversed, holder_reversed, IsPendingAt, HasLooked, WasBlockedReversed}
-use Rattle.cordyceps_queue.specs.declared.cores.stage.Stage.{Stage}
-use Rattle.cordyceps_queue.specs.declared.cores.stage.Stage.TheVariants.{Rest, Cleared, Swapped, Holding, StubNull, Second, Null, PutClear, PutSwap, PutLink, PutRead}
+use Rattle.cordyceps_queue.specs.declared.cores.stage.Stage.TheVariants.{Rest, Cleared, Swapped}
 use Rattle.cordyceps_queue.specs.Cores.Abstract.{update, AbstractParty, AbstractMachine, clear_room, swap_head, link_next}
 use Rattle.cordyceps_shared.specs.Places.{ItemAt}
 use Rattle.cordyceps_queue.specs.Cores.Meets.{real, rank, Owner, Shared, Spare, Ready, Pooled, Unmade, Owes, tail_of}
-use Rattle.cordyceps_queue.specs.Cores.Meets.{Chain, IsOut, OwnsRooms, Owed, Joined, Keeps, Real, HasOpen, AtStage}
+use Rattle.cordyceps_queue.specs.Cores.Meets.{Chain, OwnsRooms, Joined, HasOpen, AtStage}
 use Rattle.cordyceps_queue.specs.Cores.Meets.{RightIs, Meets}
 use Rattle.cordyceps_shared.proofs.Places.{at_end}
 use Rattle.cordyceps_queue.proofs.CoreTheory.Basics.{open_with, ready_with, some_inj, some_none, suc_zero, put_same}
-use Rattle.cordyceps_queue.proofs.CoreTheory.Basics.{put_other, put_all, put_none, at_one, at_within, at_more, at_split}
+use Rattle.cordyceps_queue.proofs.CoreTheory.Basics.{put_other, put_none, at_one, at_within, at_more, at_split}
 use Rattle.cordyceps_queue.proofs.CoreTheory.Basics.{rank_more, rank_all, real_more, map_put, pending_one, open_from}
-use Rattle.cordyceps_queue.proofs.CoreTheory.ChainGrows.{real_one, held_length, alone, last_more, once_more, joined_more, right_more, right_same}
-use Rattle.cordyceps_queue.proofs.CoreTheory.OtherParties.{joined_put, names_put, strange, right_put}
+use Rattle.cordyceps_queue.proofs.CoreTheory.ChainGrows.{real_one, held_length, alone, open_more, last_more, once_more, joined_more, right_more, right_same}
+use Rattle.cordyceps_queue.proofs.CoreTheory.OtherParties.{GoesOn, bystander, joined_put, right_stays}
+use Rattle.cordyceps_queue.proofs.CoreTheory.StepLeaves.{chain_dealt, chain_of, joined_on, moves_on, parties, right_else, rooms_on, rooms_still}
 
 pub spare_shared : {o : Owner} {k : ℕ} → o ≡ Spare k → o ≡ Shared → ⊥
 spare_shared a b = cc (a, b)
@@ -58,9 +58,6 @@ ready_one a b = cc (a, b)
 module _ {P E : Type 0} (m : AbstractMachine P E) (c : Chain) (h : List (Event P E)) (M : Meets m c h) (k : ℕ) (p : AbstractParty P) (at : m.party k ≡ Some p) where
   -- Clear with an element
   module _ (rest : p.stage ≡ Rest) (r : ℕ) (rooms : List ℕ) (spare : p.spare ≡ r ∷ rooms) (e : E) where
-    abbrev cleared_party : AbstractParty P
-    cleared_party = record { name = p.name; stage = Cleared r; spare = rooms }
-
     abbrev pub chain_after_clear : Chain
     chain_after_clear = record c { owner = update c.owner r (Ready k) }
 
@@ -73,62 +70,41 @@ module _ {P E : Type 0} (m : AbstractMachine P E) (c : Chain) (h : List (Event P
     away : (x : ℕ) → c.owner x ≡ Shared → x ≢ r
     away x s e = spare_shared mine (ap c.owner (sym e) ∙ s)
 
-    nothing_owed : (a b : ℕ) → Owes p.stage a b → Owes (Cleared r) a b
-    nothing_owed a b o = subst (λ l. Owes l a b) rest o
-
-    others : (j : ℕ) (q : P) (stage : Stage) → AtStage m.head m.next m.cell c.owner c.keeper c.rooms h j q stage → AtStage m.head (update m.next r None) (update m.cell r (Some e)) (update c.owner r (Ready k)) c.keeper c.rooms h j q stage
-    others j q Rest f = f
-    others j q (Cleared x) f =
-        let apart : x ≢ r = λ s. ready_spare f.ready (ap c.owner s ∙ mine) in
-        ready_with f f.settled (put_other c.owner r (Ready k) x apart ∙ f.ready) (put_none m.next r x f.null)
-        (put_other m.cell r (Some e) x apart ∙ f.full)
-    others j q (Swapped x old) f = open_with f (put_none m.next r old f.null) f.pending
-    others j q (Holding t) f = f
-    others j q StubNull f = f
-    others j q (Second t) f = f
-    others j q (Null t) f = f
-    others j q (PutClear t) f = f
-    others j q (PutSwap t) f = record { has = f.has; out = f.out; null = put_none m.next r 0 f.null }
-    others j q (PutLink t old) f = record {
-      has = f.has;
-      at = f.at;
-      old_at = f.old_at;
-      stub_at = f.stub_at;
-      null = put_none m.next r old f.null;
-    }
-    others j q (PutRead t) f = f
-
-    spares : (j x : ℕ) (s : List ℕ) → ((i : ℕ) → ItemAt s i r → ⊥) → OwnsRooms c.owner j s → OwnsRooms (update c.owner r (Ready k)) j s
-    spares j x s not R = record { own = λ i y a. put_other c.owner r (Ready k) y (λ e. not i (subst (ItemAt s i) e a)) ∙ R.own i y a; once = R.once }
+    spares : (j : ℕ) (s : List ℕ) → ((i : ℕ) → ItemAt s i r → ⊥) → OwnsRooms c.owner j s → OwnsRooms (update c.owner r (Ready k)) j s
+    spares j s not R = record { own = λ i y a. put_other c.owner r (Ready k) y (λ e. not i (subst (ItemAt s i) e a)) ∙ R.own i y a; once = R.once }
 
     pub clear_keeps : Meets (clear_room m k p r rooms e) chain_after_clear h
-    clear_keeps = record {
+    clear_keeps = moves_on m c h M k p at (Cleared r) rooms (clear_room m k p r rooms e) chain_after_clear h record {
       legal = M.legal;
-      last = M.last;
+      chain = chain_dealt m c h M m.count (update c.owner r (Ready k))
+          (λ x s. put_other c.owner r (Ready k) x (away x s) ∙ s)
+          (λ x lt. put_other c.owner r (Ready k) x (λ s. spare_unmade (ap c.owner s ∙ mine) (M.unmade x lt)) ∙ M.unmade x lt);
       ends = put_none m.next r m.head M.ends;
-      joined = λ i a b ia ib. joined_put m.party k p cleared_party at (update m.next r None) a b (nothing_owed a b) (
-          subst (λ n. (n ≡ Some b) ⊎ ((n ≡ None) × Owed m.party a b)) (sym (put_other m.next r None a (away a (M.shared i a ia)))) (M.joined i a b ia ib));
-      once = M.once;
-      shared = λ i x ix. put_other c.owner r (Ready k) x (away x (M.shared i x ix)) ∙ M.shared i x ix;
-      stub = put_other c.owner r (Ready k) 0 (away 0 M.stub) ∙ M.stub;
-      unmade = λ x lt. put_other c.owner r (Ready k) x (λ s. spare_unmade (ap c.owner s ∙ mine) (M.unmade x lt)) ∙ M.unmade x lt;
+      joined = λ i a b ia. joined_on m c h M k p at (Cleared r) rooms (update m.next r None) (λ a b o. subst (λ l. Owes l a b) rest o) i a b
+          (put_other m.next r None a (away a (M.shared i a ia))) ia;
       holds = map_put m.cell r (Some e) c.rooms (λ i ir. away r (M.shared i r ir) refl) ∙ M.holds;
-      right = right_put m.party k p cleared_party at m.right c.rooms h c.keeper (ap tail_of rest) M.right;
-      fits = put_all (λ j q. AtStage m.head (update m.next r None) (update m.cell r (Some e)) (update c.owner r (Ready k)) c.keeper c.rooms h j q.name q.stage) m.party k cleared_party
-          (λ j q ne eq. others j q.name q.stage (M.fits j q eq))
-          record {
-            settled = subst (AtStage m.head m.next m.cell c.owner c.keeper c.rooms h k p.name) rest (M.fits k p at);
-            ready = put_same c.owner r (Ready k);
-            is_real = λ e. away 0 M.stub (sym e);
-            null = put_same m.next r None;
-            element = e;
-            full = put_same m.cell r (Some e);
-          };
-      rooms = put_all (λ j q. OwnsRooms (update c.owner r (Ready k)) j q.spare) m.party k cleared_party
-          (λ j q ne eq. spares j 0 q.spare (λ i ir. ne (spare_one ((M.rooms j q eq).own i r ir) mine)) (M.rooms j q eq))
-          (spares k 0 rooms (λ i ir. suc_ne (own.once (suc i) 0 r ir refl)) (record { own = λ i x ix. own.own (suc i) x ix; once = λ i j x ix jx. suc_inj (own.once (suc i) (suc j) x ix jx) }));
-      names = names_put m.party k p cleared_party at refl M.names;
-      strangers = λ n away. M.strangers n (strange m.party k p cleared_party at refl n away);
+      right = right_else m c h M k p at (Cleared r) rooms (ap tail_of rest);
+      goes = λ j q _ _. record {
+        settled = λ s. s;
+        ready = λ x f.
+            let apart : x ≢ r = λ s. ready_spare f.ready (ap c.owner s ∙ mine) in
+            ready_with f f.settled (put_other c.owner r (Ready k) x apart ∙ f.ready) (put_none m.next r x f.null)
+            (put_other m.cell r (Some e) x apart ∙ f.full);
+        opened = λ x old f. open_with f (put_none m.next r old f.null) f.pending;
+        right = λ _. right_stays refl (λ l. l) (λ b. b) (λ _. put_none m.next r 0) (λ _ old _ _. put_none m.next r old);
+      };
+      mine = record {
+        settled = subst (AtStage m.head m.next m.cell c.owner c.keeper c.rooms h k p.name) rest (M.fits k p at);
+        ready = put_same c.owner r (Ready k);
+        is_real = λ e. away 0 M.stub (sym e);
+        null = put_same m.next r None;
+        element = e;
+        full = put_same m.cell r (Some e);
+      };
+      rooms = rooms_on m c h M k p at (Cleared r) rooms (update c.owner r (Ready k))
+          (λ j free ne R. spares j free (λ i ir. ne (spare_one (R.own i r ir) mine)) R)
+          (spares k rooms (λ i ir. suc_ne (own.once (suc i) 0 r ir refl)) (record { own = λ i x ix. own.own (suc i) x ix; once = λ i j x ix jx. suc_inj (own.once (suc i) (suc j) x ix jx) }));
+      strangers = λ n _ s. s;
     }
       where
         spare_one : {j : ℕ} → c.owner r ≡ Spare j → c.owner r ≡ Spare k → j ≡ k
@@ -142,9 +118,6 @@ module _ {P E : Type 0} (m : AbstractMachine P E) (c : Chain) (h : List (Event P
 
   -- Swap of an element
   module _ (r : ℕ) (e : E) (ready : p.stage ≡ Cleared r) (full : m.cell r ≡ Some e) where
-    abbrev swapped_party : AbstractParty P
-    swapped_party = record p { stage = Swapped r m.head }
-
     abbrev pub chain_after_swap : Chain
     chain_after_swap = record c { rooms = c.rooms ++ r ∷ []; owner = update c.owner r Shared }
 
@@ -157,61 +130,31 @@ module _ {P E : Type 0} (m : AbstractMachine P E) (c : Chain) (h : List (Event P
     pub fresh : (i : ℕ) → ItemAt c.rooms i r → ⊥
     fresh i ir = ready_shared was.ready (M.shared i r ir)
 
-    owes_nothing : (a b : ℕ) → Owes p.stage a b → Owes (Swapped r m.head) a b
-    owes_nothing a b o = absurd (subst (λ l. Owes l a b) ready o)
-
     newly : (q : P) (t : ℕ) → ItemAt c.rooms 0 t → HasLooked q h → ((m.head ≢ t) → WasBlockedReversed q h) → WasBlockedReversed q (Event.Swap p.name e ∷ h)
     newly q t first looked before = elim (ℕ_discrete m.head t) [
       | yes same ↦ inl (looked, (p.name, length (held_reversed h), alone m c h M t first same, inl (refl, refl)))
       | no ne ↦ inr (before ne)
     ]
 
-    swap_keeper : (j : ℕ) (q : P) (t : ℕ) → q ≢ p.name → Keeps c.keeper c.rooms h j q t → Keeps c.keeper (c.rooms ++ r ∷ []) (Event.Swap p.name e ∷ h) j q t
-    swap_keeper j q t ne K = record { kept = K.kept; held_by = K.held_by; tail = at_more c.rooms (r ∷ []) 0 t K.tail; settled = (ne, K.settled) }
-
-    swap_real : (j : ℕ) (q : P) (t : ℕ) → q ≢ p.name → Real c.keeper c.rooms h j q t → Real c.keeper (c.rooms ++ r ∷ []) (Event.Swap p.name e ∷ h) j q t
-    swap_real j q t ne K = record { keeps = swap_keeper j q t ne K.keeps; is_real = K.is_real; looked = K.looked }
-
-    still_out : IsOut c.rooms → IsOut (c.rooms ++ r ∷ [])
-    still_out out i at0 = elim (at_split c.rooms r i 0 at0) [ inl a ↦ out i a | inr a ↦ was.is_real (sym a.1) ]
-
-    swap_others : (j : ℕ) (q : P) (stage : Stage) → j ≢ k → q ≢ p.name → AtStage m.head m.next m.cell c.owner c.keeper c.rooms h j q stage → AtStage r m.next m.cell (update c.owner r Shared) c.keeper (c.rooms ++ r ∷ []) (Event.Swap p.name e ∷ h) j q stage
-    swap_others j q Rest nj ne f = (ne, f)
-    swap_others j q (Cleared x) nj ne f =
-        let apart : x ≢ r = λ s. nj (ready_one f.ready (ap c.owner s ∙ was.ready)) in
-        ready_with f (ne, f.settled) (put_other c.owner r Shared x apart ∙ f.ready) f.null f.full
-    swap_others j q (Swapped x old) nj ne f =
-        let within = at_within c.rooms (suc f.at) x f.room_at in
-        let ranks = rank_more c.rooms (r ∷ []) (suc f.at) (omega arith) in record {
-          at = f.at;
-          old_at = at_more c.rooms (r ∷ []) f.at old f.old_at;
-          room_at = at_more c.rooms (r ∷ []) (suc f.at) x f.room_at;
-          is_real = f.is_real;
-          null = f.null;
-          pending = inr (ne, subst (λ n. IsPendingAt q n h) (sym ranks) f.pending);
-        }
-    swap_others j q (Holding t) nj ne f = swap_keeper j q t ne f
-    swap_others j q StubNull nj ne f = record {
-      keeps = swap_keeper j q 0 ne f.keeps;
-      looked = f.looked;
-      blocked = λ _. newly q 0 f.keeps.tail f.looked f.blocked;
+    swap_goes : (j : ℕ) (q : P) → j ≢ k → q ≢ p.name → GoesOn m (swap_head m k p r (Swapped r m.head)) c chain_after_swap h (Event.Swap p.name e ∷ h) j q
+    swap_goes j q nj ne = record {
+      settled = λ s. (ne, s);
+      ready = λ x f.
+          let apart : x ≢ r = λ s. nj (ready_one f.ready (ap c.owner s ∙ was.ready)) in
+          ready_with f (ne, f.settled) (put_other c.owner r Shared x apart ∙ f.ready) f.null f.full;
+      opened = λ x old f. open_more c.rooms r f (inr (ne, f.pending));
+      right = λ _. record {
+        keeper_is = refl;
+        holder_is = refl;
+        place = at_more c.rooms (r ∷ []);
+        looked = λ l. l;
+        blocked = λ t first looked before _. newly q t first looked before;
+        far = λ t first _ s. fresh 0 (subst (ItemAt c.rooms 0) (sym s) first);
+        out = λ out i at0. elim (at_split c.rooms r i 0 at0) [ inl a ↦ out i a | inr a ↦ was.is_real (sym a.1) ];
+        stub = λ _ n. n;
+        before_stub = λ _ _ _ _ n. n;
+      };
     }
-    swap_others j q (Second t) nj ne f = swap_real j q t ne f
-    swap_others j q (Null t) nj ne f = (swap_real j q t ne f.0, (λ _. newly q t f.0.keeps.tail f.0.looked f.1))
-    swap_others j q (PutClear t) nj ne f = (swap_real j q t ne f.0, still_out f.1)
-    swap_others j q (PutSwap t) nj ne f = record {
-      has = swap_real j q t ne f.has;
-      out = still_out f.out;
-      null = f.null;
-    }
-    swap_others j q (PutLink t old) nj ne f = record {
-      has = swap_real j q t ne f.has;
-      at = f.at;
-      old_at = at_more c.rooms (r ∷ []) f.at old f.old_at;
-      stub_at = at_more c.rooms (r ∷ []) (suc f.at) 0 f.stub_at;
-      null = f.null;
-    }
-    swap_others j q (PutRead t) nj ne f = (swap_real j q t ne f.0, (λ s. fresh 0 (subst (ItemAt c.rooms 0) (sym s) f.0.keeps.tail)))
 
     swap_mine : AtStage r m.next m.cell (update c.owner r Shared) c.keeper (c.rooms ++ r ∷ []) (Event.Swap p.name e ∷ h) k p.name (Swapped r m.head)
     swap_mine = record {
@@ -226,29 +169,28 @@ module _ {P E : Type 0} (m : AbstractMachine P E) (c : Chain) (h : List (Event P
     }
 
     pub swap_keeps : Meets (swap_head m k p r (Swapped r m.head)) chain_after_swap (Event.Swap p.name e ∷ h)
-    swap_keeps = record {
+    swap_keeps = moves_on m c h M k p at (Swapped r m.head) p.spare (swap_head m k p r (Swapped r m.head)) chain_after_swap (Event.Swap p.name e ∷ h) record {
       legal = (was.settled, M.legal);
-      last = last_more m c h M r;
+      chain = record {
+        last = last_more m c h M r;
+        once = once_more m c h M r fresh;
+        shared = λ i x ix. elim (at_split c.rooms r i x ix) [
+          | inl a ↦ put_other c.owner r Shared x (other_room x (M.shared i x a)) ∙ M.shared i x a
+          | inr a ↦ ap (update c.owner r Shared) a.1 ∙ put_same c.owner r Shared
+        ];
+        stub = put_other c.owner r Shared 0 (other_room 0 M.stub) ∙ M.stub;
+        unmade = λ x lt. put_other c.owner r Shared x (λ s. ready_unmade (ap c.owner s ∙ was.ready) (M.unmade x lt)) ∙ M.unmade x lt;
+      };
       ends = was.null;
-      joined = joined_more m c h M k p swapped_party at r owes_nothing (refl, refl);
-      once = once_more m c h M r fresh;
-      shared = λ i x ix. elim (at_split c.rooms r i x ix) [
-        | inl a ↦ put_other c.owner r Shared x (other_room x (M.shared i x a)) ∙ M.shared i x a
-        | inr a ↦ ap (update c.owner r Shared) a.1 ∙ put_same c.owner r Shared
-      ];
-      stub = put_other c.owner r Shared 0 (other_room 0 M.stub) ∙ M.stub;
-      unmade = λ x lt. put_other c.owner r Shared x (λ s. ready_unmade (ap c.owner s ∙ was.ready) (M.unmade x lt))
-          ∙ M.unmade x lt;
+      joined = joined_more m c h M k p (record p { stage = Swapped r m.head }) at r (λ a b o. absurd (subst (λ l. Owes l a b) ready o)) (refl, refl);
       holds = ap (map m.cell) (real_more c.rooms (r ∷ []) ∙ ap (λ l. real c.rooms ++ l) (real_one r was.is_real))
           ∙ map-append m.cell (real c.rooms) (r ∷ [])
           ∙ ap (λ l. l ++ m.cell r ∷ []) M.holds ∙ ap (λ x. map Some (held_reversed h) ++ x ∷ []) full ∙ sym (map-append Some (held_reversed h) (e ∷ []));
-      right = right_more m.right _ c.rooms r h (Event.Swap p.name e) c.keeper refl (right_put m.party k p swapped_party at m.right c.rooms h c.keeper (ap tail_of ready) M.right);
-      fits = put_all (λ j q. AtStage r m.next m.cell (update c.owner r Shared) c.keeper (c.rooms ++ r ∷ []) (Event.Swap p.name e ∷ h) j q.name q.stage) m.party k swapped_party
-          (λ j q ne eq. swap_others j q.name q.stage ne (λ s. ne (M.names j k q p eq at s)) (M.fits j q eq))
-          swap_mine;
-      rooms = put_all (λ j q. OwnsRooms (update c.owner r Shared) j q.spare) m.party k swapped_party (λ j q ne eq. swap_spares j q.spare (M.rooms j q eq)) (swap_spares k p.spare (M.rooms k p at));
-      names = names_put m.party k p swapped_party at refl M.names;
-      strangers = λ n away. ((λ s. away k swapped_party (put_same m.party k (Some swapped_party)) (sym s)), M.strangers n (strange m.party k p swapped_party at refl n away));
+      right = right_more m.right _ c.rooms r h (Event.Swap p.name e) c.keeper refl (right_else m c h M k p at (Swapped r m.head) p.spare (ap tail_of ready));
+      goes = swap_goes;
+      mine = swap_mine;
+      rooms = rooms_on m c h M k p at (Swapped r m.head) p.spare (update c.owner r Shared) (λ j free _. swap_spares j free) (swap_spares k p.spare (M.rooms k p at));
+      strangers = λ n ne s. (ne, s);
     }
       where
         swap_spares : (j : ℕ) (s : List ℕ) → OwnsRooms c.owner j s → OwnsRooms (update c.owner r Shared) j s
@@ -260,9 +202,6 @@ module _ {P E : Type 0} (m : AbstractMachine P E) (c : Chain) (h : List (Event P
 
   -- Link of an element
   module _ (r old : ℕ) (waits : p.stage ≡ Swapped r old) where
-    abbrev linked_party : AbstractParty P
-    linked_party = record p { stage = Rest }
-
     link : HasOpen m.next c.rooms h p.name r old
     link = subst (AtStage m.head m.next m.cell c.owner c.keeper c.rooms h k p.name) waits (M.fits k p at)
 
@@ -276,46 +215,27 @@ module _ {P E : Type 0} (m : AbstractMachine P E) (c : Chain) (h : List (Event P
     stays_none : (a : ℕ) → a ≢ old → m.next a ≡ None → update m.next old (Some r) a ≡ None
     stays_none a ne none = put_other m.next old (Some r) a ne ∙ none
 
-    link_keeper : (j : ℕ) (q : P) (t : ℕ) → Keeps c.keeper c.rooms h j q t → Keeps c.keeper c.rooms (Event.Link p.name ∷ h) j q t
-    link_keeper j q t K = record { kept = K.kept; held_by = K.held_by; tail = K.tail; settled = inr K.settled }
+    link_goes : (j : ℕ) (q : P) → q ≢ p.name → GoesOn m (link_next m k p old r Rest) c c h (Event.Link p.name ∷ h) j q
+    link_goes j q ne = record {
+      settled = inr;
+      ready = λ x f.
+          let apart : x ≢ old = λ s. ready_shared f.ready (ap c.owner s ∙ old_shared) in
+          ready_with f (inr f.settled) f.ready (stays_none x apart f.null) f.full;
+      opened = λ x o f.
+          let apart : f.at ≢ link.at = λ s.
+          let mine = subst (λ n. IsPendingAt p.name (rank c.rooms (suc n)) h) (sym s) link.pending in
+          ne (pending_one h q p.name (rank c.rooms (suc f.at)) f.pending mine) in
+          open_with f (stays_none o (not_old f.at o f.old_at apart) f.null) (ne, f.pending);
+      right = λ _. right_stays refl (λ l. l) inr
+          (λ out. stays_none 0 (λ s. out link.at (subst (ItemAt c.rooms link.at) (sym s) link.old_at)))
+          (λ i o here stub.
+          let apart : i ≢ link.at = λ s.
+          let there = subst (λ n. ItemAt c.rooms (suc n) 0) s stub in
+          link.is_real (at_one c.rooms (suc link.at) r 0 link.room_at there) in
+          stays_none o (not_old i o here apart));
+    }
 
-    link_real : (j : ℕ) (q : P) (t : ℕ) → Real c.keeper c.rooms h j q t → Real c.keeper c.rooms (Event.Link p.name ∷ h) j q t
-    link_real j q t K = record { keeps = link_keeper j q t K.keeps; is_real = K.is_real; looked = K.looked }
-
-    link_others : (j : ℕ) (q : P) (stage : Stage) → q ≢ p.name → AtStage m.head m.next m.cell c.owner c.keeper c.rooms h j q stage → AtStage m.head (update m.next old (Some r)) m.cell c.owner c.keeper c.rooms (Event.Link p.name ∷ h) j q stage
-    link_others j q Rest ne f = inr f
-    link_others j q (Cleared x) ne f =
-        let apart : x ≢ old = λ s. ready_shared f.ready (ap c.owner s ∙ old_shared) in
-        ready_with f (inr f.settled) f.ready (stays_none x apart f.null) f.full
-    link_others j q (Swapped x o) ne f =
-        let apart : f.at ≢ link.at = λ s.
-        let mine = subst (λ n. IsPendingAt p.name (rank c.rooms (suc n)) h) (sym s) link.pending in
-        ne (pending_one h q p.name (rank c.rooms (suc f.at)) f.pending mine) in
-        open_with f (stays_none o (not_old f.at o f.old_at apart) f.null) (ne, f.pending)
-    link_others j q (Holding t) ne f = link_keeper j q t f
-    link_others j q StubNull ne f =
-        record { keeps = link_keeper j q 0 f.keeps; looked = f.looked; blocked = λ s. inr (f.blocked s) }
-    link_others j q (Second t) ne f = link_real j q t f
-    link_others j q (Null t) ne f = (link_real j q t f.0, (λ s. inr (f.1 s)))
-    link_others j q (PutClear t) ne f = (link_real j q t f.0, f.1)
-    link_others j q (PutSwap t) ne f =
-        let apart : 0 ≢ old = λ s. f.out link.at (subst (ItemAt c.rooms link.at) (sym s) link.old_at) in
-        record { has = link_real j q t f.has; out = f.out; null = stays_none 0 apart f.null }
-    link_others j q (PutLink t o) ne f =
-        let apart : f.at ≢ link.at = λ s.
-        let there = subst (λ n. ItemAt c.rooms (suc n) 0) s f.stub_at in
-        link.is_real (at_one c.rooms (suc link.at) r 0 link.room_at there) in
-        record {
-          has = link_real j q t f.has;
-          at = f.at;
-          old_at = f.old_at;
-          stub_at = f.stub_at;
-          null = stays_none o
-              (not_old f.at o f.old_at apart) f.null;
-        }
-    link_others j q (PutRead t) ne f = (link_real j q t f.0, f.1)
-
-    link_joined : (i a b : ℕ) → ItemAt c.rooms i a → ItemAt c.rooms (suc i) b → Joined (update m.next old (Some r)) (update m.party k (Some linked_party)) a b
+    link_joined : (i a b : ℕ) → ItemAt c.rooms i a → ItemAt c.rooms (suc i) b → Joined (update m.next old (Some r)) (parties m c h M k p at Rest p.spare) a b
     link_joined i a b ia ib = elim (ℕ_discrete i link.at) [
       | yes same ↦
           let ea : a ≡ old = at_one c.rooms link.at a old (subst (λ n. ItemAt c.rooms n a) same ia) link.old_at in
@@ -324,57 +244,33 @@ module _ {P E : Type 0} (m : AbstractMachine P E) (c : Chain) (h : List (Event P
           inl (ap (update m.next old (Some r)) ea ∙ put_same m.next old (Some r) ∙ ap Some (sym eb))
       | no ne ↦
           let apart = not_old i a ia ne in
-          joined_put m.party k p linked_party at (update m.next old (Some r)) a b (λ o. absurd (apart (subst (λ l. Owes l a b) waits o).0))
-          (subst (λ n. (n ≡ Some b) ⊎ ((n ≡ None) × Owed m.party a b)) (sym (put_other m.next old (Some r) a apart)) (M.joined i a b ia ib))
+          joined_put m.party k p (record p { stage = Rest }) at m.next (update m.next old (Some r)) a b (put_other m.next old (Some r) a apart)
+          (λ o. absurd (apart (subst (λ l. Owes l a b) waits o).0)) (M.joined i a b ia ib)
     ]
 
     pub link_keeps : Meets (link_next m k p old r Rest) c (Event.Link p.name ∷ h)
-    link_keeps = record {
+    link_keeps = moves_on m c h M k p at Rest p.spare (link_next m k p old r Rest) c (Event.Link p.name ∷ h) record {
       legal = (open_from h p.name (rank c.rooms (suc link.at)) link.pending, M.legal);
-      last = M.last;
+      chain = chain_of m c h M;
       ends = stays_none m.head (not_old M.last.at m.head M.last.head_at
           (let l = at_within c.rooms (suc link.at) r link.room_at in λ s. absurd (omega (arith, M.last.long)))) M.ends;
       joined = link_joined;
-      once = M.once;
-      shared = M.shared;
-      stub = M.stub;
-      unmade = M.unmade;
       holds = M.holds;
-      right = right_same m.right _ c.rooms h (Event.Link p.name) c.keeper refl (right_put m.party k p linked_party at m.right c.rooms h c.keeper (ap tail_of waits) M.right);
-      fits = put_all (λ j q. AtStage m.head (update m.next old (Some r)) m.cell c.owner c.keeper c.rooms (Event.Link p.name ∷ h) j q.name q.stage) m.party k linked_party
-          (λ j q ne eq. link_others j q.name q.stage (λ s. ne (M.names j k q p eq at s)) (M.fits j q eq))
-          (inl refl);
-      rooms = put_all (λ j q. OwnsRooms c.owner j q.spare) m.party k linked_party (λ j q ne eq. M.rooms j q eq) (M.rooms k p at);
-      names = names_put m.party k p linked_party at refl M.names;
-      strangers = λ n away. inr (M.strangers n (strange m.party k p linked_party at refl n away));
+      right = right_same m.right _ c.rooms h (Event.Link p.name) c.keeper refl (right_else m c h M k p at Rest p.spare (ap tail_of waits));
+      goes = λ j q _ ne. link_goes j q ne;
+      mine = inl refl;
+      rooms = rooms_still m c h M k p at Rest p.spare (M.rooms k p at);
+      strangers = λ n _. inr;
     }
 
   -- Take beside another holder
-  busy_keeper : (j : ℕ) (q : P) (t : ℕ) → Keeps c.keeper c.rooms h j q t → Keeps c.keeper c.rooms (Event.Busy p.name ∷ h) j q t
-  busy_keeper j q t K = record { kept = K.kept; held_by = K.held_by; tail = K.tail; settled = K.settled }
-
-  busy_real : (j : ℕ) (q : P) (t : ℕ) → Real c.keeper c.rooms h j q t → Real c.keeper c.rooms (Event.Busy p.name ∷ h) j q t
-  busy_real j q t K = record { keeps = busy_keeper j q t K.keeps; is_real = K.is_real; looked = K.looked }
-
-  busy_others : (j : ℕ) (q : P) (stage : Stage) → AtStage m.head m.next m.cell c.owner c.keeper c.rooms h j q stage → AtStage m.head m.next m.cell c.owner c.keeper c.rooms (Event.Busy p.name ∷ h) j q stage
-  busy_others j q Rest f = f
-  busy_others j q (Cleared x) f = ready_with f f.settled f.ready f.null f.full
-  busy_others j q (Swapped x o) f = open_with f f.null f.pending
-  busy_others j q (Holding t) f = busy_keeper j q t f
-  busy_others j q StubNull f =
-      record { keeps = busy_keeper j q 0 f.keeps; looked = f.looked; blocked = λ s. inr (f.blocked s) }
-  busy_others j q (Second t) f = busy_real j q t f
-  busy_others j q (Null t) f = (busy_real j q t f.0, (λ s. inr (f.1 s)))
-  busy_others j q (PutClear t) f = (busy_real j q t f.0, f.1)
-  busy_others j q (PutSwap t) f = record { has = busy_real j q t f.has; out = f.out; null = f.null }
-  busy_others j q (PutLink t o) f = record {
-    has = busy_real j q t f.has;
-    at = f.at;
-    old_at = f.old_at;
-    stub_at = f.stub_at;
-    null = f.null;
+  busy_goes : (j : ℕ) (q : P) → GoesOn m m c c h (Event.Busy p.name ∷ h) j q
+  busy_goes j q = record {
+    settled = λ s. s;
+    ready = λ x f. ready_with f f.settled f.ready f.null f.full;
+    opened = λ x o f. open_with f f.null f.pending;
+    right = λ _. right_stays refl (λ l. l) inr (λ _ n. n) (λ _ _ _ _ n. n);
   }
-  busy_others j q (PutRead t) f = (busy_real j q t f.0, f.1)
 
   -- the right is out with another party
   out_with : p.stage ≡ Rest → m.right ≡ 0 → (keeper : Option ℕ) → RightIs m.right m.party c.rooms h keeper → (q : P) × (holder_reversed h ≡ Some q) × (p.name ≢ q)
@@ -400,7 +296,7 @@ module _ {P E : Type 0} (m : AbstractMachine P E) (c : Chain) (h : List (Event P
     unmade = M.unmade;
     holds = M.holds;
     right = right_same m.right m.party c.rooms h (Event.Busy p.name) c.keeper refl M.right;
-    fits = λ j q eq. busy_others j q.name q.stage (M.fits j q eq);
+    fits = λ j q eq. bystander (busy_goes j q.name) q.stage (M.fits j q eq);
     rooms = M.rooms;
     names = M.names;
     strangers = M.strangers;

@@ -9,8 +9,8 @@ use Rattle.cordyceps_queue.specs.declared.cores.stage.Stage.TheVariants.{Rest, C
 use Rattle.cordyceps_shared.specs.Places.{ItemAt}
 use Rattle.cordyceps_queue.specs.Cores.Meets.{Owner, Shared, Spare, Ready, Unmade, Owes, tail_of, Chain, OwnsRooms, Joined, AtStage, RightIs, Meets}
 use Rattle.cordyceps_queue.specs.Cores.Abstract.{AbstractParty, AbstractMachine, update}
-use Rattle.cordyceps_queue.proofs.CoreTheory.Basics.{ready_with, none_some, put_same, put_other}
-use Rattle.cordyceps_queue.proofs.CoreTheory.OtherParties.{taken_with}
+use Rattle.cordyceps_queue.proofs.CoreTheory.Basics.{none_some, put_same, put_other}
+use Rattle.cordyceps_queue.proofs.CoreTheory.OtherParties.{fits_dealt, taken_with}
 use Rattle.cordyceps_queue.proofs.CoreTheory.ProducerSteps.{spare_shared, ready_spare, spare_unmade, spare_one}
 
 -- ---- rooms that go to another owner
@@ -76,21 +76,6 @@ deal_both owner a b xs ys ne R S = record {
     both i j r (inr x) (inl y) = absurd (ne (spare_one (R.own j r y) (S.own x.0 r x.1)))
     both i j r (inr x) (inr y) = let e = x.2 in let f = y.2 in let same = S.once x.0 y.0 r x.1 y.1 in omega arith
 
--- what holds of a party at its stage, where the rooms that parties have cleared stay theirs
-module _ {P E : Type 0} (m : AbstractMachine P E) (c : Chain) (h : List (Event P E)) (owner : ℕ → Owner) (ready : (r j : ℕ) → c.owner r ≡ Ready j → owner r ≡ Ready j) where
-  pub fits_dealt : (j : ℕ) (q : P) (stage : Stage) → AtStage m.head m.next m.cell c.owner c.keeper c.rooms h j q stage → AtStage m.head m.next m.cell owner c.keeper c.rooms h j q stage
-  fits_dealt j q Rest f = f
-  fits_dealt j q (Cleared x) f = ready_with f f.settled (ready x j f.ready) f.null f.full
-  fits_dealt j q (Swapped x old) f = f
-  fits_dealt j q (Holding t) f = f
-  fits_dealt j q StubNull f = f
-  fits_dealt j q (Second t) f = f
-  fits_dealt j q (Null t) f = f
-  fits_dealt j q (PutClear t) f = f
-  fits_dealt j q (PutSwap t) f = f
-  fits_dealt j q (PutLink t old) f = f
-  fits_dealt j q (PutRead t) f = f
-
 -- ---- parties that come and go
 module _ {P E : Type 0} (m : AbstractMachine P E) (c : Chain) (h : List (Event P E)) (parties : ℕ → Option (AbstractParty P)) (owner : ℕ → Owner) (Gone : P → Type 0) where
   -- parties at rest go, and others at rest come in their places or in new ones
@@ -129,7 +114,7 @@ module _ {P E : Type 0} (m : AbstractMachine P E) (c : Chain) (h : List (Event P
         taken_with R there R.held
 
     fits_still : (j : ℕ) (q : P) (stage : Stage) → AtStage m.head m.next m.cell c.owner c.keeper c.rooms h j q stage → AtStage m.head m.next m.cell owner c.keeper c.rooms h j q stage
-    fits_still j q stage f = fits_dealt m c h owner (λ x i e. G.fixed x (Ready i) e (λ b o. ready_spare refl o)) j q stage f
+    fits_still j q stage f = fits_dealt m c h owner j q (λ x e. G.fixed x (Ready j) e (λ b o. ready_spare refl o)) stage f
 
     -- a party that comes had a name that was gone, or that no party had
     come_settled : (k : ℕ) (p : AbstractParty P) → parties k ≡ Some p → ((q : AbstractParty P) → m.party k ≡ Some q → Gone q.name) → IsSettled p.name h

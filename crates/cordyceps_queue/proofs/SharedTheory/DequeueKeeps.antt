@@ -33,7 +33,7 @@ use Rattle.cordyceps_queue.specs.Cores.Abstract.{AbstractParty, AbstractMachine,
 use Rattle.cordyceps_queue.proofs.CoreTheory.Basics.{none_some, zero_suc, suc_zero, suc_inj, some_inj, at_split, at_more, put_same, put_other, put_all}
 use Rattle.cordyceps_queue.proofs.CoreTheory.DequeueSteps.{out_keeps, chain_after_out}
 use Rattle.cordyceps_queue.proofs.CoreTheory.HolderSteps.{was_now, keeping, right_with, stage_keeps, open_blocks}
-use Rattle.cordyceps_queue.proofs.CoreTheory.OtherParties.{joined_put, names_put, strange}
+use Rattle.cordyceps_queue.proofs.CoreTheory.SpareMoves.{moves_keep}
 use Rattle.cordyceps_queue.proofs.CoreTheory.ProducerSteps.{spare_shared, ready_shared, shared_pooled}
 use Rattle.cordyceps_queue.proofs.CoreTheory.ChainShrinks.{at_down, real_first, tail_full, tail_away, second}
 use Rattle.cordyceps_queue.proofs.SharedTheory.SeatNames.{few_rooms}
@@ -42,27 +42,6 @@ use Rattle.cordyceps_queue.proofs.SharedTheory.WordsAsMachine.{empties, empties_
 use Rattle.cordyceps_queue.proofs.SharedTheory.WordsAsMachine.{linkeds_low, linkeds_same, chain_near, LeavesPool}
 use Rattle.cordyceps_queue.proofs.SharedTheory.WordsAsMachine.{PlainStep, Becomes, Comes as Keeping}
 use Rattle.cordyceps_queue.proofs.SharedTheory.EnqueueKeeps.{m, past, here, view_after, views_put, wide_words}
-
--- the order of the free rooms of a party with the right does not matter
-respare : {P E : Type 0} (n : AbstractMachine P E) (c : Chain) (h : List (Event P E)) (M : Meets n c h) (k : ℕ) (p : AbstractParty P) (at : n.party k ≡ Some p) (t : ℕ) → tail_of p.stage ≡ Some t → (spare : List ℕ) → OwnsRooms c.owner k spare
-    → Meets (record n { party = update n.party k (Some (record p { spare = spare })) }) c h
-respare n c h M k p at t has spare given =
-    let q = record p { spare = spare } in record {
-      legal = M.legal;
-      last = M.last;
-      ends = M.ends;
-      joined = λ i a b ia ib. joined_put n.party k p q at n.next a b (λ o. o) (M.joined i a b ia ib);
-      once = M.once;
-      shared = M.shared;
-      stub = M.stub;
-      unmade = M.unmade;
-      holds = M.holds;
-      right = right_with n c h M k p at t has (update n.party k (Some q)) c.rooms h q t (put_same n.party k (Some q)) has (keeping n c h M k p at t has).held_by;
-      fits = put_all (λ j x. AtStage n.head n.next n.cell c.owner c.keeper c.rooms h j x.name x.stage) n.party k q (λ j x ne eq. M.fits j x eq) (M.fits k p at);
-      rooms = put_all (λ j x. OwnsRooms c.owner j x.spare) n.party k q (λ j x ne eq. M.rooms j x eq) given;
-      names = names_put n.party k p q at refl M.names;
-      strangers = λ x away. M.strangers x (strange n.party k p q at refl x away);
-    }
 
 put_twice : {A : Type 0} (f : ℕ → A) (k : ℕ) (v w : A) → update (update f k v) k w ≡ update f k w
 put_twice f k v w = fun_ext (λ j. elim (ℕ_discrete j k) [
@@ -194,8 +173,8 @@ module _ {E : Type 0} (s : TableState E) (k : PlainHolds s) (id : ℕ) (v : View
     freed_machine = record handed_machine { party = update handed_machine.party id (Some (party out_view)) }
 
     met : Meets freed_machine next_chain (Event.Out (name v) e ∷ (reverse before ++ out_events))
-    met = respare handed_machine next_chain (Event.Out (name v) e ∷ (reverse before ++ out_events)) (out_keeps n k.chain (reverse before ++ out_events) M id (party v) there t r has nothing is_real linked e full)
-        id handed_party (put_same n.party id (Some handed_party)) r refl (v.free ++ t ∷ []) new_rooms
+    met = moves_keep handed_machine next_chain (Event.Out (name v) e ∷ (reverse before ++ out_events)) (out_keeps n k.chain (reverse before ++ out_events) M id (party v) there t r has nothing is_real linked e full)
+        id handed_party (put_same n.party id (Some handed_party)) next_chain.owner (v.free ++ t ∷ []) record { fixed = λ x o e _ _. e; others = λ j rooms _ R. R; mine = new_rooms }
 
     spelled_out : freed_machine ≡ machine_of (update k.cell t None) s.words (set s.views id out_view)
     spelled_out j = record {

@@ -17,12 +17,12 @@ use Rattle.cordyceps_queue.specs.Shared.Rule.{TableState, link_of, party, PlainH
 use Rattle.cordyceps_shared.specs.FreeChains.{MayJoin}
 use Rattle.cordyceps_queue.specs.Shared.View.{View, name, free_chain, back_chain, view_returned, cleared_count}
 use Rattle.cordyceps_queue.specs.Cores.Abstract.{AbstractParty, AbstractMachine, update, set_right}
-use Rattle.cordyceps_queue.proofs.CoreTheory.Basics.{some_inj, zero_suc, suc_zero, suc_inj}
+use Rattle.cordyceps_queue.proofs.CoreTheory.Basics.{some_inj, put_again, zero_suc, suc_zero, suc_inj}
 use Rattle.cordyceps_queue.proofs.CoreTheory.DequeueSteps.{free_right, take_keeps, chain_after_take, give_keeps, chain_after_give}
 use Rattle.cordyceps_queue.proofs.CoreTheory.HolderSteps.{keeping, tell_keeps}
 use Rattle.cordyceps_queue.proofs.CoreTheory.ProducerSteps.{busy_keeps}
 use Rattle.cordyceps_queue.proofs.SharedTheory.WordsAsMachine.{chain_near, Becomes, PlainAllows}
-use Rattle.cordyceps_queue.proofs.SharedTheory.ReturnKeeps.{put_again, returning, moved_on, handed_on}
+use Rattle.cordyceps_queue.proofs.SharedTheory.ReturnKeeps.{returning, moved_on, handed_on}
 use Rattle.cordyceps_queue.proofs.SharedTheory.DequeueKeeps.{n, out_events, there, sees, rights, stood, same_rooms, Comes, ReadsTail, reading}
 
 module _ {E : Type 0} (s : TableState E) (k : PlainHolds s) (id : ℕ) (v : View E) (at : get_elem? s.views id ≡ some v) (named : v.known.share ≢ []) (bare : v.back ≡ []) where

@@ -1,7 +1,6 @@
 -- A step of a queue's party may first give back the slots in hand.
 use Rattle.std.proofs.Common.{◌≡◌, ◌≢◌, ℕ, zero, suc, ◌-◌, ◌<◌, List, [], ◌∷◌, ◌++◌, length, reverse, set, get_or, append-nil, Option, Some, None, refl, sym, ap, ◌∙◌, subst, inl, inr, arith, length-set, length-append}
 use mathlib.Core.Option.{some}
-use mathlib.Core.Path.{fun_ext}
 use native.Mathlib.Decide.{ℕ_discrete}
 use lib.ListN.{get_elem?}
 use Rattle.atomic_table.specs.Table.{Act, keeps, gives, stepped, homes_after, carried_after, Valid}
@@ -26,7 +25,7 @@ use Rattle.cordyceps_shared.specs.Slots.{Near, Homes, EmptyAtHome, Hand}
 use Rattle.cordyceps_queue.specs.Shared.Rule.{TableState, link_of, party, machine_of, PlainHolds}
 use Rattle.cordyceps_queue.specs.Shared.View.{View, knows, name, free_chain, back_chain, view_returned}
 use Rattle.cordyceps_queue.specs.Cores.Abstract.{update}
-use Rattle.cordyceps_queue.proofs.CoreTheory.Basics.{put_same, put_other}
+use Rattle.cordyceps_queue.proofs.CoreTheory.Basics.{put_again}
 use Rattle.cordyceps_queue.proofs.CoreTheory.ProducerSteps.{spare_shared, spare_pooled}
 use Rattle.cordyceps_queue.proofs.SharedTheory.WordsAsMachine.{core, party_at, back_spare, linkeds_same, pool_stays, count_same, spent_else, Becomes, Stays, PlainAllows}
 use Rattle.cordyceps_queue.proofs.SharedTheory.EnqueueKeeps.{views_put}
@@ -44,12 +43,6 @@ set_twice (x ∷ xs) (suc i) a b = ap (λ l. x ∷ l) (set_twice xs i a b)
 abbrev pub give_all : {E : Type 0} → List ℕ → Act (Option E)
 give_all [] = keeps
 give_all (b ∷ bs) = table.chain gives (give_all bs)
-
-pub put_again : {A : Type 0} (f : ℕ → Option A) (k : ℕ) (v : A) → f k ≡ Some v → update f k (Some v) ≡ f
-put_again f k v e = fun_ext (λ j. elim (ℕ_discrete j k) [
-  | yes same ↦ subst (λ i. update f k (Some v) i ≡ f i) (sym same) (put_same f k (Some v) ∙ sym e)
-  | no ne ↦ put_other f k (Some v) j ne
-])
 
 module _ {E : Type 0} where
   pub give_homes : (bs : List ℕ) (hs : Homes E) → homes_after hs (carry bs) (give_all bs) ≡ homes_given hs bs

@@ -21,10 +21,10 @@ use Rattle.cordyceps_queue.specs.Cores.Meets.{Spare, Shared, Pooled, Owed, Chain
 use Rattle.cordyceps_queue.specs.Cores.Abstract.{AbstractMachine, update}
 use Rattle.cordyceps_queue.specs.Shared.Rule.{TableState, link_of, party, party_of, machine_of, AreLinked, PlainHolds}
 use Rattle.cordyceps_queue.specs.Shared.View.{View, knows}
-use Rattle.cordyceps_queue.proofs.CoreTheory.Basics.{open_with, ready_with, put_other, at_within, at_more}
+use Rattle.cordyceps_queue.proofs.CoreTheory.Basics.{open_with, put_again, ready_with, put_other, at_within, at_more}
+use Rattle.cordyceps_queue.proofs.CoreTheory.OtherParties.{GoesOn, bystander, right_stays}
 use Rattle.cordyceps_queue.proofs.CoreTheory.ProducerSteps.{spare_shared, spare_pooled, ready_spare, spare_one}
 use Rattle.cordyceps_queue.proofs.SharedTheory.WordsAsMachine.{at_after, links_put, parties_put, core, party_at, rooms_of, free_spare, empties_same, linked_else, linkeds, linkeds_same, pool_stays, count_same, spent_else, Stays}
-use Rattle.cordyceps_queue.proofs.SharedTheory.ReturnKeeps.{put_again}
 
 -- ---- the link of a free room does not matter to the machine
 module _ {P E : Type 0} (m : AbstractMachine P E) (c : Chain) (h : List (Event P E)) (M : Meets m c h) (k r : ℕ) (o : Option ℕ) (mine : c.owner r ≡ Spare k) where
@@ -34,25 +34,13 @@ module _ {P E : Type 0} (m : AbstractMachine P E) (c : Chain) (h : List (Event P
   still : (x : ℕ) → x ≢ r → m.next x ≡ None → update m.next r o x ≡ None
   still x ne e = put_other m.next r o x ne ∙ e
 
-  others : (j : ℕ) (name : P) (stage : Stage) → AtStage m.head m.next m.cell c.owner c.keeper c.rooms h j name stage → AtStage m.head (update m.next r o) m.cell c.owner c.keeper c.rooms h j name stage
-  others j name Rest f = f
-  others j name (Cleared x) f = ready_with f f.settled f.ready
-      (still x (λ e. ready_spare f.ready (ap c.owner e ∙ mine)) f.null) f.full
-  others j name (Swapped x old) f = open_with f (still old (away old (M.shared f.at old f.old_at)) f.null) f.pending
-  others j name (Holding t) f = f
-  others j name StubNull f = f
-  others j name (Second t) f = f
-  others j name (Null t) f = f
-  others j name (PutClear t) f = f
-  others j name (PutSwap t) f = record { has = f.has; out = f.out; null = still 0 (away 0 M.stub) f.null }
-  others j name (PutLink t old) f = record {
-    has = f.has;
-    at = f.at;
-    old_at = f.old_at;
-    stub_at = f.stub_at;
-    null = still old (away old (M.shared f.at old f.old_at)) f.null;
+  relink_goes : (j : ℕ) (name : P) → GoesOn m (record m { next = update m.next r o }) c c h h j name
+  relink_goes j name = record {
+    settled = λ s. s;
+    ready = λ x f. ready_with f f.settled f.ready (still x (λ e. ready_spare f.ready (ap c.owner e ∙ mine)) f.null) f.full;
+    opened = λ x old f. open_with f (still old (away old (M.shared f.at old f.old_at)) f.null) f.pending;
+    right = λ _. right_stays refl (λ l. l) (λ b. b) (λ _. still 0 (away 0 M.stub)) (λ i old a _. still old (away old (M.shared i old a)));
   }
-  others j name (PutRead t) f = f
 
   relink_keeps : Meets (record m { next = update m.next r o }) c h
   relink_keeps = record {
@@ -66,7 +54,7 @@ module _ {P E : Type 0} (m : AbstractMachine P E) (c : Chain) (h : List (Event P
     unmade = M.unmade;
     holds = M.holds;
     right = M.right;
-    fits = λ j p e. others j p.name p.stage (M.fits j p e);
+    fits = λ j p e. bystander (relink_goes j p.name) p.stage (M.fits j p e);
     rooms = M.rooms;
     names = M.names;
     strangers = M.strangers;
