@@ -5,28 +5,29 @@ use Rattle.cordyceps_shared.specs.Shares.{whole}
 use Rattle.cordyceps_queue.specs.declared.cores.steps.TryDequeueError.{TryDequeueError}
 use Rattle.cordyceps_queue.specs.declared.cores.steps.TryDequeueError.TheVariants as error
 use Rattle.cordyceps_queue.specs.Shared.Calls.{PartyOf, Retries, Dequeues, Consumes, IsCertain, IsSame, MissesDequeue}
-use Rattle.cordyceps_queue.proofs.SharedTheory.TriesInTurn.{Run, run_more}
+
+pub same_then : {E : Type 0} (u v w : PartyOf E) → IsSame u v → IsSame v w → IsSame u w
+same_then u v w a b = (b.0 ∙ a.0, b.1 ∙ a.1)
 
 module _ {E : Type 0} (Fails : PartyOf E → PartyOf E → Type 0) where
-  -- a try that failed, and what the party was after it
-  abbrev pub FailsTo : PartyOf E → PartyOf E → PartyOf E → Type 0
-  FailsTo w u v = Fails u v × (w ≡ v)
+  retries_more : (u : PartyOf E) (tries : List (PartyOf E)) (v w : PartyOf E) → Retries Fails u tries v → Fails v w → Retries Fails u (tries ++ w ∷ []) w
+  retries_more u [] v w e f = (subst (λ z. Fails z w) (sym e) f, refl)
+  retries_more u (x ∷ xs) v w t f = (t.0, retries_more x xs v w t.1 f)
 
   -- so many tries that failed as it took to get here, of a whole party none
-  abbrev pub FailedTries : PartyOf E → PartyOf E → Type 0
-  FailedTries u v = (tries : List (PartyOf E)) × Run FailsTo u tries v × (u.share ≡ whole → tries ≡ [])
+  pub record Waited (u v : PartyOf E) : Type 0 where
+    pub tries : List (PartyOf E)
+    pub failed : Retries Fails u tries v
+    pub same : IsSame u v
+    pub none : u.share ≡ whole → u ≡ v
 
-  pub trying_more : (u v w : PartyOf E) → FailedTries u v → Fails v w → (u.share ≡ whole → ⊥) → FailedTries u w
-  trying_more u v w t f part = (t.0 ++ w ∷ [], run_more FailsTo u t.0 v w w t.1 (f, refl), λ is. absurd (part is))
-
-  -- a whole party's first try is its last
-  pub at_first : (u v : PartyOf E) → FailedTries u v → u.share ≡ whole → u ≡ v
-  at_first u v t is = subst (λ ws. Run FailsTo u ws v) (t.2 is) t.1
-
-  pub retries : (u : PartyOf E) (tries : List (PartyOf E)) (v : PartyOf E) → Run FailsTo u tries v → Retries Fails u tries v
-  retries u [] v e = e
-  retries u (w ∷ ws) v t =
-      (subst (Fails u) (sym t.1.1) t.1.0, subst (λ z. Retries Fails z ws v) (sym t.1.1) (retries t.0 ws v t.2))
+  pub waits : (u v w : PartyOf E) → Waited u v → Fails v w → IsSame v w → (v.share ≡ whole → ⊥) → Waited u w
+  waits u v w t f same part = record {
+    tries = t.tries ++ w ∷ [];
+    failed = retries_more u t.tries v w t.failed f;
+    same = same_then u v w t.same same;
+    none = λ is. absurd (part (t.same.1 ∙ is));
+  }
 
 module _ {E : Type 0} where
   pub misses : (u w : PartyOf E) (why : TryDequeueError) → why ≢ error.Empty → Dequeues (Err why) u w → MissesDequeue u w
@@ -43,9 +44,6 @@ module _ {E : Type 0} where
   stays_blocked u w error.Empty d = (d.0.1, d.0.0.share)
   stays_blocked u w error.Inconsistent d = (d.0.1, d.0.0.share)
   stays_blocked u w error.Busy d = absurd d
-
-  pub same_then : (u v w : PartyOf E) → IsSame u v → IsSame v w → IsSame u w
-  same_then u v w a b = (b.0 ∙ a.0, b.1 ∙ a.1)
 
   pub misses_blocked : (u w : PartyOf E) (why : TryDequeueError) → why ≢ error.Empty → Consumes (Err why) u w → Consumes (Err error.Inconsistent) u w
   misses_blocked u w error.Empty not d = absurd (not refl)

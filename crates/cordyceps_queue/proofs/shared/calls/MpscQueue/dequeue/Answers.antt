@@ -2,45 +2,45 @@ use Rattle.std.proofs.Common.{[], refl, sym, ◌∙◌, subst}
 use Rattle.std.specs.Prelude.{Ok, Err}
 use Rattle.cordyceps_queue.specs.declared.cores.steps.TryDequeueError.TheVariants as error
 use Rattle.cordyceps_queue.specs.Shared.Calls.{MissesDequeue, Dequeues}
-use Rattle.cordyceps_queue.proofs.SharedTheory.WaitingTries.{misses, stays, same_then, trying_more, retries, at_first, uncertain}
+use Rattle.cordyceps_queue.proofs.SharedTheory.WaitingTries.{misses, stays, same_then, waits, uncertain}
 use Rattle.cordyceps_queue.proofs.shared.calls.MpscQueue.dequeue.Goals as goal
 
 pub loop-preserved : goal.loop-preserved
 loop-preserved g c =
-    let i = c.loop.invariant in
+    let u = c.loop.party in
+    let w = c.try_dequeue.new.party in
+    let some = c.found_nothing.ensures.no c.if-found_nothing.false in
     let d = c.in-Err.ensures.answer in
-    let missed = misses c.loop.party c.try_dequeue.new.party c.in-Err.why (c.found_nothing.ensures.no c.if-found_nothing.false) d in
-    ((tt, tt), same_then c.args.party.now c.loop.party c.try_dequeue.new.party i.1 (stays c.loop.party c.try_dequeue.new.party c.in-Err.why d), trying_more MissesDequeue c.args.party.now c.loop.party c.try_dequeue.new.party i.2 missed (λ is. uncertain g.row.T-Handle.Denot c.in-Err.why (c.found_nothing.ensures.no c.if-found_nothing.false) (c.in-Err.ensures.whole (i.1.1 ∙ is))))
+    ((tt, tt), waits MissesDequeue c.args.party.now u w c.loop.invariant.1 (misses u w c.in-Err.why some d) (stays u w c.in-Err.why d) (λ is. uncertain g.row.T-Handle.Denot c.in-Err.why some (c.in-Err.ensures.whole is)))
 
 pub loop-init : goal.loop-init
-loop-init g c = ((tt, tt), (refl, refl), ([], refl, λ is. refl))
-
-pub returns-in-Ok-clause-answer : goal.returns-in-Ok-clause-answer
-returns-in-Ok-clause-answer g c =
-    let i = c.loop.invariant in (i.2.0, c.loop.party, retries MissesDequeue c.args.party.now i.2.0 c.loop.party i.2.1, c.in-Ok.ensures.answer)
-
-pub try_dequeue-requires : goal.try_dequeue-requires
-try_dequeue-requires g c = c.loop.invariant.1.0 ∙ c.requires
+loop-init g c = ((tt, tt), record { tries = []; failed = refl; same = (refl, refl); none = λ is. refl })
 
 pub returns-in-Ok-clause-same : goal.returns-in-Ok-clause-same
 returns-in-Ok-clause-same g c =
-    let i = c.loop.invariant in
-    let d = c.in-Ok.ensures.answer in (d.0.1 ∙ i.1.0, d.0.0.share ∙ i.1.1)
+    let d = c.in-Ok.ensures.answer in same_then c.args.party.now c.loop.party c.try_dequeue.new.party c.loop.invariant.1.same (d.0.1, d.0.0.share)
+
+pub returns-in-Ok-clause-answer : goal.returns-in-Ok-clause-answer
+returns-in-Ok-clause-answer g c =
+    let t = c.loop.invariant.1 in (t.tries, c.loop.party, t.failed, c.in-Ok.ensures.answer)
 
 pub returns-then-found_nothing-clause-same : goal.returns-then-found_nothing-clause-same
 returns-then-found_nothing-clause-same g c =
-    same_then c.args.party.now c.loop.party c.try_dequeue.new.party c.loop.invariant.1 (stays c.loop.party c.try_dequeue.new.party c.in-Err.why c.in-Err.ensures.answer)
+    same_then c.args.party.now c.loop.party c.try_dequeue.new.party c.loop.invariant.1.same (stays c.loop.party c.try_dequeue.new.party c.in-Err.why c.in-Err.ensures.answer)
 
 pub returns-then-found_nothing-clause-answer : goal.returns-then-found_nothing-clause-answer
 returns-then-found_nothing-clause-answer g c =
-    let i = c.loop.invariant in
-    (i.2.0, c.loop.party, retries MissesDequeue c.args.party.now i.2.0 c.loop.party i.2.1, subst (λ w. Dequeues (Err w) c.loop.party c.try_dequeue.new.party) (c.found_nothing.ensures.yes c.if-found_nothing.true) c.in-Err.ensures.answer)
+    let t = c.loop.invariant.1 in
+    (t.tries, c.loop.party, t.failed, subst (λ w. Dequeues (Err w) c.loop.party c.try_dequeue.new.party) (c.found_nothing.ensures.yes c.if-found_nothing.true) c.in-Err.ensures.answer)
 
 pub returns-in-Ok-clause-whole : goal.returns-in-Ok-clause-whole
 returns-in-Ok-clause-whole g c is =
-    subst (λ u. Dequeues (Ok c.in-Ok.handle) u c.try_dequeue.new.party) (sym (at_first MissesDequeue c.args.party.now c.loop.party c.loop.invariant.2 is)) c.in-Ok.ensures.answer
+    subst (λ u. Dequeues (Ok c.in-Ok.handle) u c.try_dequeue.new.party) (sym (c.loop.invariant.1.none is)) c.in-Ok.ensures.answer
 
 pub returns-then-found_nothing-clause-whole : goal.returns-then-found_nothing-clause-whole
 returns-then-found_nothing-clause-whole g c is =
-    subst (λ u. Dequeues (Err error.Empty) u c.try_dequeue.new.party) (sym (at_first MissesDequeue c.args.party.now c.loop.party c.loop.invariant.2 is))
+    subst (λ u. Dequeues (Err error.Empty) u c.try_dequeue.new.party) (sym (c.loop.invariant.1.none is))
     (subst (λ w. Dequeues (Err w) c.loop.party c.try_dequeue.new.party) (c.found_nothing.ensures.yes c.if-found_nothing.true) c.in-Err.ensures.answer)
+
+pub try_dequeue-requires : goal.try_dequeue-requires
+try_dequeue-requires g c = c.loop.invariant.1.same.0 ∙ c.requires

@@ -1,11 +1,13 @@
 use Rattle.std.proofs.Common.{◌≡◌}
 use Rattle.std.specs.Prelude.{Err}
 use Rattle.cordyceps_queue.specs.declared.cores.steps.TryDequeueError.TheVariants as error
-use Rattle.cordyceps_queue.specs.Shared.Calls.{IsSame, Consumes}
-use Rattle.cordyceps_queue.proofs.SharedTheory.WaitingTries.{FailedTries}
+use Rattle.cordyceps_queue.specs.Shared.Calls.{Consumes}
+use Rattle.cordyceps_queue.proofs.SharedTheory.WaitingTries.{Waited}
 use Rattle.cordyceps_queue.proofs.shared.owned_consumer.OwnedConsumer.dequeue.Given as goal
 
 abbrev pub invariant-loop : goal.invariant-loop
-invariant-loop g l =
-    ((goal.iterator-loop g).can_next l.iterator' × (goal.iterator-loop g).is_finite l.iterator')
-    × (l.self.queue ≡ l.initial.self.queue) × IsSame l.initial.self.party l.self.party × FailedTries (Consumes (Err error.Inconsistent)) l.initial.self.party l.self.party
+invariant-loop g l = record {
+  iterator : (goal.iterator-loop g).can_next l.iterator' × (goal.iterator-loop g).is_finite l.iterator';
+  queue : l.self.queue ≡ l.initial.self.queue;
+  waited : Waited (Consumes (Err error.Inconsistent)) l.initial.self.party l.self.party;
+}
