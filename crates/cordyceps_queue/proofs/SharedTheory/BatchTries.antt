@@ -79,7 +79,7 @@ module _ {E : Type 0} where
   took_then : (u v w : PartyOf E) (es fs : List E) → Took es u v → Run Gives v fs w → Took (es ++ fs) u w
   took_then u v w es [] t e = subst (λ z. Took z u w) (sym (append-nil es)) (subst (Took es u) e t)
   took_then u v w es (f ∷ fs) t r =
-      subst (λ z. Took z u w) (append_assoc es (f ∷ []) fs) (took_then u r.0 w (es ++ f ∷ []) fs (took_more u v r.0 es f t r.1) r.2)
+      subst (λ z. Took z u w) (append_assoc es (f ∷ []) fs) (took_then u r.to w (es ++ f ∷ []) fs (took_more u v r.to es f t r.first) r.rest)
 
   pub took : (u w : PartyOf E) (es : List E) → Run Gives u es w → Took es u w
   took u w es r = took_then u u w [] es (took_none u) r

@@ -1,7 +1,7 @@
 use Rattle.std.proofs.Common.{[], ◌∷◌, ◌++◌, map, length, refl, sym, ap, ◌∙◌, length-append, arith}
-use Rattle.std.proofs.lemmas.List.{append-nil, map-append}
+use Rattle.std.proofs.lemmas.List.{append-nil}
 use Rattle.cordyceps_queue.proofs.SharedTheory.CloseTakesAll.{TakesOut, takes_first, takes_front, nothing_left}
-use Rattle.cordyceps_queue.proofs.SharedTheory.TriesInTurn.{run_more}
+use Rattle.cordyceps_queue.proofs.SharedTheory.TriesInTurn.{given_more}
 use Rattle.cordyceps_queue.proofs.shared.calls.MpscQueue.drain.Goals as goal
 
 pub loop-handle-smaller : goal.loop-handle-smaller
@@ -11,7 +11,7 @@ loop-handle-smaller g c =
 
 pub loop-handle-init : goal.loop-handle-init
 loop-handle-init g c = record {
-  taken = ([], c.new-elements.ensures, refl);
+  taken = record { items = []; are = c.new-elements.ensures; run = refl };
   table = refl;
   share = c.requires.whole;
   rooms = omega (arith, ap length c.new-elements.ensures);
@@ -23,9 +23,8 @@ loop-handle-preserved g c =
     let d = c.in-Ok.ensures.answer in
     let element = g.T.Linked.element in
     let old = c.loop-handle.elements in
-    let es = i.taken.0 in
     let more = c.put_last.ensures in record {
-      taken = (es ++ c.in-Ok.handle ∷ [], more ∙ (ap (λ z. z ++ element c.in-Ok.handle ∷ []) i.taken.1 ∙ sym (map-append element es (c.in-Ok.handle ∷ []))), run_more TakesOut c.args.party.now es c.loop-handle.party c.try_dequeue.new.party c.in-Ok.handle i.taken.2 d);
+      taken = given_more TakesOut element old _ c.args.party.now c.loop-handle.party c.try_dequeue.new.party c.in-Ok.handle i.taken more d;
       table = d.0.1 ∙ i.table;
       share = d.0.0.share ∙ i.share;
       rooms = omega (arith, d.1, i.rooms, ap length more, length-append old (element c.in-Ok.handle ∷ []));
@@ -36,5 +35,5 @@ returns g c =
     let i = c.loop-handle.invariant in
     let e = c.in_default.ensures in
     let none = nothing_left c.loop-handle.party c.try_dequeue.new.party c.in_default.field-0 i.share e.answer (e.whole i.share) in
-    let all = takes_front c.args.party.now c.loop-handle.party i.taken.0 c.requires.whole i.taken.2 in
-    i.taken.1 ∙ ap (map g.T.Linked.element) (sym (all ∙ (ap (λ xs. i.taken.0 ++ xs) none ∙ append-nil i.taken.0)))
+    let all = takes_front c.args.party.now c.loop-handle.party i.taken.items c.requires.whole i.taken.run in
+    i.taken.are ∙ ap (map g.T.Linked.element) (sym (all ∙ (ap (λ xs. i.taken.items ++ xs) none ∙ append-nil i.taken.items)))

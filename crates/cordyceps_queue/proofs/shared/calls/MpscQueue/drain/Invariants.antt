@@ -1,14 +1,14 @@
-use Rattle.std.proofs.Common.{◌≡◌, ◌+◌, List, map, length}
+use Rattle.std.proofs.Common.{◌≡◌, ◌+◌, length}
 use Rattle.cordyceps_shared.specs.Histories.{plain}
 use Rattle.cordyceps_shared.specs.Shares.{whole}
 use Rattle.cordyceps_queue.specs.History.{held}
 use Rattle.cordyceps_queue.proofs.SharedTheory.CloseTakesAll.{TakesOut}
-use Rattle.cordyceps_queue.proofs.SharedTheory.TriesInTurn.{Run}
+use Rattle.cordyceps_queue.proofs.SharedTheory.TriesInTurn.{Given}
 use Rattle.cordyceps_queue.proofs.shared.calls.MpscQueue.drain.Given as goal
 
 abbrev pub invariant-loop-handle : goal.invariant-loop-handle
 invariant-loop-handle g l = record {
-  taken : (es : List g.row.T-Handle.Denot) × (l.elements ≡ map g.T.Linked.element es) × Run TakesOut l.initial.party es l.party;
+  taken : Given TakesOut g.T.Linked.element l.elements l.initial.party l.party;
   table : l.party.table ≡ l.initial.party.table;
   share : l.party.share ≡ whole;
   rooms : l.party.rooms ≡ l.initial.party.rooms + length l.elements;
