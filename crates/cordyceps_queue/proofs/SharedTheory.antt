@@ -22,6 +22,7 @@ pub mod SeatNames
 pub mod Sending
 pub mod SpareKeeps
 pub mod SpareRooms
+pub mod StepTells
 pub mod StubKeeps
 pub mod TriesInTurn
 pub mod UsesKeep

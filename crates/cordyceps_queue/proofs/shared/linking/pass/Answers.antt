@@ -4,6 +4,7 @@ use Rattle.cordyceps_shared.proofs.Places.{near_first, near_drop}
 use Rattle.cordyceps_shared.specs.declared.layout.TheConstants.{LINKS}
 use Rattle.cordyceps_queue.proofs.SharedTheory.UsesShare.{skips}
 use Rattle.cordyceps_shared.proofs.TrackRooms.{room_at, last_same}
+use Rattle.cordyceps_queue.proofs.SharedTheory.StepTells.{told}
 use Rattle.cordyceps_queue.proofs.shared.linking.pass.Goals as goal
 
 pub overflow_sub-last : goal.overflow_sub-last
@@ -56,7 +57,7 @@ loop-room-preserved g c =
     let at = i.2 t.0 t.1 t.2 in
     let here : c.loop-room.at - 1 ≡ t.0 = omega arith in
     let same = i.1 in
-    let s = c.load.ensures.2 (take n rooms) t.1 t.0 (ap (λ m. m.0.free) same ∙ t.5) (ap (λ z. LINKS + z) here) in
+    let s = (told c.load.ensures) (take n rooms) t.1 t.0 (ap (λ m. m.0.free) same ∙ t.5) (ap (λ z. LINKS + z) here) in
     let d = (c.free_link-at.ensures (leads t.1 c.loop-room.seat.me.0.end) s.1.0 s.1.1 s.1.2).0 in (
       search rules,
       s.0 ∙ same,

@@ -2,6 +2,7 @@ use Rattle.std.proofs.Common.{length, refl, sym, ap, ◌∙◌, inr, arith, rule
 use Rattle.cordyceps_shared.proofs.TrackRooms.{last_room}
 use Rattle.cordyceps_queue.specs.Shared.View.{free_chain}
 use Rattle.cordyceps_queue.proofs.SharedTheory.UsesShare.{ties}
+use Rattle.cordyceps_queue.proofs.SharedTheory.StepTells.{told}
 use Rattle.cordyceps_queue.proofs.shared.linking.tie.Goals as goal
 
 pub overflow_add-spare : goal.overflow_add-spare
@@ -35,22 +36,22 @@ overflow_mul-at g c =
 
 pub returns-then-spare-at-clause-relinked : goal.returns-then-spare-at-clause-relinked
 returns-then-spare-at-clause-relinked g c =
-    let s = c.store.ensures.2 c.args.at refl in
+    let s = (told c.store.ensures) c.args.at refl in
     record { view = s.0 ∙ (λ j. record c.args.seat.now.me.0 { end = ap (λ v. v.end) (sym s.0) j }); hand = s.1 }
 
 pub returns-then-spare-at-clause-tied : goal.returns-then-spare-at-clause-tied
-returns-then-spare-at-clause-tied g c = let s = c.store.ensures.2 c.args.at refl in inr (ap (λ v. v.end) s.0)
+returns-then-spare-at-clause-tied g c = let s = (told c.store.ensures) c.args.at refl in inr (ap (λ v. v.end) s.0)
 
 pub returns-then-spare-at-clause-tracks : goal.returns-then-spare-at-clause-tracks
 returns-then-spare-at-clause-tracks g c =
-    let s = c.store.ensures.2 c.args.at refl in
+    let s = (told c.store.ensures) c.args.at refl in
     let t = c.requires.tracks.tracks in
     let back = ap (λ v. v.free) (sym s.0) in
     (record { count = t.count ∙ ap (λ l. length l) back; first = λ r rs e. t.first r rs (back ∙ e); last = λ before r e. t.last before r (back ∙ e) }, refl)
 
 pub returns-then-spare-at-clause-first : goal.returns-then-spare-at-clause-first
 returns-then-spare-at-clause-first g c e =
-    let s = c.store.ensures.2 c.args.at refl in
+    let s = (told c.store.ensures) c.args.at refl in
     let none = ap (λ l. length l) (ap (λ v. v.free) (sym s.0) ∙ e) in
     let count = c.requires.tracks.tracks.count in
     let some_of = c.if-spare-eq0.false in absurd (omega arith)

@@ -3,6 +3,7 @@ use Rattle.cordyceps_shared.specs.Places.{ItemAt}
 use Rattle.cordyceps_shared.proofs.Places.{at_end}
 use Rattle.cordyceps_queue.proofs.SharedTheory.PoolJoins.{near_back}
 use Rattle.cordyceps_queue.proofs.SharedTheory.PoolKeeps.{gathers}
+use Rattle.cordyceps_queue.proofs.SharedTheory.StepTells.{told}
 use Rattle.cordyceps_queue.proofs.shared.pool.gather.Goals as goal
 
 pub overflow_add-last : goal.overflow_add-last
@@ -23,11 +24,11 @@ load-requires g c =
 pub returns-clause-gathered : goal.returns-clause-gathered
 returns-clause-gathered g c =
     let l = c.requires.last in
-    let t = c.load.ensures.2 l.0 c.args.last l.1 refl in
+    let t = (told c.load.ensures) l.0 c.args.last l.1 refl in
     λ i. (t.view_is i, t.hand i)
 
 pub returns-clause-end : goal.returns-clause-end
 returns-clause-end g c =
     let l = c.requires.last in
-    let t = c.load.ensures.2 l.0 c.args.last l.1 refl in
+    let t = (told c.load.ensures) l.0 c.args.last l.1 refl in
     (c.free_link.ensures c.args.seat.now.me.0.to t.to t.bit t.is).0

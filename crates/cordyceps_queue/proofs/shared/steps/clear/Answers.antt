@@ -2,6 +2,7 @@ use Rattle.std.proofs.Common.{◌∷◌, ◌∙◌, Option, None, refl, sym, ap,
 use Rattle.cordyceps_shared.specs.FreeChains.{leads}
 use Rattle.cordyceps_shared.specs.Places.{ItemAt}
 use Rattle.cordyceps_queue.proofs.SharedTheory.UsesKeep.{begins}
+use Rattle.cordyceps_queue.proofs.SharedTheory.StepTells.{told}
 use Rattle.cordyceps_queue.proofs.shared.steps.clear.Goals as goal
 
 pub overflow_add-room : goal.overflow_add-room
@@ -25,7 +26,7 @@ load-requires g c =
 pub returns-clause-cleared : goal.returns-clause-cleared
 returns-clause-cleared g c =
     let r = c.requires.room in
-    let u = c.load.ensures.2 in
+    let u = told c.load.ensures in
     let l = u.told c.args.room r.0 c.args._item.now r.1 c.requires.item in
     let d = c.free_link.ensures u.next u.to u.bit u.link in
     let none : Option g.row.E.Denot = None in record {
@@ -43,6 +44,6 @@ returns-clause-cleared g c =
 pub returns-clause-knows : goal.returns-clause-knows
 returns-clause-knows g c =
     let r = c.requires.room in
-    let u = c.load.ensures.2 in
+    let u = told c.load.ensures in
     let d = c.free_link.ensures u.next u.to u.bit u.link in
     (u.knows c.args.room r.0 r.1 ∙ sym d.1, d.2)

@@ -3,6 +3,7 @@ use Rattle.cordyceps_queue.specs.Shared.View.{bit_of}
 use Rattle.cordyceps_shared.specs.Places.{ItemAt}
 use Rattle.cordyceps_queue.proofs.SharedTheory.WordsAsMachine.{at_after}
 use Rattle.cordyceps_queue.proofs.SharedTheory.UsesWrite.{gives_back}
+use Rattle.cordyceps_queue.proofs.SharedTheory.StepTells.{told}
 use Rattle.cordyceps_queue.proofs.shared.steps.give.Goals as goal
 
 pub overflow_add-pointer : goal.overflow_add-pointer
@@ -30,7 +31,7 @@ store-requires g c =
 pub returns-clause-rest : goal.returns-clause-rest
 returns-clause-rest g c =
     let q = c.requires.holding.right in
-    let b = c.store.ensures.2 c.args.tail.room q.stage in record {
+    let b = (told c.store.ensures) c.args.tail.room q.stage in record {
       stage = b.stage;
       back = b.back;
       hand = b.hand;
@@ -39,4 +40,4 @@ returns-clause-rest g c =
     }
 
 pub returns-clause-answer : goal.returns-clause-answer
-returns-clause-answer g c = c.store.ensures.2 c.args.tail.room c.requires.holding.right.stage
+returns-clause-answer g c = (told c.store.ensures) c.args.tail.room c.requires.holding.right.stage

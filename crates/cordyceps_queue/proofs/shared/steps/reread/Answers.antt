@@ -3,6 +3,7 @@ use Rattle.cordyceps_queue.specs.Shared.Bits.{Knows}
 use Rattle.cordyceps_queue.proofs.SharedTheory.PartsJoin.{stage_hand, none_near, may_join}
 use Rattle.cordyceps_queue.proofs.SharedTheory.UsesKeep.{reads_again}
 use Rattle.cordyceps_queue.proofs.SharedTheory.UsesWrite.{reads_for, match_map, still_has}
+use Rattle.cordyceps_queue.proofs.SharedTheory.StepTells.{told}
 use Rattle.cordyceps_queue.proofs.shared.steps.reread.Goals as goal
 
 pub load-requires : goal.load-requires
@@ -19,7 +20,7 @@ load-requires g c =
 pub leads_to-requires : goal.leads_to-requires
 leads_to-requires g c =
     let f = reads_for c.args.seat.now.me c.load.new.seat.me c.args.tail c.load.result _ c.requires.knows
-    (c.load.ensures.2.1 c.args.tail.room c.requires.stage.0.stage) in
+    ((told c.load.ensures).1 c.args.tail.room c.requires.stage.0.stage) in
     (f.next, f.to, f.read)
 
 pub returns-clause-answer : goal.returns-clause-answer
@@ -27,9 +28,9 @@ returns-clause-answer g c =
     let m = c.args.seat.now.me in
     let k = c.load.new.seat.me in
     let at = c.requires.stage.0.stage in
-    let f = reads_for m k c.args.tail c.load.result _ c.requires.knows (c.load.ensures.2.1 c.args.tail.room at) in
-    let told = f.told c.args.tail.room at in
+    let f = reads_for m k c.args.tail c.load.result _ c.requires.knows ((told c.load.ensures).1 c.args.tail.room at) in
+    let tells = f.told c.args.tail.room at in
     match_map c.leads_to.result
-    (λ none. let t = told.0 none in (t.0, t.1, still_has m k c.args.tail c.load.ensures.2.0 (subst (λ l. Knows l c.args.tail.room) (sym at) refl) c.requires.knows))
-    (λ r e. (told.1 r.room e.0, f.knows r e.0 e.1))
+    (λ none. let t = tells.0 none in (t.0, t.1, still_has m k c.args.tail (told c.load.ensures).0 (subst (λ l. Knows l c.args.tail.room) (sym at) refl) c.requires.knows))
+    (λ r e. (tells.1 r.room e.0, f.knows r e.0 e.1))
     (c.leads_to.ensures f.next f.to f.read)

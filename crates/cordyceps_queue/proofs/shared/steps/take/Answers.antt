@@ -7,6 +7,7 @@ use Rattle.cordyceps_queue.specs.Shared.Parts.{AsksRight}
 use Rattle.cordyceps_queue.specs.Shared.Plays.{carry}
 use Rattle.cordyceps_queue.proofs.SharedTheory.UsesWrite.{asks_right}
 use Rattle.cordyceps_queue.proofs.SharedTheory.PartsJoin.{takes_by, none_near, may_join}
+use Rattle.cordyceps_queue.proofs.SharedTheory.StepTells.{told}
 use Rattle.cordyceps_queue.proofs.shared.steps.take.Goals as goal
 
 pub swap-requires : goal.swap-requires
@@ -21,13 +22,13 @@ swap-requires g c =
 
 pub returns-clause-took : goal.returns-clause-took
 returns-clause-took g c =
-    let u = c.swap.ensures.2 in
+    let u = told c.swap.ensures in
     let e = c.pointed.ensures u.right u.bit u.found_is u.is_bit in
     subst (λ n. AsksRight c.args.words.now.table_id.slots n c.args.seat.now.me c.swap.new.seat.me) (sym e.0)
     (takes_by (step c.args.words.now.table_id.slots RIGHT 0 0 none) _ _ c.requires.rest _ u.told)
 
 pub returns-clause-knows : goal.returns-clause-knows
 returns-clause-knows g c t is =
-    let u = c.swap.ensures.2 in
+    let u = told c.swap.ensures in
     let e = c.pointed.ensures u.right u.bit u.found_is u.is_bit in
     (u.knows t (sym e.0 ∙ is) ∙ sym e.1, subst IsBit (sym e.1) u.is_bit)

@@ -2,6 +2,7 @@ use Rattle.std.proofs.Common.{refl, sym, subst, ◌∙◌, rules}
 use Rattle.cordyceps_queue.specs.Shared.Bits.{Knows}
 use Rattle.cordyceps_queue.proofs.SharedTheory.PartsJoin.{stage_hand, none_near, may_join}
 use Rattle.cordyceps_queue.proofs.SharedTheory.UsesWrite.{stub_begins, still_has}
+use Rattle.cordyceps_queue.proofs.SharedTheory.StepTells.{told}
 use Rattle.cordyceps_queue.proofs.shared.stub_steps.clear_stub.Goals as goal
 
 pub load-requires : goal.load-requires
@@ -15,11 +16,11 @@ load-requires g c =
     )
 
 pub returns-clause-answer : goal.returns-clause-answer
-returns-clause-answer g c = c.load.ensures.2.1.told c.args._tail.room c.requires.stage.stage
+returns-clause-answer g c = (told c.load.ensures).1.told c.args._tail.room c.requires.stage.stage
 
 pub returns-clause-knows : goal.returns-clause-knows
 returns-clause-knows g c =
-    let u = c.load.ensures.2 in
+    let u = told c.load.ensures in
     let d = c.free_link.ensures u.1.next u.1.to u.1.bit u.1.link in (
       still_has c.args.seat.now.me c.load.new.seat.me c.args._tail u.0
           (subst (λ l. Knows l c.args._tail.room) (sym c.requires.stage.stage) refl) c.requires.knows,

@@ -3,6 +3,7 @@ use Rattle.cordyceps_queue.specs.Shared.Bits.{Knows}
 use Rattle.cordyceps_queue.proofs.SharedTheory.PartsJoin.{stage_hand, none_near, may_join}
 use Rattle.cordyceps_queue.proofs.SharedTheory.UsesKeep.{heads_of}
 use Rattle.cordyceps_queue.proofs.SharedTheory.UsesWrite.{still_has}
+use Rattle.cordyceps_queue.proofs.SharedTheory.StepTells.{told}
 use Rattle.cordyceps_queue.proofs.shared.stub_steps.is_head.Goals as goal
 
 pub load-requires : goal.load-requires
@@ -16,5 +17,5 @@ load-requires g c =
     )
 
 pub returns-clause-knows : goal.returns-clause-knows
-returns-clause-knows g c = still_has c.args.seat.now.me c.load.new.seat.me c.args.tail c.load.ensures.2.0
+returns-clause-knows g c = still_has c.args.seat.now.me c.load.new.seat.me c.args.tail (told c.load.ensures).0
     (subst (λ l. Knows l c.args.tail.room) (sym c.requires.stage.0.stage) refl) c.requires.knows

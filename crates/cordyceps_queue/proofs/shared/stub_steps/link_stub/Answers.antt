@@ -2,6 +2,7 @@ use Rattle.std.proofs.Common.{refl, sym, subst, inl, ◌∙◌, rules}
 use Rattle.cordyceps_queue.specs.Shared.Bits.{Knows}
 use Rattle.cordyceps_queue.proofs.SharedTheory.PartsJoin.{stage_hand, none_near, may_join}
 use Rattle.cordyceps_queue.proofs.SharedTheory.UsesWrite.{stub_linked, still_has, stub_link}
+use Rattle.cordyceps_queue.proofs.SharedTheory.StepTells.{told}
 use Rattle.cordyceps_queue.proofs.shared.stub_steps.link_stub.Goals as goal
 
 pub store-requires : goal.store-requires
@@ -20,9 +21,9 @@ store-requires g c =
     )
 
 pub returns-clause-answer : goal.returns-clause-answer
-returns-clause-answer g c = c.store.ensures.2.1 c.args._tail.room c.args.old.room c.requires.stage.0.stage
+returns-clause-answer g c = (told c.store.ensures).1 c.args._tail.room c.args.old.room c.requires.stage.0.stage
 
 pub returns-clause-knows : goal.returns-clause-knows
 returns-clause-knows g c =
-    still_has c.args.seat.now.me c.store.new.seat.me c.args._tail c.store.ensures.2.0
+    still_has c.args.seat.now.me c.store.new.seat.me c.args._tail (told c.store.ensures).0
     (subst (λ l. Knows l c.args._tail.room) (sym c.requires.stage.0.stage) (inl refl)) c.requires.knows.0

@@ -4,6 +4,7 @@ use Rattle.cordyceps_queue.specs.declared.shared.uses.RoomUse.{RoomUse}
 use Rattle.cordyceps_queue.proofs.SharedTheory.WordsAsMachine.{at_after}
 use Rattle.cordyceps_queue.proofs.SharedTheory.UsesKeep.{reads_stub}
 use Rattle.cordyceps_queue.proofs.SharedTheory.UsesWrite.{reads_for, match_map, still_has}
+use Rattle.cordyceps_queue.proofs.SharedTheory.StepTells.{told}
 use Rattle.cordyceps_queue.proofs.shared.stub_steps.look_first.Goals as goal
 
 pub load-requires : goal.load-requires
@@ -20,7 +21,7 @@ pub leads_to-requires : goal.leads_to-requires
 leads_to-requires g c =
     let u : RoomUse = record { room = 0; bit = c.args.bit } in
     let f = reads_for c.args.seat.now.me c.load.new.seat.me u c.load.result _ c.requires.knows
-    (c.load.ensures.2.1 c.requires.holding.right.stage) in
+    ((told c.load.ensures).1 c.requires.holding.right.stage) in
     (f.next, f.to, f.read)
 
 pub returns-clause-answer : goal.returns-clause-answer
@@ -28,18 +29,18 @@ returns-clause-answer g c =
     let m = c.args.seat.now.me in
     let k = c.load.new.seat.me in
     let u : RoomUse = record { room = 0; bit = c.args.bit } in
-    let f = reads_for m k u c.load.result _ c.requires.knows (c.load.ensures.2.1 c.requires.holding.right.stage) in
-    let told = f.told c.requires.holding.right.stage in
-    match_map c.leads_to.result (λ none. told.0 none) (λ r e. told.1 r.room e.0) (c.leads_to.ensures f.next f.to f.read)
+    let f = reads_for m k u c.load.result _ c.requires.knows ((told c.load.ensures).1 c.requires.holding.right.stage) in
+    let tells = f.told c.requires.holding.right.stage in
+    match_map c.leads_to.result (λ none. tells.0 none) (λ r e. tells.1 r.room e.0) (c.leads_to.ensures f.next f.to f.read)
 
 pub returns-clause-knows : goal.returns-clause-knows
 returns-clause-knows g c =
     let m = c.args.seat.now.me in
     let k = c.load.new.seat.me in
     let u : RoomUse = record { room = 0; bit = c.args.bit } in
-    let f = reads_for m k u c.load.result _ c.requires.knows (c.load.ensures.2.1 c.requires.holding.right.stage) in
+    let f = reads_for m k u c.load.result _ c.requires.knows ((told c.load.ensures).1 c.requires.holding.right.stage) in
     match_map c.leads_to.result
-    (λ none. still_has m k u c.load.ensures.2.0 (subst (λ l. Knows l 0) (sym c.requires.holding.right.stage) refl)
+    (λ none. still_has m k u (told c.load.ensures).0 (subst (λ l. Knows l 0) (sym c.requires.holding.right.stage) refl)
     c.requires.knows)
     (λ r e. f.knows r e.0 e.1)
     (c.leads_to.ensures f.next f.to f.read)

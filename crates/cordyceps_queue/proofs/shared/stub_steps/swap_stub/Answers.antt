@@ -2,6 +2,7 @@ use Rattle.std.proofs.Common.{refl, sym, subst, inl, inr, ◌∙◌, rules}
 use Rattle.cordyceps_queue.specs.Shared.Bits.{Knows}
 use Rattle.cordyceps_queue.proofs.SharedTheory.PartsJoin.{stage_hand, none_near, may_join}
 use Rattle.cordyceps_queue.proofs.SharedTheory.UsesWrite.{stub_swapped, stub_bits, still_has, finds_use}
+use Rattle.cordyceps_queue.proofs.SharedTheory.StepTells.{told}
 use Rattle.cordyceps_queue.proofs.shared.stub_steps.swap_stub.Goals as goal
 
 pub swap-requires : goal.swap-requires
@@ -17,12 +18,12 @@ swap-requires g c =
 
 pub returns-clause-answer : goal.returns-clause-answer
 returns-clause-answer g c =
-    let f = finds_use c.swap.new.seat.me c.swap.result c.pointed.result _ c.swap.ensures.2.1 c.pointed.ensures in
+    let f = finds_use c.swap.new.seat.me c.swap.result c.pointed.result _ (told c.swap.ensures).1 c.pointed.ensures in
     (f.1 c.args._tail.room c.requires.stage.stage).0
 
 pub returns-clause-near : goal.returns-clause-near
 returns-clause-near g c =
-    let f = finds_use c.swap.new.seat.me c.swap.result c.pointed.result _ c.swap.ensures.2.1 c.pointed.ensures in
+    let f = finds_use c.swap.new.seat.me c.swap.result c.pointed.result _ (told c.swap.ensures).1 c.pointed.ensures in
     (f.1 c.args._tail.room c.requires.stage.stage).1
 
 pub returns-clause-knows : goal.returns-clause-knows
@@ -30,8 +31,8 @@ returns-clause-knows g c =
     let m = c.args.seat.now.me in
     let k = c.swap.new.seat.me in
     let at = c.requires.stage.stage in
-    let f = finds_use k c.swap.result c.pointed.result _ c.swap.ensures.2.1 c.pointed.ensures in (
-      still_has m k c.args._tail c.swap.ensures.2.0 (subst (λ l. Knows l c.args._tail.room) (sym at) (inl refl)) c.requires.knows.0,
-      still_has m k c.args.stub c.swap.ensures.2.0 (subst (λ l. Knows l c.args.stub.room) (sym at) (inr c.requires.knows.2)) c.requires.knows.1,
+    let f = finds_use k c.swap.result c.pointed.result _ (told c.swap.ensures).1 c.pointed.ensures in (
+      still_has m k c.args._tail (told c.swap.ensures).0 (subst (λ l. Knows l c.args._tail.room) (sym at) (inl refl)) c.requires.knows.0,
+      still_has m k c.args.stub (told c.swap.ensures).0 (subst (λ l. Knows l c.args.stub.room) (sym at) (inr c.requires.knows.2)) c.requires.knows.1,
       f.0,
     )
