@@ -46,7 +46,7 @@ use Rattle.cordyceps_queue.proofs.SharedTheory.ReturnKeeps.{homes_given, give_al
 use Rattle.cordyceps_queue.proofs.SharedTheory.SpareKeeps.{skip_kept}
 use Rattle.cordyceps_queue.proofs.SharedTheory.UsesKeep.{plain_table, mine}
 use Rattle.cordyceps_queue.proofs.SharedTheory.UsesShare.{same_words}
-use Rattle.cordyceps_queue.proofs.SharedTheory.UsesSpell.{pool_links, spells_low}
+use Rattle.cordyceps_queue.proofs.SharedTheory.UsesSpell.{free_link_as, pool_links, spells_low}
 use Rattle.cordyceps_queue.proofs.SharedTheory.WordsAsMachine.{at_after, next_low, core, party_at, rooms_of, free_spare, spent_else}
 
 -- ---- the slots of the pool's rooms are taken
@@ -352,7 +352,7 @@ module _ {E : Type 0} where
             let here : ItemAt (v.free ++ v.back) (length v.free + length before) r = at_after v.free v.back (length before) r (subst (λ l. ItemAt l (length before) r) (sym back) (at_end before r)) in
             let f = own.free (length v.free + length before) r here in
             let lead = links_at k.words before [] r v.to (subst (λ l. Links k.words l v.to) back (k.plain.linked id v at named).1) in
-            record { view_is = refl; hand = a.empty; to = f.0; bit = f.1; is = subst (λ (z : ℕ × ℕ). IsLink z.0 z.1 f.0 f.1) (λ j. (ap (λ n. get_or s.words n 0) (sym is) j, lead j)) f.2 },
+            record { view_is = refl; hand = a.empty; link = free_link_as (ap (λ n. get_or s.words n 0) is) (sym lead) f },
       )
 
   -- ---- a load of the pool's word

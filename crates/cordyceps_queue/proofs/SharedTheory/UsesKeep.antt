@@ -21,7 +21,7 @@ use Rattle.cordyceps_queue.specs.declared.cores.stage.Stage.TheVariants.{Rest, C
 use Rattle.cordyceps_queue.specs.History.{Event}
 use Rattle.cordyceps_queue.specs.Cores.Abstract.{update}
 use Rattle.cordyceps_queue.specs.Cores.Meets.{Spare, tail_of}
-use Rattle.cordyceps_queue.specs.Shared.Bits.{IsBit, IsLink, IsOld, IsRead, Spells, Knows, Begun, KeepsUse, SpellsWords}
+use Rattle.cordyceps_queue.specs.Shared.Bits.{IsBit, IsFreeLink, IsLink, IsOld, IsRead, Spells, Knows, Begun, KeepsUse, SpellsWords}
 use Rattle.cordyceps_queue.specs.Shared.Plays.{SeatState, carry, MovesTo, HandsOut}
 use Rattle.cordyceps_queue.specs.Shared.Plays as plain
 use Rattle.cordyceps_queue.specs.Shared.Uses as play
@@ -32,7 +32,7 @@ use Rattle.cordyceps_queue.proofs.CoreTheory.HolderSteps.{keeping}
 use Rattle.cordyceps_queue.proofs.CoreTheory.ProducerSteps.{spare_shared, spare_pooled, ready_spare, spare_one}
 use Rattle.cordyceps_queue.proofs.SharedTheory.WordsAsMachine.{core, party_at, rooms_of, Becomes}
 use Rattle.cordyceps_queue.proofs.SharedTheory.EnqueueKeeps.{clears}
-use Rattle.cordyceps_queue.proofs.SharedTheory.UsesSpell.{place_of, begun_not_spare, spare_not_in, right_in, next_in, spells_begun, spells_low, pool_word, pool_links, spelt_read}
+use Rattle.cordyceps_queue.proofs.SharedTheory.UsesSpell.{SaysNext, free_link_as, place_of, begun_not_spare, spare_not_in, right_in, next_in, spells_begun, spells_low, pool_word, pool_links, spelt_read}
 use Rattle.cordyceps_queue.proofs.SharedTheory.HolderAllowed.{looks, reads_after}
 use Rattle.cordyceps_queue.proofs.SharedTheory.StubKeeps.{looks_stub, heads_stub, heads, rereads}
 
@@ -47,10 +47,10 @@ module _ {E : Type 0} where
 
   -- the rooms that a party has after a step were free, or are the tail that it passed: their links spell the plain ones
   pub free_after : (s : TableState E) (k : PlainHolds s) (uses : ℕ → ℕ) (words : List ℕ) (views : List (View E)) (v w : View E) (t : TableState E) → SpellsWords uses k.chain.rooms s.words words views → KeepsUse uses s.words words v → Becomes s k v w t
-      → (i x : ℕ) → ItemAt (w.free ++ w.back) i x → (to bit : ℕ) × IsLink (word.next words x) (word.next s.words x) to bit
+      → (i x : ℕ) → ItemAt (w.free ++ w.back) i x → IsFreeLink (word.next words x) (word.next s.words x)
   free_after s k uses words views v w t spells mine b i x a = elim (b.spare i x a) [
     | inl c ↦ mine.free c.0 x c.1
-    | inr c ↦ (uses c.1.0, uses x, subst (λ n. IsLink (word.next words x) n (uses c.1.0) (uses x)) (sym c.1.1) (subst (λ n. Spells uses x n (word.next words x)) c.1.1 (spells.links c.0.0 x c.0.1)))
+    | inr c ↦ free_link_as refl c.1.1 record { to = uses c.1.0; bit = uses x; is = subst (λ n. Spells uses x n (word.next words x)) c.1.1 (spells.links c.0.0 x c.0.1) }
   ]
 
   -- with other bits of the uses
@@ -64,8 +64,7 @@ module _ {E : Type 0} where
   begun_mine s k r c words views id v w t spells mine b at begun only old named = record {
     free = λ i x a.
         let ne : x ≢ r = λ e. begun_not_spare t b.now id id w r at named begun (ap b.now.chain.owner (sym e) ∙ (rooms_of t b.now id w at named).own i x a) in
-        let f = free_after s (with_use s k r c) (bit_of k.uses) words views v w t spells mine b i x a in
-        (f.0, f.1, subst (λ n. IsLink (word.next words x) n f.0 f.1) (sym (next_beside_next s.words r x 0 ne)) f.2);
+        free_link_as refl (next_beside_next s.words r x 0 ne) (free_after s (with_use s k r c) (bit_of k.uses) words views v w t spells mine b i x a);
     begun = λ x o. subst (λ y. IsOld (update (bit_of k.uses) r c y) (word.next words y)) (sym (only x o)) (subst (λ d. IsOld d (word.next words r)) (sym (put_same (bit_of k.uses) r c)) old);
     knows = λ x o. ap (λ l. bit_of l x) b.bits;
   }
@@ -79,8 +78,8 @@ module _ {E : Type 0} where
       let mine = k.spells.each id me.0 at named in
       let here : ItemAt (me.0.free ++ me.0.back) 0 r = subst (λ l. ItemAt (l ++ me.0.back) 0 r) (sym free) refl in
       let f = mine.free 0 r here in
-      let c = 1 - f.1 in
-      let old = now_old (word.next s.words r) (word.next k.words r) f.0 f.1 f.2 in
+      let c = 1 - f.bit in
+      let old = now_old (word.next s.words r) (word.next k.words r) f.to f.bit f.is in
       let owned : p.chain.owner r ≡ Spare id = (rooms_of q p id me.0 at named).own 0 r here in
       let b = clears slots id i me r rs item e is chosen idle bare free named q (with_use q p r c) deep at in
       let w = b.0.view in
@@ -99,14 +98,14 @@ module _ {E : Type 0} where
       (p.meets.last.at, p.meets.last.head_at)
       (subst (λ z. (j x : ℕ) → ItemAt b.0.becomes.now.chain.rooms j x
       → (x ≡ word.head (set k.words z 0)) ⊎ ((l : ℕ) × ItemAt p.chain.rooms l x)) is b.0.becomes.rooms)
-      (λ j u ne there some_name. (
-        (λ l a. ne (spare_one ((rooms_of q p j u there some_name).own l r a) owned)),
-        (λ o. begun_not_spare q p j id u r there some_name o owned),
-        (λ o. elim (place_of q p j u r there some_name o) [
+      (λ j u ne there some_name. record {
+        not_free = λ l a. ne (spare_one ((rooms_of q p j u there some_name).own l r a) owned);
+        not_begun = λ o. begun_not_spare q p j id u r there some_name o owned;
+        not_known = λ o. elim (place_of q p j u r there some_name o) [
           | inl a ↦ spare_not_in q p id r a.0 owned a.1
           | inr z ↦ elim z [ inl ready ↦ ready_spare ready owned | inr stub ↦ spare_shared owned (ap p.chain.owner stub.0 ∙ p.meets.stub) ]
-        ]),
-      ))
+        ];
+      })
       (begun_mine q p r c s.words s.views id me.0 w t k.spells mine b.0.becomes there
       (subst (λ z. Begun z r) (sym stage) refl) (λ x o. subst (λ z. Begun z x) stage o) old.0)
       k.spells in
@@ -133,9 +132,9 @@ module _ {E : Type 0} where
         },
         record {
           next = word.next k.words r;
-          to = f.0;
-          bit = f.1;
-          link = subst (λ n. IsLink (get_or s.words n 0) (word.next k.words r) f.0 f.1) index f.2;
+          to = f.to;
+          bit = f.bit;
+          link = subst (λ n. IsLink (get_or s.words n 0) (word.next k.words r) f.to f.bit) index f.is;
           knows = λ x xs g. ap (λ l. bit_of l x) b.0.becomes.bits
               ∙ (ap (λ n. bit_of ((r, c) ∷ p.uses) n) (sym (firsts x xs g)) ∙ put_same (bit_of p.uses) r c);
           told = subst (λ n. plain.after_clear item (step slots i 0 0 none) me n (w, carried_after me.1 b.0.act))
@@ -201,10 +200,8 @@ module _ {E : Type 0} (s : TableState E) (k : RuleHolds s) (id : ℕ) (v : View 
   tail_in t has = (keeping (core q k.plain) k.plain.chain (reverse (events k.plain.history)) k.plain.meets id (party v) (party_at q k.plain id v at named) t has).tail
 
   -- what a link says of a room in the queue whose bit the party knows
-  pub link_read : (t i : ℕ) → ItemAt k.plain.chain.rooms i t → Knows v.stage t → (to : ℕ) × IsRead (bit_of v.bits t) (word.next s.words t) (word.next k.words t) to × ((r : ℕ) → word.next k.words t ≡ suc r → bit_of k.plain.uses r ≡ to)
-  link_read t i a o =
-      let r = spelt_read (bit_of k.plain.uses) t (word.next k.words t) (word.next s.words t) (k.spells.links i t a) in
-      (r.0, subst (λ b. IsRead b (word.next s.words t) (word.next k.words t) r.0) (sym (mine.knows t o)) r.1, r.2)
+  pub link_read : (t i : ℕ) → ItemAt k.plain.chain.rooms i t → Knows v.stage t → SaysNext (bit_of k.plain.uses) (bit_of v.bits t) (word.next k.words t) (word.next s.words t)
+  link_read t i a o = subst (λ b. SaysNext (bit_of k.plain.uses) b (word.next k.words t) (word.next s.words t)) (sym (mine.knows t o)) (spelt_read (bit_of k.plain.uses) t (word.next k.words t) (word.next s.words t) (k.spells.links i t a))
 
 module _ {E : Type 0} where
   -- no use begins at a read of a link
@@ -230,11 +227,12 @@ module _ {E : Type 0} (slots id : ℕ) (me : SeatState E) (hand : me.1 ≡ carry
       let there_plain = ap (λ n. get_or k.words n 0) is in
       record {
         next = get_or k.words i 0;
-        to = r.0;
-        read = subst (λ (n : ℕ × ℕ × ℕ). IsRead (bit_of me.0.bits n.0) n.1 n.2 r.0)
-            (λ l. (same l, sym there l, sym there_plain l)) r.1;
+        to = r.to;
+        read = subst (λ n. IsRead (bit_of me.0.bits u) n (get_or k.words i 0) r.to) (sym there)
+            (subst (λ (n : ℕ × ℕ). IsRead (bit_of me.0.bits n.0) (word.next s.words t) n.1 r.to)
+            (λ l. (same l, sym there_plain l)) r.read);
         knows = λ y e. ap (λ (x : View E). bit_of x.bits y) is_w
-            ∙ (ap (λ l. bit_of l y) b.bits ∙ r.2 y (sym there_plain ∙ e));
+            ∙ (ap (λ l. bit_of l y) b.bits ∙ r.knows y (sym there_plain ∙ e));
         told = told;
       }
 

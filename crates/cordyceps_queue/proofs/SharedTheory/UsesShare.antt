@@ -20,7 +20,7 @@ use Rattle.cordyceps_shared.proofs.Words.{next_set, next_beside_next, pool_besid
 use Rattle.cordyceps_queue.specs.declared.cores.stage.Stage.TheVariants.{Rest}
 use Rattle.cordyceps_queue.specs.History.{actor}
 use Rattle.cordyceps_queue.specs.Cores.Meets.{Spare}
-use Rattle.cordyceps_queue.specs.Shared.Bits.{IsLink, IsOld, IsRight, Spells, SpellsFree, Knows, Begun, KeepsUse, SpellsWords}
+use Rattle.cordyceps_queue.specs.Shared.Bits.{IsFreeLink, IsOld, IsRight, Spells, SpellsFree, Knows, Begun, KeepsUse, SpellsWords}
 use Rattle.cordyceps_queue.specs.Shared.Parting.{view_keeping, view_giving, view_absorbing, view_absorbed, view_without_told, after_learn}
 use Rattle.cordyceps_queue.specs.Shared.Parts.{AreNew, AreNewWords}
 use Rattle.cordyceps_queue.specs.Shared.Plays.{SeatState, LegalReversed}
@@ -34,7 +34,7 @@ use Rattle.cordyceps_queue.proofs.SharedTheory.SpareKeeps.{tied_kept, skip_kept}
 use Rattle.cordyceps_queue.proofs.SharedTheory.PartingKeeps.{opens, cut_kept, joint_kept, forgot_kept, legal_front, at_down_from}
 use Rattle.cordyceps_queue.proofs.SharedTheory.SeatNames.{few_rooms, rest_linked, rest_unheld}
 use Rattle.cordyceps_queue.proofs.SharedTheory.UsesKeep.{plain_table, mine}
-use Rattle.cordyceps_queue.proofs.SharedTheory.UsesSpell.{begun_not_spare, spare_not_in, spells_linked, pool_word, pool_links}
+use Rattle.cordyceps_queue.proofs.SharedTheory.UsesSpell.{free_link_as, begun_not_spare, spare_not_in, spells_linked, pool_word, pool_links}
 
 module _ {E : Type 0} (s : TableState E) (k : RuleHolds s) where
   -- the words, where only views change
@@ -80,11 +80,9 @@ module _ {E : Type 0} where
       let inside_too : LINKS + r < length s.words = let l = k.spells.long in omega arith in
       let after : KeepsUse (bit_of p.uses) (set k.words (LINKS + r) to) (set s.words (LINKS + r) n) w = record {
         free = λ j x a. elim (ℕ_discrete x r) [
-          | yes e ↦ subst (λ y. (l : ℕ) × (m : ℕ) × IsLink (word.next (set s.words (LINKS + r) n) y) (word.next (set k.words (LINKS + r) to) y) l m) (sym e)
-              (0, 0, subst (λ (y : ℕ × ℕ). IsLink y.0 y.1 0 0) (λ l. (sym (next_set s.words r n inside_too) l, sym (next_set k.words r to inside_words) l)) (omega arith, omega arith, omega arith))
-          | no ne ↦
-              let f = own.free j x a in
-              (f.0, f.1, subst (λ (y : ℕ × ℕ). IsLink y.0 y.1 f.0 f.1) (λ l. (sym (next_beside_next s.words r x n ne) l, sym (next_beside_next k.words r x to ne) l)) f.2)
+          | yes e ↦ subst (λ y. IsFreeLink (word.next (set s.words (LINKS + r) n) y) (word.next (set k.words (LINKS + r) to) y)) (sym e)
+              (free_link_as (next_set s.words r n inside_too) (next_set k.words r to inside_words) (record { to = 0; bit = 0; is = (omega arith, omega arith, omega arith) }))
+          | no ne ↦ free_link_as (next_beside_next s.words r x n ne) (next_beside_next k.words r x to ne) (own.free j x a)
         ];
         begun = λ x o. subst (λ y. IsOld (bit_of p.uses x) y) (sym (next_beside_next s.words r x n (λ e. begun_not_spare q p id id v x at named o (ap p.chain.owner e ∙ owned)))) (own.begun x o);
         knows = own.knows;
@@ -122,7 +120,7 @@ module _ {E : Type 0} where
         λ before after r free is.
             let f = (mine s k id v at named).free (length before) r (at_more v.free v.back (length before) r (subst (λ l. ItemAt l (length before) r) (sym free) (in_mid before after r))) in
             let lead = links_at k.words before after r v.end (subst (λ l. Links k.words l v.end) free (k.plain.linked id v at named).0) in
-            (refl, (f.0, f.1, subst (λ (z : ℕ × ℕ). IsLink z.0 z.1 f.0 f.1) (λ j. (ap (λ n. get_or s.words n 0) (sym is) j, lead j)) f.2)),
+            (refl, free_link_as (ap (λ n. get_or s.words n 0) is) (sym lead) f),
       )
     where
       in_mid : (xs ys : List ℕ) (r : ℕ) → ItemAt (xs ++ r ∷ ys) (length xs) r
@@ -223,7 +221,7 @@ module _ (E : Type 0) where
                 let real = t.1 in
                 let l = is.linked r real (omega arith) in
                 let m = new.linked r (omega arith) in
-                (0, 0, (omega arith, omega arith, omega arith));
+                record { to = 0; bit = 0; is = (omega arith, omega arith, omega arith) };
             begun = λ r o. absurd o;
             knows = λ r o. absurd o;
           };

@@ -17,7 +17,7 @@ use Rattle.cordyceps_queue.specs.declared.cores.stage.Stage.TheVariants.{Rest, C
 use Rattle.cordyceps_queue.specs.History.{Event}
 use Rattle.cordyceps_queue.specs.Cores.Abstract.{AbstractMachine, update}
 use Rattle.cordyceps_queue.specs.Cores.Meets.{Owner, Spare, Ready, Chain, Joined, IsOut, AtStage, Meets}
-use Rattle.cordyceps_queue.specs.Shared.Bits.{IsBit, IsLink, IsOld, IsRead, IsRight, Spells, SpellsFree, Knows, Begun, KeepsUse, SpellsWords}
+use Rattle.cordyceps_queue.specs.Shared.Bits.{IsBit, IsFreeLink, IsLink, IsOld, IsRead, IsRight, Spells, SpellsFree, Knows, Begun, KeepsUse, SpellsWords}
 use Rattle.cordyceps_queue.specs.Shared.Rule.{TableState, link_of, party, PlainHolds}
 use Rattle.cordyceps_queue.specs.Shared.View.{View, name}
 use Rattle.cordyceps_queue.proofs.CoreTheory.Basics.{some_inj, none_some, some_none, suc_inj, zero_suc, at_within, put_same, put_other}
@@ -25,6 +25,10 @@ use Rattle.cordyceps_queue.proofs.CoreTheory.DequeueSteps.{free_right}
 use Rattle.cordyceps_queue.proofs.CoreTheory.HolderSteps.{at_some}
 use Rattle.cordyceps_queue.proofs.CoreTheory.ProducerSteps.{spare_shared, ready_shared, ready_spare}
 use Rattle.cordyceps_queue.proofs.SharedTheory.WordsAsMachine.{core, party_at, Among}
+
+-- the link of a free room is as it was, and so is the plain link
+pub free_link_as : {link next link' next' : ℕ} → link' ≡ link → next' ≡ next → IsFreeLink link next → IsFreeLink link' next'
+free_link_as same same' f = record { to = f.to; bit = f.bit; is = subst (λ (z : ℕ × ℕ). IsLink z.0 z.1 f.to f.bit) (λ j. (sym same j, sym same' j)) f.is }
 
 -- ---- the rooms that a party names
 -- such a room is in the queue, or the party has begun to use it
@@ -154,19 +158,25 @@ module _ (uses : ℕ → ℕ) (r c : ℕ) where
   ]
 
 module _ {E : Type 0} where
+  -- room r is no free one of the party, nor one on which it acts
+  pub record IsAnothers (v : View E) (r : ℕ) : Type 0 where
+    pub not_free : (i : ℕ) → ItemAt (v.free ++ v.back) i r → ⊥
+    pub not_begun : Begun v.stage r → ⊥
+    pub not_known : Knows v.stage r → ⊥
+
   -- a bystander, where a use of room r begins and its plain link becomes null
-  use_else : (uses : ℕ → ℕ) (r c : ℕ) (plain words : List ℕ) (v : View E) → ((i : ℕ) → ItemAt (v.free ++ v.back) i r → ⊥) → (Begun v.stage r → ⊥) → (Knows v.stage r → ⊥) → KeepsUse uses plain words v → KeepsUse (update uses r c) (set plain (LINKS + r) 0) words v
-  use_else uses r c plain words v not_free not_begun not_known k = record {
-    free = λ i x a. let f = k.free i x a in (f.0, f.1, subst (λ n. IsLink (word.next words x) n f.0 f.1) (sym (next_beside_next plain r x 0 (λ e. not_free i (subst (ItemAt (v.free ++ v.back) i) e a)))) f.2);
-    begun = λ x o. subst (λ b. IsOld b (word.next words x)) (sym (put_other uses r c x (λ e. not_begun (subst (Begun v.stage) e o)))) (k.begun x o);
-    knows = λ x o. k.knows x o ∙ sym (put_other uses r c x (λ e. not_known (subst (Knows v.stage) e o)));
+  use_else : (uses : ℕ → ℕ) (r c : ℕ) (plain words : List ℕ) (v : View E) → IsAnothers v r → KeepsUse uses plain words v → KeepsUse (update uses r c) (set plain (LINKS + r) 0) words v
+  use_else uses r c plain words v far k = record {
+    free = λ i x a. free_link_as refl (next_beside_next plain r x 0 (λ e. far.not_free i (subst (ItemAt (v.free ++ v.back) i) e a))) (k.free i x a);
+    begun = λ x o. subst (λ b. IsOld b (word.next words x)) (sym (put_other uses r c x (λ e. far.not_begun (subst (Begun v.stage) e o)))) (k.begun x o);
+    knows = λ x o. k.knows x o ∙ sym (put_other uses r c x (λ e. far.not_known (subst (Knows v.stage) e o)));
   }
 
   -- the words, where a use of room r begins, of which no word of the queue speaks
   pub spells_begun : (uses : ℕ → ℕ) (r c : ℕ) (rooms now plain words : List ℕ) (views : List (View E)) (id : ℕ) (w : View E) → IsBit c
       → ((i : ℕ) → ItemAt rooms i r → ⊥) → ((i x s : ℕ) → ItemAt rooms i x → word.next plain x ≡ suc s → s ≢ r) → ((t : ℕ) → word.right plain ≡ suc t → t ≢ r) → ((i : ℕ) × ItemAt rooms i (word.head plain))
       → Among (set plain (LINKS + r) 0) rooms now
-      → ((j : ℕ) (u : View E) → j ≢ id → get_elem? views j ≡ some u → u.known.share ≢ [] → ((i : ℕ) → ItemAt (u.free ++ u.back) i r → ⊥) × (Begun u.stage r → ⊥) × (Knows u.stage r → ⊥))
+      → ((j : ℕ) (u : View E) → j ≢ id → get_elem? views j ≡ some u → u.known.share ≢ [] → IsAnothers u r)
       → (w.known.share ≢ [] → KeepsUse (update uses r c) (set plain (LINKS + r) 0) words w)
       → SpellsWords uses rooms plain words views → SpellsWords (update uses r c) now (set plain (LINKS + r) 0) words (set views id w)
   spells_begun uses r c rooms now plain words views id w bit out to_other right_other head_at among others mine k =
@@ -183,7 +193,7 @@ module _ {E : Type 0} where
           | inr b ↦ still b.0 x b.1
         ];
         each = one_set (λ _ u. u.known.share ≢ [] → KeepsUse (update uses r c) (set plain (LINKS + r) 0) words u) views id w mine
-            (λ j u ne at named. let o = others j u ne at named in use_else uses r c plain words u o.0 o.1 o.2 (k.each j u at named));
+            (λ j u ne at named. use_else uses r c plain words u (others j u ne at named) (k.each j u at named));
       }
 
 -- ---- a word changes
@@ -191,7 +201,7 @@ module _ {E : Type 0} where
   -- a bystander, where no link changes
   use_low : (uses : ℕ → ℕ) (plain words plain' words' : List ℕ) (v : View E) → ((r : ℕ) → word.next plain' r ≡ word.next plain r) → ((r : ℕ) → word.next words' r ≡ word.next words r) → KeepsUse uses plain words v → KeepsUse uses plain' words' v
   use_low uses plain words plain' words' v same same' k = record {
-    free = λ i x a. let f = k.free i x a in (f.0, f.1, subst (λ (n : ℕ × ℕ). IsLink n.0 n.1 f.0 f.1) (λ j. (sym (same' x) j, sym (same x) j)) f.2);
+    free = λ i x a. free_link_as (same' x) (same x) (k.free i x a);
     begun = λ x o. subst (λ n. IsOld (uses x) n) (sym (same' x)) (k.begun x o);
     knows = k.knows;
   }
@@ -215,9 +225,8 @@ module _ {E : Type 0} where
   pub use_linked : (uses : ℕ → ℕ) (y n m : ℕ) (plain words : List ℕ) (v : View E) → ((i : ℕ) → ItemAt (v.free ++ v.back) i y → ⊥) → (Begun v.stage y → ⊥) → KeepsUse uses plain words v → KeepsUse uses (set plain (LINKS + y) n) (set words (LINKS + y) m) v
   use_linked uses y n m plain words v not_free not_begun k = record {
     free = λ i x a.
-        let f = k.free i x a in
         let ne : x ≢ y = λ e. not_free i (subst (ItemAt (v.free ++ v.back) i) e a) in
-        (f.0, f.1, subst (λ (z : ℕ × ℕ). IsLink z.0 z.1 f.0 f.1) (λ j. (sym (next_beside_next words y x m ne) j, sym (next_beside_next plain y x n ne) j)) f.2);
+        free_link_as (next_beside_next words y x m ne) (next_beside_next plain y x n ne) (k.free i x a);
     begun = λ x o. subst (λ z. IsOld (uses x) z) (sym (next_beside_next words y x m (λ e. not_begun (subst (Begun v.stage) e o)))) (k.begun x o);
     knows = k.knows;
   }
@@ -251,13 +260,26 @@ pool_word words words' pool pool' same is leads = subst (λ (z : ℕ × FreeChai
 
 pub pool_links : (plain words plain' words' : List ℕ) (pool pool' : FreeChain) → pool' ≡ pool → ((i r : ℕ) → ItemAt pool.rooms i r → (word.next words' r ≡ word.next words r) × (word.next plain' r ≡ word.next plain r)) → SpellsFree plain words pool.rooms → SpellsFree plain' words' pool'.rooms
 pool_links plain words plain' words' pool pool' is same free = subst (λ (z : FreeChain). SpellsFree plain' words' z.rooms) (sym is)
-    (λ i r a. let e = same i r a in let f = free i r a in (f.0, f.1, subst (λ (n : ℕ × ℕ). IsLink n.0 n.1 f.0 f.1) (λ j. (sym e.0 j, sym e.1 j)) f.2))
+    (λ i r a. let e = same i r a in free_link_as e.0 e.1 (free i r a))
 
 -- ---- what a word tells
-pub spelt_read : (uses : ℕ → ℕ) (t n x : ℕ) → Spells uses t n x → (to : ℕ) × IsRead (uses t) x n to × ((r : ℕ) → n ≡ suc r → uses r ≡ to)
-spelt_read uses t zero x k = (0, k, λ r e. absurd (zero_suc e))
-spelt_read uses t (suc s) x k = (uses s, k, λ r e. ap uses (suc_inj (sym e)))
+-- the link x, of a room whose use has this bit, where the plain link is n
+pub record SaysNext (uses : ℕ → ℕ) (bit n x : ℕ) : Type 0 where
+  pub to : ℕ
+  pub read : IsRead bit x n to
+  pub knows : (r : ℕ) → n ≡ suc r → uses r ≡ to
 
-pub spelt_right : (uses : ℕ → ℕ) (n x : ℕ) → ((t : ℕ) → IsBit (uses t)) → IsRight uses n x → (bit : ℕ) × (x ≡ 2 * n + bit) × IsBit bit × ((t : ℕ) → n ≡ suc t → uses t ≡ bit)
-spelt_right uses zero x bits k = (0, k, omega arith, λ t e. absurd (zero_suc e))
-spelt_right uses (suc t) x bits k = (uses t, k, bits t, λ u e. ap uses (suc_inj (sym e)))
+pub spelt_read : (uses : ℕ → ℕ) (t n x : ℕ) → Spells uses t n x → SaysNext uses (uses t) n x
+spelt_read uses t zero x k = record { to = 0; read = k; knows = λ r e. absurd (zero_suc e) }
+spelt_read uses t (suc s) x k = record { to = uses s; read = k; knows = λ r e. ap uses (suc_inj (sym e)) }
+
+-- the word x of the right, where the plain word is n
+pub record SaysRight (uses : ℕ → ℕ) (n x : ℕ) : Type 0 where
+  pub bit : ℕ
+  pub found_is : x ≡ 2 * n + bit
+  pub is_bit : IsBit bit
+  pub knows : (t : ℕ) → n ≡ suc t → uses t ≡ bit
+
+pub spelt_right : (uses : ℕ → ℕ) (n x : ℕ) → ((t : ℕ) → IsBit (uses t)) → IsRight uses n x → SaysRight uses n x
+spelt_right uses zero x bits k = record { bit = 0; found_is = k; is_bit = omega arith; knows = λ t e. absurd (zero_suc e) }
+spelt_right uses (suc t) x bits k = record { bit = uses t; found_is = k; is_bit = bits t; knows = λ u e. ap uses (suc_inj (sym e)) }

@@ -20,7 +20,7 @@ use Rattle.cordyceps_queue.specs.declared.shared.uses.RoomUse.{RoomUse}
 use Rattle.cordyceps_queue.specs.History.{Event}
 use Rattle.cordyceps_queue.specs.Cores.Abstract.{update}
 use Rattle.cordyceps_queue.specs.Cores.Meets.{AtStage}
-use Rattle.cordyceps_queue.specs.Shared.Bits.{IsBit, IsLink, IsRead, IsRight, Spells, Knows, Begun, SpellsWords}
+use Rattle.cordyceps_queue.specs.Shared.Bits.{IsBit, IsFreeLink, IsRead, IsRight, Spells, Knows, Begun, SpellsWords}
 use Rattle.cordyceps_queue.specs.Shared.Plays.{SeatState, carry}
 use Rattle.cordyceps_queue.specs.Shared.Uses as play
 use Rattle.cordyceps_queue.specs.Shared.Rule.{TableState, RuleHolds}
@@ -35,8 +35,8 @@ use Rattle.cordyceps_queue.proofs.SharedTheory.UsesKeep.{plain_table, with_use, 
 use Rattle.cordyceps_queue.proofs.SharedTheory.UsesSpell.{at_stage_of, place_of, begun_of, begun_not_in, spare_not_in, right_in, next_in, null_word, spells_begun, spells_low, use_linked, spells_linked, pool_word, pool_links, spelt_right}
 
 -- each number is a link of some use
-any_link : (n : ℕ) → (next to bit : ℕ) × IsLink n next to bit
-any_link n = (n / 4, n / 2 % 2, n % 2, (omega arith, omega arith, omega arith))
+any_link : (n : ℕ) → IsFreeLink n (n / 4)
+any_link n = record { to = n / 2 % 2; bit = n % 2; is = (omega arith, omega arith, omega arith) }
 
 module _ {E : Type 0} (s : TableState E) (k : RuleHolds s) (id : ℕ) (v : View E) (at : get_elem? s.views id ≡ some v) (named : v.known.share ≢ []) where
   -- the head becomes room r, of which a use has begun
@@ -275,10 +275,10 @@ module _ {E : Type 0} (slots id : ℕ) (me : SeatState E) (hand : me.1 ≡ carry
             (λ t e. (told.1 t e).0)),
         record {
           right = word.right k.words;
-          bit = r.0;
-          found_is = r.1;
-          is_bit = r.2;
-          knows = λ t e. ap (λ l. bit_of l t) b.0.becomes.bits ∙ r.3 t e;
+          bit = r.bit;
+          found_is = r.found_is;
+          is_bit = r.is_bit;
+          knows = λ t e. ap (λ l. bit_of l t) b.0.becomes.bits ∙ r.knows t e;
           told = b.1;
         },
       )
@@ -358,8 +358,8 @@ module _ {E : Type 0} (slots id : ℕ) (me : SeatState E) (hand : me.1 ≡ carry
       let own = mine s k id me.0 at named in
       let found = word.next s.words 0 in
       let l = any_link found in
-      let c = 1 - l.2 in
-      let old = now_old found l.0 l.1 l.2 l.3 in
+      let c = 1 - l.bit in
+      let old = now_old found (found / 4) l.to l.bit l.is in
       let f = subst (AtStage (core q p).head (core q p).next p.cell p.chain.owner p.chain.keeper p.chain.rooms (reverse (events p.history)) id (name me.0)) waits (at_stage_of q p id me.0 at named) in
       let kept : p.chain.keeper ≡ Some id = f.0.keeps.kept in
       let out : (j : ℕ) → ItemAt p.chain.rooms j 0 → ⊥ = f.1 in
@@ -375,17 +375,17 @@ module _ {E : Type 0} (slots id : ℕ) (me : SeatState E) (hand : me.1 ≡ carry
       (λ j x y a linked same. let o = next_in q p j x y a linked in out o.0 (subst (ItemAt p.chain.rooms o.0) same o.1))
       (λ y right same. out 0 (subst (ItemAt p.chain.rooms 0) same (right_in q p y right)))
       (p.meets.last.at, p.meets.last.head_at) b.0.becomes.rooms
-      (λ j u ne there_too some_name. (
-        (λ i a. spare_shared ((rooms_of q p j u there_too some_name).own i 0 a) p.meets.stub),
-        (λ o. elim (begun_of q p j u 0 there_too some_name o).0 [
+      (λ j u ne there_too some_name. record {
+        not_free = λ i a. spare_shared ((rooms_of q p j u there_too some_name).own i 0 a) p.meets.stub;
+        not_begun = λ o. elim (begun_of q p j u 0 there_too some_name o).0 [
           | inl ready ↦ ready_shared ready p.meets.stub
           | inr stub ↦ ne (some_inj (sym stub.1 ∙ kept))
-        ]),
-        (λ o. elim (place_of q p j u 0 there_too some_name o) [
+        ];
+        not_known = λ o. elim (place_of q p j u 0 there_too some_name o) [
           | inl a ↦ out a.0 a.1
           | inr y ↦ elim y [ inl ready ↦ ready_shared ready p.meets.stub | inr stub ↦ ne (some_inj (sym stub.1 ∙ kept)) ]
-        ]),
-      ))
+        ];
+      })
       (begun_mine q p 0 c s.words s.views id me.0 w z k.spells own b.0.becomes there
       (subst (λ y. Begun y 0) (sym stage) refl) (λ x o. subst (λ y. Begun y x) stage o) old.0)
       k.spells in
@@ -409,10 +409,10 @@ module _ {E : Type 0} (slots id : ℕ) (me : SeatState E) (hand : me.1 ≡ carry
               ∙ (put_other (bit_of p.uses) 0 c r (λ e. f.0.is_real (sym (subst (λ y. Knows y r) waits o) ∙ e))
               ∙ sym (own.knows r o))),
           record {
-            next = l.0;
-            to = l.1;
-            bit = l.2;
-            link = l.3;
+            next = found / 4;
+            to = l.to;
+            bit = l.bit;
+            link = l.is;
             knows = ap (λ y. bit_of y 0) b.0.becomes.bits ∙ put_same (bit_of p.uses) 0 c;
             told = b.1;
           },

@@ -18,6 +18,12 @@ IsBit b = b < 2
 abbrev pub IsLink : ℕ → ℕ → ℕ → ℕ → Type 0
 IsLink link next to bit = (link ≡ 4 * next + 2 * to + bit) × IsBit to × IsBit bit
 
+-- a link word that leads to next, to and from whichever uses of the rooms
+pub record IsFreeLink (link next : ℕ) : Type 0 where
+  pub to : ℕ
+  pub bit : ℕ
+  pub is : IsLink link next to bit
+
 -- a link word of a room whose use has this bit is one of an earlier use
 abbrev pub IsOld : ℕ → ℕ → Type 0
 IsOld bit link = (y : ℕ) × (link ≡ 2 * y + (1 - bit)) × IsBit bit
@@ -55,8 +61,7 @@ IsRight uses (suc t) x = x ≡ 2 * suc t + uses t
 
 -- the links of these rooms, which are free, lead where their plain links do, to whichever use
 abbrev pub SpellsFree : List ℕ → List ℕ → List ℕ → Type 0
-SpellsFree plain words rooms = (i r : ℕ) → ItemAt rooms i r →
-    (to bit : ℕ) × IsLink (word.next words r) (word.next plain r) to bit
+SpellsFree plain words rooms = (i r : ℕ) → ItemAt rooms i r → IsFreeLink (word.next words r) (word.next plain r)
 
 -- the link of a room in use: null, or it leads to a room in its present use
 abbrev pub Spells : (ℕ → ℕ) → ℕ → ℕ → ℕ → Type 0

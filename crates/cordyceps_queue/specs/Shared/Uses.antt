@@ -6,7 +6,7 @@ use Rattle.cordyceps_shared.specs.Slots.{TableStep, view, hand}
 use Rattle.cordyceps_shared.specs.declared.layout.TheConstants.{LINKS}
 use Rattle.cordyceps_queue.specs.declared.cores.stage.Stage.TheVariants.{Holding, Second, PutRead}
 use Rattle.cordyceps_queue.specs.declared.shared.uses.RoomUse.{RoomUse}
-use Rattle.cordyceps_queue.specs.Shared.Bits.{IsBit, IsLink, IsRead, Knows}
+use Rattle.cordyceps_queue.specs.Shared.Bits.{IsBit, IsLink, IsFreeLink, IsRead, Knows}
 use Rattle.cordyceps_queue.specs.Shared.Plays.{SeatState}
 use Rattle.cordyceps_queue.specs.Shared.Plays as plain
 use Rattle.cordyceps_queue.specs.Shared.View.{bit_of, view_returned}
@@ -61,7 +61,7 @@ module _ {E : Type 0} where
   abbrev pub after_skip : TableStep E → SeatState E → ℕ → SeatState E → Type 0
   after_skip st m found k = (before after : List ℕ) (r : ℕ) → (view m).free ≡ before ++ r ∷ after
       → st.word ≡ LINKS + r
-      → (k ≡ m) × ((to bit : ℕ) × IsLink found (leads after (view m).end) to bit)
+      → (k ≡ m) × IsFreeLink found (leads after (view m).end)
 
   -- a swap of the right: 0, or 1 more than the tail, whose bit the party then knows
   pub record FindsRight (st : TableStep E) (m : SeatState E) (found : ℕ) (k : SeatState E) : Type 0 where
@@ -125,9 +125,7 @@ module _ {E : Type 0} where
   pub record HasGathered (found : ℕ) (m k : SeatState E) : Type 0 where
     pub view_is : view k ≡ view_returned (view m)
     pub hand : hand k ≡ []
-    pub to : ℕ
-    pub bit : ℕ
-    pub is : IsLink found (view m).to to bit
+    pub link : IsFreeLink found (view m).to
 
   abbrev pub after_gather : TableStep E → SeatState E → ℕ → SeatState E → Type 0
   after_gather st m found k = (before : List ℕ) (r : ℕ) → (view m).back ≡ before ++ r ∷ [] → st.word ≡ LINKS + r

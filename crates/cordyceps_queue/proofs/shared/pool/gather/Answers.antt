@@ -31,4 +31,4 @@ pub returns-clause-end : goal.returns-clause-end
 returns-clause-end g c =
     let l = c.requires.last in
     let t = (told c.load.ensures) l.0 c.args.last l.1 refl in
-    (c.free_link.ensures c.args.seat.now.me.0.to t.to t.bit t.is).0
+    (c.free_link.ensures c.args.seat.now.me.0.to t.link.to t.link.bit t.link.is).0
