@@ -5,11 +5,11 @@ use Rattle.cordyceps_queue.specs.declared.cores.stage.Stage.TheVariants.{Rest}
 use Rattle.cordyceps_queue.specs.Cores.Abstract.{AbstractParty, AbstractMachine, update, insert_room, add_party, add_room}
 use Rattle.cordyceps_queue.specs.Cores.Meets.{Owner, Shared, Spare, Ready, Unmade, Chain, OwnsRooms, Joined, IsStranger, AtStage, RightIs, Meets}
 use Rattle.cordyceps_queue.specs.Cores.StepKeeps.{AddsKeep}
-use Rattle.cordyceps_queue.proofs.CoreTheory.Basics.{none_some, put_same, put_other, put_all}
+use Rattle.cordyceps_queue.proofs.CoreTheory.Basics.{owner_else, owns_else, none_some, put_same, put_other, put_all}
 use Rattle.cordyceps_queue.proofs.CoreTheory.OtherParties.{fits_dealt, goes_dealt, taken_with}
 use Rattle.cordyceps_queue.proofs.CoreTheory.StepLeaves.{chain_dealt, joined_still, moves_on, right_kept, rooms_on}
 use Rattle.cordyceps_queue.proofs.CoreTheory.ProducerSteps.{spare_unmade, ready_unmade, shared_unmade}
-use Rattle.cordyceps_queue.proofs.CoreTheory.ChainShrinks.{room_was, room_once}
+use Rattle.cordyceps_queue.proofs.CoreTheory.ChainShrinks.{owns_insert}
 
 module _ {P E : Type 0} (m : AbstractMachine P E) (c : Chain) (h : List (Event P E)) (M : Meets m c h) (k : ℕ) where
   module _ (name : P) (absent : m.party k ≡ None) (fresh : IsStranger m.party name) where
@@ -63,28 +63,13 @@ module _ {P E : Type 0} (m : AbstractMachine P E) (c : Chain) (h : List (Event P
     is_new : c.owner new_room ≡ Unmade
     is_new = M.unmade new_room (omega arith)
 
-    kept_owner : (x : ℕ) (o : Owner) → c.owner x ≡ o → (o ≡ Unmade → ⊥) → owner' x ≡ o
-    kept_owner x o e ne = put_other c.owner new_room (Spare k) x (λ s. ne (sym e ∙ ap c.owner s ∙ is_new)) ∙ e
-
     still_ready : (j x : ℕ) → c.owner x ≡ Ready j → owner' x ≡ Ready j
-    still_ready j x e = kept_owner x (Ready j) e (λ e. ready_unmade refl e)
-
-    rooms_still : (j : ℕ) (s : List ℕ) → OwnsRooms c.owner j s → OwnsRooms owner' j s
-    rooms_still j s R = record { own = λ i x ix. kept_owner x (Spare j) (R.own i x ix) (λ e. spare_unmade refl e); once = R.once }
-
-    rooms_grow : OwnsRooms c.owner k p.spare → OwnsRooms owner' k (insert_room new_room p.spare)
-    rooms_grow R = record {
-      own = λ i x ix. elim (room_was new_room p.spare x i ix) [
-        | inl s ↦ ap owner' s ∙ put_same c.owner new_room (Spare k)
-        | inr w ↦ kept_owner x (Spare k) (R.own w.0 x w.1) (λ e. spare_unmade refl e)
-      ];
-      once = room_once new_room p.spare (λ i a. spare_unmade (R.own i new_room a) is_new) R.once;
-    }
+    still_ready j x e = owner_else c.owner new_room (Spare k) e (λ u. ready_unmade u is_new)
 
     room_keeps : Meets (add_room m k p) (record c { owner = owner' }) h
     room_keeps = moves_on m c h M k p at p.stage (insert_room new_room p.spare) (add_room m k p) (record c { owner = owner' }) h record {
       legal = M.legal;
-      chain = chain_dealt m c h M (suc m.count) owner' (λ x e. kept_owner x Shared e (λ e. shared_unmade refl e))
+      chain = chain_dealt m c h M (suc m.count) owner' (λ x e. owner_else c.owner new_room (Spare k) e (λ u. shared_unmade u is_new))
           (λ x lt. put_other c.owner new_room (Spare k) x (λ s. absurd (omega arith)) ∙ M.unmade x (omega arith));
       ends = M.ends;
       joined = joined_still m c h M k p at p.stage (insert_room new_room p.spare) (λ a b o. o);
@@ -92,7 +77,8 @@ module _ {P E : Type 0} (m : AbstractMachine P E) (c : Chain) (h : List (Event P
       right = right_kept m c h M k p at p.stage (insert_room new_room p.spare) refl;
       goes = λ j q _ _. goes_dealt (still_ready j);
       mine = fits_dealt m c h owner' k p.name (still_ready k) p.stage (M.fits k p at);
-      rooms = rooms_on m c h M k p at p.stage (insert_room new_room p.spare) owner' (λ j free _. rooms_still j free) (rooms_grow (M.rooms k p at));
+      rooms = rooms_on m c h M k p at p.stage (insert_room new_room p.spare) owner'
+          (λ j free _ R. owns_else c.owner new_room (Spare k) j free R (λ u. spare_unmade u is_new)) (owns_insert c.owner k new_room p.spare (M.rooms k p at) (λ u. spare_unmade u is_new));
       strangers = λ n _ s. s;
     }
 

@@ -8,7 +8,7 @@ use Rattle.cordyceps_queue.specs.History.{Event, Swap, Link, Take, Busy, Look, O
 use Rattle.cordyceps_queue.specs.Past.{held_reversed, IsSettled, IsOpen, IsPendingAt}
 use Rattle.cordyceps_queue.specs.Cores.Abstract.{update}
 use Rattle.cordyceps_shared.specs.Places.{ItemAt}
-use Rattle.cordyceps_queue.specs.Cores.Meets.{real, rank, Owner, Ready, HasReady, HasOpen}
+use Rattle.cordyceps_queue.specs.Cores.Meets.{real, rank, Owner, Ready, Spare, OwnsRooms, HasReady, HasOpen}
 
 pub some_inj : {A : Type 0} {a b : A} → Some a ≡ Some b → a ≡ b
 some_inj {A} {a} {b} e = ap (λ (o : Option A). elim o as (λ _. A) [ Some x ↦ x | None ↦ a ]) e
@@ -110,10 +110,6 @@ map_put {A} f r v (suc x ∷ xs) away =
     let here : update f r v (suc x) ≡ f (suc x) = put_other f r v (suc x) (λ e. away 0 (sym e)) in
     ap (λ (a : A). a ∷ map (update f r v) (real xs)) here ∙ ap (λ (l : List A). f (suc x) ∷ l) (map_put f r v xs (λ i. away (suc i)))
 
-pub length_map : {A B : Type 0} (f : A → B) (xs : List A) → length (map f xs) ≡ length xs
-length_map f [] = refl
-length_map f (x ∷ xs) = ap suc (length_map f xs)
-
 drop_less : {E : Type 0} (xs : List E) → length xs ≤ suc (length (drop 1 xs))
 drop_less [] = omega arith
 drop_less (x ∷ xs) = omega arith
@@ -171,6 +167,13 @@ times_once r (x ∷ xs) once = elim (ℕ_discrete x r) [
   | yes e ↦ omega (arith, ap (λ z. one_if (eqb z r)) e, one_here r, times_none r xs (λ i a. zero_suc (once 0 (suc i) (sym e) a)))
   | no ne ↦ omega (arith, one_else x r ne, times_once r xs (λ i j a b. suc_inj (once (suc i) (suc j) a b)))
 ]
+
+-- ---- one room has another owner
+pub owner_else : (owner : ℕ → Owner) (r : ℕ) (to : Owner) {x : ℕ} {o : Owner} → owner x ≡ o → (owner r ≡ o → ⊥) → update owner r to x ≡ o
+owner_else owner r to {x} is not = put_other owner r to x (λ s. not (ap owner (sym s) ∙ is)) ∙ is
+
+pub owns_else : (owner : ℕ → Owner) (r : ℕ) (to : Owner) (j : ℕ) (free : List ℕ) → OwnsRooms owner j free → (owner r ≡ Spare j → ⊥) → OwnsRooms (update owner r to) j free
+owns_else owner r to j free R not = record { own = λ i x a. owner_else owner r to (R.own i x a) not; once = R.once }
 
 -- ---- a party at its stage, by other words, or after another history
 pub ready_with : {P E : Type 0} {next next' : ℕ → Option ℕ} {cell cell' : ℕ → Option E} {owner owner' : ℕ → Owner}

@@ -1,19 +1,20 @@
 -- A room comes to the end of the chain.
 use Rattle.std.proofs.Common.{◌≡◌, ℕ, zero, suc, ◌<◌, ◌≤◌, ◌≢◌, List, [], ◌∷◌, ◌++◌, length, Option, Some, None, refl, sym, ap, ◌∙◌, subst, inl, inr, arith, length-append}
+use Rattle.std.proofs.lemmas.List.{length-map}
 use Rattle.cordyceps_queue.specs.History.{Event}
 use Rattle.cordyceps_queue.specs.Past.{held_reversed, holder_reversed, IsPendingAt}
 use Rattle.cordyceps_queue.specs.Cores.Abstract.{update, AbstractParty, AbstractMachine}
 use Rattle.cordyceps_shared.specs.Places.{ItemAt}
 use Rattle.cordyceps_queue.specs.Cores.Meets.{EndsAt, real, rank, Owes, Chain, Joined, HasOpen, RightIs, Meets}
 use Rattle.cordyceps_shared.proofs.Places.{at_end}
-use Rattle.cordyceps_queue.proofs.CoreTheory.Basics.{put_same, at_one, at_within, at_more, at_split, length_map, rank_more}
+use Rattle.cordyceps_queue.proofs.CoreTheory.Basics.{put_same, at_one, at_within, at_more, at_split, rank_more}
 use Rattle.cordyceps_queue.proofs.CoreTheory.OtherParties.{joined_put, taken_with}
 
 pub real_one : (r : ℕ) → r ≢ 0 → real (r ∷ []) ≡ r ∷ []
 real_one zero ne = absurd (ne refl)
 real_one (suc r) ne = refl
 
-real_within : (xs : List ℕ) → length (real xs) ≤ length xs
+pub real_within : (xs : List ℕ) → length (real xs) ≤ length xs
 real_within [] = omega arith
 real_within (zero ∷ xs) = let l = real_within xs in omega arith
 real_within (suc x ∷ xs) = let l = real_within xs in omega arith
@@ -49,7 +50,7 @@ open_more {P} {E} {next} {h} {h'} {name} {x} {old} rooms r f pending =
 
 module _ {P E : Type 0} (m : AbstractMachine P E) (c : Chain) (h : List (Event P E)) (M : Meets m c h) where
   pub held_length : length (real c.rooms) ≡ length (held_reversed h)
-  held_length = sym (length_map m.cell (real c.rooms)) ∙ ap length M.holds ∙ length_map Some (held_reversed h)
+  held_length = sym (length-map (real c.rooms) m.cell) ∙ ap length M.holds ∙ length-map (held_reversed h) Some
 
   -- where head is the tail, at most one element is held
   pub alone : (t : ℕ) → ItemAt c.rooms 0 t → m.head ≡ t → length (held_reversed h) < 2

@@ -2,10 +2,10 @@
 use Rattle.std.proofs.Common.{◌≡◌, ℕ, zero, suc, ◌≢◌, ◌⊎◌, Bool, true, false, cond, ltb, List, [], ◌∷◌, map, drop, length, Option, Some, refl, sym, ap, ◌∙◌, subst, inl, inr, arith}
 use Rattle.cordyceps_queue.specs.History.{Event}
 use Rattle.cordyceps_queue.specs.Past.{held_reversed, IsSettled, IsPendingAt}
-use Rattle.cordyceps_queue.specs.Cores.Abstract.{insert_room, AbstractMachine}
+use Rattle.cordyceps_queue.specs.Cores.Abstract.{insert_room, update, AbstractMachine}
 use Rattle.cordyceps_shared.specs.Places.{ItemAt}
-use Rattle.cordyceps_queue.specs.Cores.Meets.{EndsAt, real, rank, Owner, Ready, HasOpen, Chain, Joined, Meets}
-use Rattle.cordyceps_queue.proofs.CoreTheory.Basics.{ready_with, some_inj, some_none, zero_suc, suc_inj, at_one}
+use Rattle.cordyceps_queue.specs.Cores.Meets.{EndsAt, real, rank, Owner, Ready, Spare, OwnsRooms, HasOpen, Chain, Joined, Meets}
+use Rattle.cordyceps_queue.proofs.CoreTheory.Basics.{owner_else, put_same, ready_with, some_inj, some_none, zero_suc, suc_inj, at_one}
 use Rattle.cordyceps_queue.proofs.CoreTheory.OtherParties.{Goes}
 use Rattle.cordyceps_queue.proofs.CoreTheory.HolderSteps.{at_some}
 
@@ -96,6 +96,16 @@ room_once r (y ∷ ys) away once =
     (λ i a. elim (room_was r ys y i a) [ inl e ↦ away 0 (sym e) | inr w ↦ absurd (zero_suc (once 0 (suc w.0) y refl w.1)) ])
     (room_once r ys (λ i a. away (suc i) a) (λ i j x a b. suc_inj (once (suc i) (suc j) x a b))))
     (ltb r y)
+
+-- a room more for a party
+pub owns_insert : (owner : ℕ → Owner) (k r : ℕ) (free : List ℕ) → OwnsRooms owner k free → (owner r ≡ Spare k → ⊥) → OwnsRooms (update owner r (Spare k)) k (insert_room r free)
+owns_insert owner k r free R not = record {
+  own = λ i x a. elim (room_was r free x i a) [
+    | inl s ↦ ap (update owner r (Spare k)) s ∙ put_same owner r (Spare k)
+    | inr w ↦ owner_else owner r (Spare k) (R.own w.0 x w.1) not
+  ];
+  once = room_once r free (λ i a. not (R.own i r a)) R.once;
+}
 
 module _ {P E : Type 0} (m : AbstractMachine P E) (c : Chain) (h : List (Event P E)) (M : Meets m c h) (t r : ℕ) (first : ItemAt c.rooms 0 t) (linked : m.next t ≡ Some r) where
   -- head is another room than the tail

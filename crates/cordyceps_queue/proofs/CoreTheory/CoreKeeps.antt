@@ -22,6 +22,7 @@ use Rattle.cordyceps_queue.specs.Cores.Abstract.{AbstractParty, AbstractMachine,
 use Rattle.cordyceps_queue.specs.Cores.Meets.{Chain, IsStranger, Meets}
 use Rattle.cordyceps_queue.specs.Cores.CoreMeets as cores
 use Rattle.cordyceps_queue.specs.Cores.CoreMeets.{party_at, abstract_of, CoreMeets, IsSound, IsOwned, Says, AnswerSays, core_step, core_events, core_says, Replayed, new_machine, with_party}
+use Rattle.cordyceps_shared.proofs.ListWrites.{set_as_it_was}
 use Rattle.cordyceps_queue.proofs.CoreTheory.AbstractGrows.{adds_keep}
 use Rattle.cordyceps_queue.proofs.CoreTheory.Basics.{some_inj, none_some, put_same, put_other}
 use Rattle.cordyceps_queue.proofs.Blocked.{told_was_blocked}
@@ -32,11 +33,6 @@ use Rattle.cordyceps_queue.proofs.CoreTheory.ListWrites.{get_push_same, get_push
 use Rattle.cordyceps_queue.proofs.CoreTheory.NewMachines.{new_meets}
 use Rattle.cordyceps_queue.proofs.PartyOrder.{nothing_lost}
 use Rattle.cordyceps_queue.proofs.CoreTheory.Simulation.{others_room, own_room, parties_of, parties_put, words_eq, me_of, Follows, acts_follow}
-
-set_as_it_was : {X : Type 0} (xs : List X) (i : ℕ) (y : X) → slice_get xs i ≡ Some y → slice_set xs i y ≡ xs
-set_as_it_was [] i y h = absurd (none_some h)
-set_as_it_was (x ∷ xs) zero y h = let e : x ≡ y = cc in ap (λ z. z ∷ xs) (sym e)
-set_as_it_was (x ∷ xs) (suc i) y h = ap (λ zs. x ∷ zs) (set_as_it_was xs i y h)
 
 module _ {E : Type 0} where
   -- a machine whose functions meet a history

@@ -6,12 +6,12 @@ use Rattle.cordyceps_queue.specs.declared.cores.stage.Stage.TheVariants.{Rest, H
 use Rattle.cordyceps_queue.specs.Cores.Abstract.{update, insert_room, AbstractParty, AbstractMachine, set_stage, set_right, hand_out}
 use Rattle.cordyceps_shared.specs.Places.{ItemAt}
 use Rattle.cordyceps_queue.specs.Cores.Meets.{real, Owner, Shared, Spare, Ready, Unmade, Owes, tail_of, Chain, OwnsRooms, Keeps, AtStage, RightIs, Meets}
-use Rattle.cordyceps_queue.proofs.CoreTheory.Basics.{some_inj, none_some, suc_zero, zero_suc, suc_inj, put_same, put_other, map_put}
+use Rattle.cordyceps_queue.proofs.CoreTheory.Basics.{owner_else, owns_else, some_inj, none_some, suc_zero, zero_suc, suc_inj, put_same, put_other, map_put}
 use Rattle.cordyceps_queue.proofs.CoreTheory.OtherParties.{goes_without}
 use Rattle.cordyceps_queue.proofs.CoreTheory.StepLeaves.{chain_of, joined_still, moves_on, rooms_on, rooms_still}
 use Rattle.cordyceps_queue.proofs.CoreTheory.ProducerSteps.{spare_shared, ready_shared, shared_unmade}
 use Rattle.cordyceps_queue.proofs.CoreTheory.HolderSteps.{keeping, not_keeper, right_with}
-use Rattle.cordyceps_queue.proofs.CoreTheory.ChainShrinks.{at_down, at_up, real_stub, real_first, rank_stub, rank_first, map_split, room_was, room_once, second, last_less, once_less, tail_away, goes_drops}
+use Rattle.cordyceps_queue.proofs.CoreTheory.ChainShrinks.{at_down, at_up, real_stub, real_first, rank_stub, rank_first, map_split, owns_insert, second, last_less, once_less, tail_away, goes_drops}
 
 pub free_right : {P E : Type 0} (right : ℕ) (party : ℕ → Option (AbstractParty P)) (rooms : List ℕ) (h : List (Event P E)) (keeper : Option ℕ) (t : ℕ) → right ≡ suc t → RightIs right party rooms h keeper → (keeper ≡ None) × (holder_reversed h ≡ None) × ItemAt rooms 0 t
 free_right right party rooms h None t e R =
@@ -129,21 +129,6 @@ module _ {P E : Type 0} (m : AbstractMachine P E) (c : Chain) (h : List (Event P
     is_oldest : held_reversed h ≡ e ∷ oldest.1
     is_oldest = oldest.2 ∙ ap (λ x. x ∷ oldest.1) (some_inj (sym oldest.3 ∙ full))
 
-    not_tail : (x : ℕ) (o : Owner) → c.owner x ≡ o → (o ≡ Shared → ⊥) → update c.owner t (Spare k) x ≡ o
-    not_tail x o e ne = put_other c.owner t (Spare k) x (λ s. ne (sym e ∙ ap c.owner s ∙ tail_shared)) ∙ e
-
-    spares_stay : (j : ℕ) (s : List ℕ) → OwnsRooms c.owner j s → OwnsRooms (update c.owner t (Spare k)) j s
-    spares_stay j s R = record { own = λ i x ix. not_tail x (Spare j) (R.own i x ix) (λ e. spare_shared refl e); once = R.once }
-
-    spares_grow : OwnsRooms c.owner k p.spare → OwnsRooms (update c.owner t (Spare k)) k (insert_room t p.spare)
-    spares_grow R = record {
-      own = λ i x ix. elim (room_was t p.spare x i ix) [
-        | inl s ↦ ap (update c.owner t (Spare k)) s ∙ put_same c.owner t (Spare k)
-        | inr w ↦ not_tail x (Spare k) (R.own w.0 x w.1) (λ e. spare_shared refl e)
-      ];
-      once = room_once t p.spare (λ i a. spare_shared (R.own i t a) tail_shared) R.once;
-    }
-
     pub out_keeps : Meets (hand_out m k p t r) chain_after_out (Event.Out p.name e ∷ h)
     out_keeps = moves_on m c h M k p at (Holding r) (insert_room t p.spare) (hand_out m k p t r) chain_after_out (Event.Out p.name e ∷ h) record {
       legal = ((keeps_tail.held_by, oldest.1, is_oldest), M.legal);
@@ -152,7 +137,7 @@ module _ {P E : Type 0} (m : AbstractMachine P E) (c : Chain) (h : List (Event P
         once = once_less m c h M t r keeps_tail.tail linked;
         shared = λ i x ix. put_other c.owner t (Spare k) x (λ s. tail_away m c h M t r keeps_tail.tail linked i (subst (ItemAt (drop 1 c.rooms) i) s ix)) ∙ M.shared (suc i) x (at_down c.rooms i x ix);
         stub = put_other c.owner t (Spare k) 0 (λ s. is_real (sym s)) ∙ M.stub;
-        unmade = λ x lt. not_tail x Unmade (M.unmade x lt) (λ e. shared_unmade e refl);
+        unmade = λ x lt. owner_else c.owner t (Spare k) (M.unmade x lt) (λ u. shared_unmade tail_shared u);
       };
       ends = M.ends;
       joined = λ i a b ia ib. joined_still m c h M k p at (Holding r) (insert_room t p.spare) (λ a b o. absurd (nothing a b o)) (suc i) a b (at_down c.rooms i a ia) (at_down c.rooms (suc i) b ib);
@@ -160,9 +145,10 @@ module _ {P E : Type 0} (m : AbstractMachine P E) (c : Chain) (h : List (Event P
       right = right_with m c h M k p at t has (Holding r) (insert_room t p.spare) (drop 1 c.rooms) (Event.Out p.name e ∷ h) r refl keeps_tail.held_by;
       goes = λ j q ne _. goes_drops m c h M t r keeps_tail.tail linked (update m.cell t None) (update c.owner t (Spare k)) (Event.Out p.name e ∷ h) j q
           (λ x y o f. put_other m.cell t None x (λ s. ready_shared o (ap c.owner s ∙ tail_shared)) ∙ f)
-          (λ x e. not_tail x (Ready j) e (λ s. ready_shared refl s)) (λ s. s)
+          (λ x e. owner_else c.owner t (Spare k) e (λ u. ready_shared u tail_shared)) (λ s. s)
           (λ i w. subst (λ n. IsPendingAt q n h) (rank_first c.rooms t i is_real keeps_tail.tail) w) (not_keeper m c h M k p at t has j ne);
       mine = record { kept = keeps_tail.kept; held_by = keeps_tail.held_by; tail = at_up c.rooms 0 r next_at; settled = keeps_tail.settled };
-      rooms = rooms_on m c h M k p at (Holding r) (insert_room t p.spare) (update c.owner t (Spare k)) (λ j free _. spares_stay j free) (spares_grow (M.rooms k p at));
+      rooms = rooms_on m c h M k p at (Holding r) (insert_room t p.spare) (update c.owner t (Spare k))
+          (λ j free _ R. owns_else c.owner t (Spare k) j free R (λ u. spare_shared u tail_shared)) (owns_insert c.owner k t p.spare (M.rooms k p at) (λ u. spare_shared u tail_shared));
       strangers = λ n _ s. s;
     }

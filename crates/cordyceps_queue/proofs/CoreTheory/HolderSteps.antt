@@ -11,7 +11,7 @@ use Rattle.cordyceps_queue.specs.Cores.Meets.{real, rank, Owes, tail_of, Chain, 
 use Rattle.cordyceps_queue.specs.Cores.Meets.{AtStage, IsTaken, RightIs, Meets}
 use Rattle.cordyceps_queue.proofs.CoreTheory.Basics.{put_again, some_inj, some_none, none_some, suc_zero}
 use Rattle.cordyceps_queue.proofs.CoreTheory.Basics.{put_same, at_one, at_within}
-use Rattle.cordyceps_queue.proofs.CoreTheory.ChainGrows.{held_length}
+use Rattle.cordyceps_queue.proofs.CoreTheory.ChainGrows.{held_length, real_within}
 use Rattle.cordyceps_queue.proofs.CoreTheory.OtherParties.{goes_without, keeps_of, has_none}
 use Rattle.cordyceps_queue.proofs.CoreTheory.StepLeaves.{chain_of, joined_still, moved, moves_on, parties, rooms_still}
 
@@ -42,11 +42,6 @@ at_some (x ∷ xs) (suc i) lt = at_some xs i (omega arith)
 stub_less : (xs : List ℕ) → ItemAt xs 0 0 → suc (length (real xs)) ≤ length xs
 stub_less [] a = absurd a
 stub_less (zero ∷ xs) a = let l = real_within xs in omega arith
-  where
-    real_within : (xs : List ℕ) → length (real xs) ≤ length xs
-    real_within [] = omega arith
-    real_within (zero ∷ xs) = let l = real_within xs in omega arith
-    real_within (suc x ∷ xs) = let l = real_within xs in omega arith
 stub_less (suc x ∷ xs) a = absurd (suc_zero (sym a))
 
 no_items : {A : Type 0} (xs : List A) → length xs ≡ 0 → xs ≡ []

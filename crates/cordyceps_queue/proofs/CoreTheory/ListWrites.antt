@@ -16,11 +16,6 @@ module _ {X : Type 0} where
   get_within (x ∷ xs) zero lt = (x, refl)
   get_within (x ∷ xs) (suc i) lt = get_within xs i (omega arith)
 
-  pub within_of : (xs : List X) (i : ℕ) (x : X) → slice_get xs i ≡ Some x → i < length xs
-  within_of [] i x h = absurd (none_some h)
-  within_of (y ∷ xs) zero x h = omega arith
-  within_of (y ∷ xs) (suc i) x h = let l = within_of xs i x h in omega arith
-
   -- what a list with one more item has at a place
   pub get_push_same : (xs : List X) (x : X) → slice_get (xs ++ x ∷ []) (length xs) ≡ Some x
   get_push_same [] x = refl

@@ -6,13 +6,17 @@ use Rattle.cordyceps_queue.specs.Cores.StepKeeps.{NewMeets}
 use Rattle.cordyceps_queue.proofs.CoreTheory.Basics.{none_some}
 
 -- whose the rooms of a new machine are
-abbrev new_owner : ℕ → Owner
+abbrev pub new_owner : ℕ → Owner
 new_owner zero = Shared
 new_owner (suc r) = Unmade
 
-stub_alone : (i r : ℕ) → ItemAt (0 ∷ []) i r → (i ≡ 0) × (r ≡ 0)
+pub stub_alone : (i r : ℕ) → ItemAt (0 ∷ []) i r → (i ≡ 0) × (r ≡ 0)
 stub_alone zero r a = (refl, a)
 stub_alone (suc i) r a = absurd a
+
+pub is_unmade : (r : ℕ) → 1 ≤ r → new_owner r ≡ Unmade
+is_unmade zero lt = absurd (omega arith)
+is_unmade (suc r) lt = refl
 
 pub new_meets : (P E : Type 0) → NewMeets P E
 new_meets P E = (
@@ -37,7 +41,3 @@ new_meets P E = (
   where
     none_follows : (i b : ℕ) → ItemAt (0 ∷ []) (suc i) b → ⊥
     none_follows i b a = a
-
-    is_unmade : (r : ℕ) → 1 ≤ r → new_owner r ≡ Unmade
-    is_unmade zero lt = absurd (omega arith)
-    is_unmade (suc r) lt = refl

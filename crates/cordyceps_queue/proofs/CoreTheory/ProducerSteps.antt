@@ -11,7 +11,7 @@ use Rattle.cordyceps_queue.specs.Cores.Meets.{real, rank, Owner, Shared, Spare, 
 use Rattle.cordyceps_queue.specs.Cores.Meets.{Chain, OwnsRooms, Joined, HasOpen, AtStage}
 use Rattle.cordyceps_queue.specs.Cores.Meets.{RightIs, Meets}
 use Rattle.cordyceps_shared.proofs.Places.{at_end}
-use Rattle.cordyceps_queue.proofs.CoreTheory.Basics.{open_with, ready_with, some_inj, some_none, suc_zero, put_same}
+use Rattle.cordyceps_queue.proofs.CoreTheory.Basics.{owner_else, owns_else, suc_inj, open_with, ready_with, some_inj, some_none, suc_zero, put_same}
 use Rattle.cordyceps_queue.proofs.CoreTheory.Basics.{put_other, put_none, at_one, at_within, at_more, at_split}
 use Rattle.cordyceps_queue.proofs.CoreTheory.Basics.{rank_more, rank_all, real_more, map_put, pending_one, open_from}
 use Rattle.cordyceps_queue.proofs.CoreTheory.ChainGrows.{real_one, held_length, alone, open_more, last_more, once_more, joined_more, right_more, right_same}
@@ -77,8 +77,8 @@ module _ {P E : Type 0} (m : AbstractMachine P E) (c : Chain) (h : List (Event P
     clear_keeps = moves_on m c h M k p at (Cleared r) rooms (clear_room m k p r rooms e) chain_after_clear h record {
       legal = M.legal;
       chain = chain_dealt m c h M m.count (update c.owner r (Ready k))
-          (λ x s. put_other c.owner r (Ready k) x (away x s) ∙ s)
-          (λ x lt. put_other c.owner r (Ready k) x (λ s. spare_unmade (ap c.owner s ∙ mine) (M.unmade x lt)) ∙ M.unmade x lt);
+          (λ x s. owner_else c.owner r (Ready k) s (spare_shared mine))
+          (λ x lt. owner_else c.owner r (Ready k) (M.unmade x lt) (spare_unmade mine));
       ends = put_none m.next r m.head M.ends;
       joined = λ i a b ia. joined_on m c h M k p at (Cleared r) rooms (update m.next r None) (λ a b o. subst (λ l. Owes l a b) rest o) i a b
           (put_other m.next r None a (away a (M.shared i a ia))) ia;
@@ -103,18 +103,9 @@ module _ {P E : Type 0} (m : AbstractMachine P E) (c : Chain) (h : List (Event P
       };
       rooms = rooms_on m c h M k p at (Cleared r) rooms (update c.owner r (Ready k))
           (λ j free ne R. spares j free (λ i ir. ne (spare_one (R.own i r ir) mine)) R)
-          (spares k rooms (λ i ir. suc_ne (own.once (suc i) 0 r ir refl)) (record { own = λ i x ix. own.own (suc i) x ix; once = λ i j x ix jx. suc_inj (own.once (suc i) (suc j) x ix jx) }));
+          (spares k rooms (λ i ir. suc_zero (own.once (suc i) 0 r ir refl)) (record { own = λ i x ix. own.own (suc i) x ix; once = λ i j x ix jx. suc_inj (own.once (suc i) (suc j) x ix jx) }));
       strangers = λ n _ s. s;
     }
-      where
-        spare_one : {j : ℕ} → c.owner r ≡ Spare j → c.owner r ≡ Spare k → j ≡ k
-        spare_one a b = cc (a, b)
-
-        suc_ne : {i : ℕ} → suc i ≡ 0 → ⊥
-        suc_ne a = omega arith
-
-        suc_inj : {i j : ℕ} → suc i ≡ suc j → i ≡ j
-        suc_inj a = omega arith
 
   -- Swap of an element
   module _ (r : ℕ) (e : E) (ready : p.stage ≡ Cleared r) (full : m.cell r ≡ Some e) where
@@ -179,7 +170,7 @@ module _ {P E : Type 0} (m : AbstractMachine P E) (c : Chain) (h : List (Event P
           | inr a ↦ ap (update c.owner r Shared) a.1 ∙ put_same c.owner r Shared
         ];
         stub = put_other c.owner r Shared 0 (other_room 0 M.stub) ∙ M.stub;
-        unmade = λ x lt. put_other c.owner r Shared x (λ s. ready_unmade (ap c.owner s ∙ was.ready) (M.unmade x lt)) ∙ M.unmade x lt;
+        unmade = λ x lt. owner_else c.owner r Shared (M.unmade x lt) (ready_unmade was.ready);
       };
       ends = was.null;
       joined = joined_more m c h M k p (record p { stage = Swapped r m.head }) at r (λ a b o. absurd (subst (λ l. Owes l a b) ready o)) (refl, refl);
@@ -189,16 +180,10 @@ module _ {P E : Type 0} (m : AbstractMachine P E) (c : Chain) (h : List (Event P
       right = right_more m.right _ c.rooms r h (Event.Swap p.name e) c.keeper refl (right_else m c h M k p at (Swapped r m.head) p.spare (ap tail_of ready));
       goes = swap_goes;
       mine = swap_mine;
-      rooms = rooms_on m c h M k p at (Swapped r m.head) p.spare (update c.owner r Shared) (λ j free _. swap_spares j free) (swap_spares k p.spare (M.rooms k p at));
+      rooms = rooms_on m c h M k p at (Swapped r m.head) p.spare (update c.owner r Shared) (λ j free _ R. owns_else c.owner r Shared j free R (ready_spare was.ready))
+          (owns_else c.owner r Shared k p.spare (M.rooms k p at) (ready_spare was.ready));
       strangers = λ n ne s. (ne, s);
     }
-      where
-        swap_spares : (j : ℕ) (s : List ℕ) → OwnsRooms c.owner j s → OwnsRooms (update c.owner r Shared) j s
-        swap_spares j s R = record {
-          own = λ i x ix. put_other c.owner r Shared x
-              (λ s. ready_spare was.ready (ap c.owner (sym s) ∙ R.own i x ix)) ∙ R.own i x ix;
-          once = R.once;
-        }
 
   -- Link of an element
   module _ (r old : ℕ) (waits : p.stage ≡ Swapped r old) where

@@ -35,14 +35,11 @@ use Rattle.cordyceps_queue.specs.Shared.Rule.{TableState, History, link_of, part
 use Rattle.cordyceps_queue.specs.Shared.View.{View, knows, name, newcomer, down_from, free_chain, cleared_count, room_count}
 use Rattle.cordyceps_queue.specs.Cores.Abstract.{AbstractParty}
 use Rattle.cordyceps_queue.proofs.CoreTheory.Basics.{some_inj, put_again}
+use Rattle.cordyceps_queue.proofs.CoreTheory.NewMachines.{new_owner, stub_alone, is_unmade}
 use Rattle.cordyceps_queue.proofs.CoreTheory.ProducerSteps.{spare_pooled}
 use Rattle.cordyceps_queue.proofs.SharedTheory.SeatNames.{party_was, name_known, names_differ}
 use Rattle.cordyceps_queue.proofs.CoreTheory.SplitParties.{deal, deal_else, deal_here, deal_fixed, deal_others, deal_kept, deal_given, deal_both, Regroups, regroups_keep}
 use Rattle.cordyceps_queue.proofs.SharedTheory.WordsAsMachine.{core, party_at, rooms_of, parties_put, pool_stays, count_same, spent_else, Stays}
-
-only_at : {A : Type 0} (a b : A) (i : ℕ) → ItemAt (a ∷ []) i b → (i ≡ 0) × (b ≡ a)
-only_at a b zero e = (refl, e)
-only_at a b (suc i) e = absurd e
 
 pub at_down_from : (n i r : ℕ) → ItemAt (down_from n) i r → (i + r ≡ n) × (1 ≤ r)
 at_down_from zero i r a = absurd a
@@ -52,15 +49,6 @@ at_down_from (suc n) (suc i) r a = let t = at_down_from n i r a in let e = t.0 i
 pub length_down_from : (n : ℕ) → length (down_from n) ≡ n
 length_down_from zero = refl
 length_down_from (suc n) = ap suc (length_down_from n)
-
--- whose the rooms are of a queue that has only the stub's
-abbrev only_stub : ℕ → Owner
-only_stub zero = Shared
-only_stub (suc r) = Unmade
-
-others_unmade : (r : ℕ) → 1 ≤ r → only_stub r ≡ Unmade
-others_unmade zero l = absurd (omega arith)
-others_unmade (suc r) l = refl
 
 links_down : (words : List ℕ) (n : ℕ) → ((r : ℕ) → r ≤ n → word.next words r ≡ r) → Links words (down_from n) 1
 links_down words zero linked = tt
@@ -91,7 +79,7 @@ module _ (E : Type 0) where
       let known = seats.opens actor knows first refl in
       let homes : Homes E = map some (replicate (rooms + 1) None) in
       let deep : length homes ≡ rooms + 1 = length-map (replicate (rooms + 1) None) some ∙ length-replicate (rooms + 1) None in
-      let owner : ℕ → Owner = deal (Spare 0) (down_from rooms) only_stub in record {
+      let owner : ℕ → Owner = deal (Spare 0) (down_from rooms) new_owner in record {
         now = record {
           uses = [];
           history = [];
@@ -103,10 +91,10 @@ module _ (E : Type 0) where
             last = record { at = 0; long = refl; head_at = head };
             ends = ap (λ n. link_of (word.next words n)) head ∙ ap link_of link;
             joined = λ i a b ia ib. absurd ib;
-            once = λ i j r ir jr. (only_at 0 r i ir).0 ∙ sym (only_at 0 r j jr).0;
-            shared = λ i r ir. ap owner (only_at 0 r i ir).1 ∙ stub rooms;
+            once = λ i j r ir jr. (stub_alone i r ir).0 ∙ sym (stub_alone j r jr).0;
+            shared = λ i r ir. ap owner (stub_alone i r ir).1 ∙ stub rooms;
             stub = stub rooms;
-            unmade = λ r l. deal_else (Spare 0) (down_from rooms) only_stub r (λ i a. let t = at_down_from rooms i r a in let e = t.0 in absurd (omega arith)) ∙ others_unmade r (omega arith);
+            unmade = λ r l. deal_else (Spare 0) (down_from rooms) new_owner r (λ i a. let t = at_down_from rooms i r a in let e = t.0 in absurd (omega arith)) ∙ is_unmade r (omega arith);
             holds = refl;
             right = record { unheld = refl; tail = 0; right_is = right; tail_at = refl };
             fits = λ k p e. subst (λ (q : AbstractParty Name). AtStage (word.head words) (λ r. link_of (word.next words r)) (λ (_ : ℕ). let x : Option E = None in x) owner None (0 ∷ []) [] k q.name q.stage) (is_first rooms k p e).1 tt;
@@ -116,7 +104,7 @@ module _ (E : Type 0) where
           };
           wide = omega arith;
           stub = omega arith;
-          full = λ i r ir ne. absurd (ne (only_at 0 r i ir).1);
+          full = λ i r ir ne. absurd (ne (stub_alone i r ir).1);
           empty = λ j v e some_name. subst (λ (z : View E). EmptyAtHome homes z.free) (seats.only first v j e).1 (vacant_empty rooms);
           ready = λ j v r e some_name is. absurd (let c = ap (λ (z : View E). z.stage) (seats.only first v j e).1 ∙ is in cc);
           linked = λ j v e some_name. subst (λ (z : View E). Links words z.free z.end × Links words z.back z.to) (seats.only first v j e).1 (links_down words rooms (λ r l. new.linked r (omega arith)), tt);
@@ -138,12 +126,12 @@ module _ (E : Type 0) where
           let o = seats.only first w.0 k w.1 in
           (o.0, ap party o.1 ∙ w.3)
 
-      stub : (n : ℕ) → deal (Spare 0) (down_from n) only_stub 0 ≡ Shared
-      stub n = deal_else (Spare 0) (down_from n) only_stub 0 (λ i a. let t = at_down_from n i 0 a in let l = t.1 in absurd (omega arith))
+      stub : (n : ℕ) → deal (Spare 0) (down_from n) new_owner 0 ≡ Shared
+      stub n = deal_else (Spare 0) (down_from n) new_owner 0 (λ i a. let t = at_down_from n i 0 a in let l = t.1 in absurd (omega arith))
 
-      mine : (n : ℕ) → OwnsRooms (deal (Spare 0) (down_from n) only_stub) 0 (down_from n)
+      mine : (n : ℕ) → OwnsRooms (deal (Spare 0) (down_from n) new_owner) 0 (down_from n)
       mine n = record {
-        own = λ i r a. deal_here (Spare 0) (down_from n) only_stub i r a;
+        own = λ i r a. deal_here (Spare 0) (down_from n) new_owner i r a;
         once = λ i j r x y. let t = at_down_from n i r x in let u = at_down_from n j r y in let e = t.0 in let f = u.0 in omega arith;
       }
 

@@ -110,7 +110,3 @@ module _ {E A : Type 0} (f : E → A) where
       retried : (u : PartyOf E) (vs : List (PartyOf E)) (w : PartyOf E) → Retries Fails u vs w → Moves f [] [] u w
       retried u [] w r = subst (λ z. Moves f [] [] u z) r (moves_none (put_by f) (got_by f) u)
       retried u (v ∷ vs) w r = moves_then (put_by f) (got_by f) [] [] [] [] u v w (fails u v r.0) (retried v vs w r.1)
-
-  moves_miss : (u w : PartyOf E) → MissesDequeue u w → Moves f [] [] u w
-  moves_miss u w (inl c) = moves_dequeue (Err error.Busy) u w c
-  moves_miss u w (inr c) = moves_dequeue (Err error.Inconsistent) u w c

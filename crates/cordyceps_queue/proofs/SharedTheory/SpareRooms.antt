@@ -62,11 +62,3 @@ tracks_joined free other chain after t u some_of first =
       tracks = rooms.tracks_joined free other.rooms chain after t u.tracks some_of first;
       end = λ _. u.end there ∙ end_of after.rooms chain.end after.end there;
     }
-
-pub tracks_alone : (spare other : Spare) (chain after : FreeChain) → TracksEnd spare chain → TracksEnd other after → other.rooms.count ≡ 0
-    → TracksEnd record { rooms = record { first = spare.rooms.first; last = spare.rooms.last; count = spare.rooms.count + other.rooms.count }; end = spare.end } (joined chain after)
-tracks_alone spare other chain after t u none =
-    let nothing = rooms.no_rooms other.rooms after u.tracks none in record {
-      tracks = rooms.tracks_alone spare.rooms other.rooms chain after t.tracks u.tracks none;
-      end = λ some_of. t.end (λ e. some_of ((λ i. e i ++ nothing i) ∙ refl)) ∙ sym (ap (λ l. end_after chain.end l after.end) nothing);
-    }

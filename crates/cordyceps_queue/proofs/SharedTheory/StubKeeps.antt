@@ -303,21 +303,6 @@ module _ {E : Type 0} (s : TableState E) (k : PlainHolds s) (id : ℕ) (v : View
           ),
         )
 
-same_null : {p : Stage} {t u : ℕ} → p ≡ Null t → p ≡ Null u → t ≡ u
-same_null a b = some_inj (ap tail_of (sym a ∙ b))
-
-same_put : {p : Stage} {t u : ℕ} → p ≡ PutRead t → p ≡ PutRead u → t ≡ u
-same_put a b = some_inj (ap tail_of (sym a ∙ b))
-
-same_clear : {p : Stage} {t u : ℕ} → p ≡ PutClear t → p ≡ PutClear u → t ≡ u
-same_clear a b = some_inj (ap tail_of (sym a ∙ b))
-
-same_swap : {p : Stage} {t u : ℕ} → p ≡ PutSwap t → p ≡ PutSwap u → t ≡ u
-same_swap a b = some_inj (ap tail_of (sym a ∙ b))
-
-same_link : {p : Stage} {t u a b : ℕ} → p ≡ PutLink t a → p ≡ PutLink u b → t ≡ u
-same_link a b = some_inj (ap tail_of (sym a ∙ b))
-
 module _ {E : Type 0} (slots id : ℕ) (me : SeatState E) (hand : me.1 ≡ carry me.0.back) (near : Near slots me.0.back) (named : me.0.known.share ≢ []) (may : MayJoin (free_chain me.0) (back_chain me.0)) where
   pub looks_stub : me.0.stage ≡ Holding 0 → PlainAllows slots id me LINKS (λ x. x) (play.after_look_stub (step slots LINKS 0 0 none) me)
   looks_stub holding = returning slots id LINKS me (λ x. x) (play.after_look_stub (step slots LINKS 0 0 none) me) hand near named may
@@ -363,7 +348,7 @@ module _ {E : Type 0} (slots id : ℕ) (me : SeatState E) (hand : me.1 ≡ carry
         c.0,
         λ u stage.
             let z : SeatState E = (c.0.view, carried_after [] c.0.act) in
-            subst (λ q. HeadFacts q (word.head s.words) z) (same_null at_null stage) (
+            subst (λ q. HeadFacts q (word.head s.words) z) (some_inj (ap tail_of (sym at_null ∙ stage))) (
               (λ e. moved_on me z [] (PutClear t) (c.1.0 e)),
               λ e. let h = c.1.1 e in
                   (moved_on me z [] (Holding t) h.0, h.1),
@@ -378,7 +363,7 @@ module _ {E : Type 0} (slots id : ℕ) (me : SeatState E) (hand : me.1 ≡ carry
         c.0,
         λ u stage.
             let z : SeatState E = (c.0.view, carried_after [] c.0.act) in
-            subst (λ q. RereadFacts q (get_or s.words i 0) z) (same_put at_put stage) (
+            subst (λ q. RereadFacts q (get_or s.words i 0) z) (some_inj (ap tail_of (sym at_put ∙ stage))) (
               (λ e. let h = c.1.0 e in (moved_on me z [] (Holding t) h.0, h.1)),
               λ r e. handed_on me z [] slots t r
                   (c.1.1 r e),
@@ -391,7 +376,7 @@ module _ {E : Type 0} (slots id : ℕ) (me : SeatState E) (hand : me.1 ≡ carry
       let c = clears_stub_bare s k id (view_returned me.0) at named refl t l in (
         c.0,
         λ u stage. subst (λ q. MovesTo [] (PutSwap q) me (c.0.view, carried_after [] c.0.act))
-            (same_clear l stage) (moved_on me (c.0.view, carried_after [] c.0.act) [] (PutSwap t) c.1),
+            (some_inj (ap tail_of (sym l ∙ stage))) (moved_on me (c.0.view, carried_after [] c.0.act) [] (PutSwap t) c.1),
       ))
 
   pub swaps_stub : (t : ℕ) → me.0.stage ≡ PutSwap t → PlainAllows slots id me HEAD (λ _. 0) (play.after_swap_stub (step slots HEAD 0 0 none) me)
@@ -402,7 +387,7 @@ module _ {E : Type 0} (slots id : ℕ) (me : SeatState E) (hand : me.1 ≡ carry
         c.0,
         λ u stage. (
           subst (λ q. MovesTo [] (PutLink q (word.head s.words)) me
-              (c.0.view, carried_after [] c.0.act)) (same_swap l stage)
+              (c.0.view, carried_after [] c.0.act)) (some_inj (ap tail_of (sym l ∙ stage)))
               (moved_on me (c.0.view, carried_after [] c.0.act) []
               (PutLink t (word.head s.words)) c.1),
           omega arith,
@@ -424,6 +409,6 @@ module _ {E : Type 0} (slots id : ℕ) (me : SeatState E) (hand : me.1 ≡ carry
               (stepped s q 1 id [] step.view step.act) in
               subst kept sum step.becomes;
         },
-        λ u o stage. subst (λ q. MovesTo [] (PutRead q) me (c.0.view, carried_after [] c.0.act)) (same_link l stage)
+        λ u o stage. subst (λ q. MovesTo [] (PutRead q) me (c.0.view, carried_after [] c.0.act)) (some_inj (ap tail_of (sym l ∙ stage)))
             (moved_on me (c.0.view, carried_after [] c.0.act) [] (PutRead t) c.1),
       ))

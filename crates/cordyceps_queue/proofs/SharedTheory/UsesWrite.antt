@@ -157,21 +157,6 @@ module _ {E : Type 0} where
         subst tells (sym e.0) f.told,
       )
 
-  -- the head's word is the tail's, or it leads to another room
-  pub head_tells : (m k : SeatState E) (found word : ℕ) (u : RoomUse) (tells : ℕ → Type 0)
-      → (f : play.Finds found k tells) → play.KeepsBits m k → Knows m.0.stage u.room → play.HasUse m u
-      → word ≡ 2 * u.room + u.bit → (found ≡ word → f.room ≡ u.room) × (found ≢ word → f.room ≢ u.room)
-  head_tells m k found word u tells f keeps o h is =
-      let e = f.found_is in
-      let b = f.is_bit in
-      let c = h.1 in
-      let now : bit_of k.0.bits u.room ≡ u.bit = keeps u.room o ∙ h.0 in (
-        (λ same. omega arith),
-        (λ other same.
-            let bits : f.bit ≡ u.bit = sym f.knows ∙ (ap (λ r. bit_of k.0.bits r) same ∙ now) in
-            other (omega arith)),
-      )
-
   -- the word of a link to the stub's use
   pub stub_link : (m : SeatState E) (u old : RoomUse) → play.HasUse m u → play.HasUse m old → u.room ≡ 0 → 4 * suc u.room + 2 * u.bit + old.bit ≡ 4 * 1 + 2 * bit_of m.0.bits 0 + bit_of m.0.bits old.room
   stub_link m u old h i e = (λ j. 4 * suc (e j) + 2 * sym h.0 j + sym i.0 j) ∙ ap (λ r. 4 * 1 + 2 * bit_of m.0.bits r + bit_of m.0.bits old.room) e

@@ -1,7 +1,7 @@
 use Rattle.std.proofs.Common.{Some, refl, ap, sym, ◌∙◌}
 use Rattle.std.specs.Prelude.{is_some}
 use Rattle.cordyceps_queue.specs.declared.cores.stage.Stage.TheVariants.{Holding, Second, PutRead}
-use Rattle.cordyceps_queue.proofs.CoreTheory.ListWrites.{within_of}
+use Rattle.std.proofs.lemmas.Option.{slice_get_within}
 use Rattle.cordyceps_queue.proofs.CoreTheory.RoomsAtStages.{swapped_within, put_link_within, tail_within, holding_full, second_full, put_read_full}
 use Rattle.cordyceps_queue.proofs.cores.machine.Machine.act.Goals as goal
 
@@ -11,7 +11,7 @@ link-requires-in-Swapped-clause-room g c =
 
 pub link-requires-in-PutLink-clause-party : goal.link-requires-in-PutLink-clause-party
 link-requires-in-PutLink-clause-party g c =
-    within_of c.args.self.now.parties c.args.party _ (sym c.stage.ensures ∙ c.in-Some.is)
+    slice_get_within c.args.self.now.parties c.args.party _ (sym c.stage.ensures ∙ c.in-Some.is)
 
 pub link-requires-in-PutLink-clause-room : goal.link-requires-in-PutLink-clause-room
 link-requires-in-PutLink-clause-room g c =
@@ -19,31 +19,31 @@ link-requires-in-PutLink-clause-room g c =
 
 pub take-requires : goal.take-requires
 take-requires g c =
-    within_of c.args.self.now.parties c.args.party _ (sym c.stage.ensures ∙ c.in-Some.is)
+    slice_get_within c.args.self.now.parties c.args.party _ (sym c.stage.ensures ∙ c.in-Some.is)
 
 pub look-requires-clause-party : goal.look-requires-clause-party
 look-requires-clause-party g c =
-    within_of c.args.self.now.parties c.args.party _ (sym c.stage.ensures ∙ c.in-Some.is)
+    slice_get_within c.args.self.now.parties c.args.party _ (sym c.stage.ensures ∙ c.in-Some.is)
 
 pub read-requires-clause-party : goal.read-requires-clause-party
 read-requires-clause-party g c =
-    within_of c.args.self.now.parties c.args.party _ (sym c.stage.ensures ∙ c.in-Some.is)
+    slice_get_within c.args.self.now.parties c.args.party _ (sym c.stage.ensures ∙ c.in-Some.is)
 
 pub read_again-requires-clause-party : goal.read_again-requires-clause-party
 read_again-requires-clause-party g c =
-    within_of c.args.self.now.parties c.args.party _ (sym c.stage.ensures ∙ c.in-Some.is)
+    slice_get_within c.args.self.now.parties c.args.party _ (sym c.stage.ensures ∙ c.in-Some.is)
 
 pub head_stub-requires : goal.head_stub-requires
 head_stub-requires g c =
-    within_of c.args.self.now.parties c.args.party _ (sym c.stage.ensures ∙ c.in-Some.is)
+    slice_get_within c.args.self.now.parties c.args.party _ (sym c.stage.ensures ∙ c.in-Some.is)
 
 pub head_tail-requires : goal.head_tail-requires
 head_tail-requires g c =
-    within_of c.args.self.now.parties c.args.party _ (sym c.stage.ensures ∙ c.in-Some.is)
+    slice_get_within c.args.self.now.parties c.args.party _ (sym c.stage.ensures ∙ c.in-Some.is)
 
 pub give-requires : goal.give-requires
 give-requires g c =
-    within_of c.args.self.now.parties c.args.party _ (sym c.stage.ensures ∙ c.in-Some.is)
+    slice_get_within c.args.self.now.parties c.args.party _ (sym c.stage.ensures ∙ c.in-Some.is)
 
 pub look-requires-clause-room : goal.look-requires-clause-room
 look-requires-clause-room g c =

@@ -1,6 +1,6 @@
 use Rattle.std.proofs.Common.{◌≡◌, ◌<◌, length, Some, ap, sym, subst, ◌∙◌, arith}
 use Rattle.cordyceps_queue.specs.Cores.Machine.{Machine, least_free}
-use Rattle.cordyceps_queue.proofs.CoreTheory.ListWrites.{within_of}
+use Rattle.std.proofs.lemmas.Option.{slice_get_within}
 use Rattle.cordyceps_queue.proofs.CoreTheory.RoomsAtStages.{free_within}
 use Rattle.cordyceps_queue.proofs.cores.machine.Machine.clear.Goals as goal
 
@@ -17,6 +17,6 @@ hold-requires-clause-not_stub g c =
 
 pub index_mut-requires : goal.index_mut-requires
 index_mut-requires g c =
-    let l = within_of c.args.self.now.parties c.args.party _ c.requires.at in
+    let l = slice_get_within c.args.self.now.parties c.args.party _ c.requires.at in
     let here : c.args.party < length c.self.inside.parties.items = subst (λ (n : Machine g.row.E.Denot). c.args.party < length n.parties) (sym c.self.view_is) l in
     omega (arith, here)
