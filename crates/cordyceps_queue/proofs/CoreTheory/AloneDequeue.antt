@@ -98,7 +98,7 @@ module _ {E : Type 0} where
   pub no_right : (h : List (Event ℕ E)) (m : Machine E) (q t : ℕ) → CoreMeets h m → holder h ≡ Some q → m.right ≡ Some t → ⊥
   no_right h m q t was held right =
       let f = free_right (right_word m.right) (parties_of m.rooms m.parties) was.chain.rooms (reverse h) was.chain.keeper t (ap right_word right) was.meets.right in
-      some_none (sym held ∙ holder_of h ∙ f.1)
+      some_none (sym held ∙ holder_of h ∙ f.unheld)
 
   pub holds_right : (h : List (Event ℕ E)) (m : Machine E) (p q t : ℕ) → CoreMeets h m → holder h ≡ Some q → slice_get m.parties p ≡ Some (Holding t) → p ≡ q
   holds_right h m p q t was held at =

@@ -51,10 +51,17 @@ not_cons e = subst IsCons e tt
 first_of_cons : {A : Type 0} {x y : A} {xs ys : List A} → x ∷ xs ≡ y ∷ ys → x ≡ y
 first_of_cons {A} {x} e = ap (λ (l : List A). elim l as (λ _. A) [ a ∷ rest ↦ a | [] ↦ x ]) e
 
--- what a list begins with that a map made
-pub map_split : {E : Type 0} (xs : List E) (y : Option E) (ys : List (Option E)) → y ∷ ys ≡ map Some xs → (x : E) × (rest : List E) × (xs ≡ x ∷ rest) × (y ≡ Some x) × (ys ≡ map Some rest)
+-- what these are of which y and ys are the cells
+pub record Splits {E : Type 0} (xs : List E) (y : Option E) (ys : List (Option E)) : Type 0 where
+  pub first : E
+  pub rest : List E
+  pub is : xs ≡ first ∷ rest
+  pub cell : y ≡ Some first
+  pub cells : ys ≡ map Some rest
+
+map_split : {E : Type 0} (xs : List E) (y : Option E) (ys : List (Option E)) → y ∷ ys ≡ map Some xs → Splits xs y ys
 map_split [] y ys e = absurd (not_cons e)
-map_split (x ∷ xs) y ys e = (x, xs, refl, first_of_cons e, ap (drop 1) e)
+map_split (x ∷ xs) y ys e = record { first = x; rest = xs; is = refl; cell = first_of_cons e; cells = ap (drop 1) e }
 
 abbrev Once : List ℕ → Type 0
 Once xs = (i j r : ℕ) → ItemAt xs i r → ItemAt xs j r → i ≡ j
@@ -170,5 +177,5 @@ module _ {P E : Type 0} (m : AbstractMachine P E) (c : Chain) (h : List (Event P
   }
 
 -- the tail's element is the oldest that is held
-pub tail_full : {P E : Type 0} (m : AbstractMachine P E) (c : Chain) (h : List (Event P E)) (M : Meets m c h) (t : ℕ) → t ≢ 0 → ItemAt c.rooms 0 t → (e : E) × (rest : List E) × (held_reversed h ≡ e ∷ rest) × (m.cell t ≡ Some e) × (map m.cell (real (drop 1 c.rooms)) ≡ map Some rest)
+pub tail_full : {P E : Type 0} (m : AbstractMachine P E) (c : Chain) (h : List (Event P E)) (M : Meets m c h) (t : ℕ) → t ≢ 0 → ItemAt c.rooms 0 t → Splits (held_reversed h) (m.cell t) (map m.cell (real (drop 1 c.rooms)))
 tail_full m c h M t ne first = map_split (held_reversed h) (m.cell t) (map m.cell (real (drop 1 c.rooms))) (ap (map m.cell) (sym (real_first c.rooms t ne first)) ∙ M.holds)

@@ -11,11 +11,17 @@ use Rattle.cordyceps_queue.proofs.CoreTheory.OtherParties.{goes_without}
 use Rattle.cordyceps_queue.proofs.CoreTheory.StepLeaves.{chain_of, joined_still, moves_on, rooms_on, rooms_still}
 use Rattle.cordyceps_queue.proofs.CoreTheory.ProducerSteps.{spare_shared, ready_shared, shared_unmade}
 use Rattle.cordyceps_queue.proofs.CoreTheory.HolderSteps.{keeping, not_keeper, right_with}
-use Rattle.cordyceps_queue.proofs.CoreTheory.ChainShrinks.{at_down, at_up, real_stub, real_first, rank_stub, rank_first, map_split, owns_insert, second, last_less, once_less, tail_away, goes_drops}
+use Rattle.cordyceps_queue.proofs.CoreTheory.ChainShrinks.{at_down, at_up, Splits, real_stub, rank_stub, rank_first, tail_full, owns_insert, second, last_less, once_less, tail_away, goes_drops}
 
-pub free_right : {P E : Type 0} (right : ℕ) (party : ℕ → Option (AbstractParty P)) (rooms : List ℕ) (h : List (Event P E)) (keeper : Option ℕ) (t : ℕ) → right ≡ suc t → RightIs right party rooms h keeper → (keeper ≡ None) × (holder_reversed h ≡ None) × ItemAt rooms 0 t
+-- nobody has the right, and t is the tail
+pub record IsUnheld {P E : Type 0} (rooms : List ℕ) (h : List (Event P E)) (keeper : Option ℕ) (t : ℕ) : Type 0 where
+  pub keeper_is : keeper ≡ None
+  pub unheld : holder_reversed h ≡ None
+  pub tail_at : ItemAt rooms 0 t
+
+pub free_right : {P E : Type 0} (right : ℕ) (party : ℕ → Option (AbstractParty P)) (rooms : List ℕ) (h : List (Event P E)) (keeper : Option ℕ) (t : ℕ) → right ≡ suc t → RightIs right party rooms h keeper → IsUnheld rooms h keeper t
 free_right right party rooms h None t e R =
-    (refl, R.unheld, subst (ItemAt rooms 0) (suc_inj (sym R.right_is ∙ e)) R.tail_at)
+    record { keeper_is = refl; unheld = R.unheld; tail_at = subst (ItemAt rooms 0) (suc_inj (sym R.right_is ∙ e)) R.tail_at }
 free_right right party rooms h (Some j) t e R = absurd (suc_zero (sym e ∙ R.zero_is))
 
 module _ {P E : Type 0} (m : AbstractMachine P E) (c : Chain) (h : List (Event P E)) (M : Meets m c h) (k : ℕ) (p : AbstractParty P) (at : m.party k ≡ Some p) where
@@ -24,7 +30,7 @@ module _ {P E : Type 0} (m : AbstractMachine P E) (c : Chain) (h : List (Event P
     abbrev pub chain_after_take : Chain
     chain_after_take = record c { keeper = Some k }
 
-    free : (c.keeper ≡ None) × (holder_reversed h ≡ None) × ItemAt c.rooms 0 t
+    free : IsUnheld c.rooms h c.keeper t
     free = free_right m.right m.party c.rooms h c.keeper t right M.right
 
     settled : IsSettled p.name h
@@ -32,7 +38,7 @@ module _ {P E : Type 0} (m : AbstractMachine P E) (c : Chain) (h : List (Event P
 
     pub take_keeps : Meets (set_right m k p 0 (Holding t)) chain_after_take (Event.Take p.name ∷ h)
     take_keeps = moves_on m c h M k p at (Holding t) p.spare (set_right m k p 0 (Holding t)) chain_after_take (Event.Take p.name ∷ h) record {
-      legal = (free.1, M.legal);
+      legal = (free.unheld, M.legal);
       chain = chain_of m c h M;
       ends = M.ends;
       joined = joined_still m c h M k p at (Holding t) p.spare (λ a b o. absurd (subst (λ l. Owes l a b) rest o));
@@ -45,8 +51,8 @@ module _ {P E : Type 0} (m : AbstractMachine P E) (c : Chain) (h : List (Event P
         has = refl;
         held = refl;
       };
-      goes = λ j q _ _. goes_without (λ a n. n) (λ s. s) (λ n w. w) (λ is. none_some (sym free.0 ∙ is));
-      mine = record { kept = refl; held_by = refl; tail = free.2; settled = settled };
+      goes = λ j q _ _. goes_without (λ a n. n) (λ s. s) (λ n w. w) (λ is. none_some (sym free.keeper_is ∙ is));
+      mine = record { kept = refl; held_by = refl; tail = free.tail_at; settled = settled };
       rooms = rooms_still m c h M k p at (Holding t) p.spare (M.rooms k p at);
       strangers = λ n _ s. s;
     }
@@ -123,15 +129,15 @@ module _ {P E : Type 0} (m : AbstractMachine P E) (c : Chain) (h : List (Event P
     next_at : ItemAt c.rooms 1 r
     next_at = second m c h M t r keeps_tail.tail linked
 
-    oldest : (x : E) × (rest : List E) × (held_reversed h ≡ x ∷ rest) × (m.cell t ≡ Some x) × (map m.cell (real (drop 1 c.rooms)) ≡ map Some rest)
-    oldest = map_split (held_reversed h) (m.cell t) (map m.cell (real (drop 1 c.rooms))) (ap (map m.cell) (sym (real_first c.rooms t is_real keeps_tail.tail)) ∙ M.holds)
+    oldest : Splits (held_reversed h) (m.cell t) (map m.cell (real (drop 1 c.rooms)))
+    oldest = tail_full m c h M t is_real keeps_tail.tail
 
-    is_oldest : held_reversed h ≡ e ∷ oldest.1
-    is_oldest = oldest.2 ∙ ap (λ x. x ∷ oldest.1) (some_inj (sym oldest.3 ∙ full))
+    is_oldest : held_reversed h ≡ e ∷ oldest.rest
+    is_oldest = oldest.is ∙ ap (λ x. x ∷ oldest.rest) (some_inj (sym oldest.cell ∙ full))
 
     pub out_keeps : Meets (hand_out m k p t r) chain_after_out (Event.Out p.name e ∷ h)
     out_keeps = moves_on m c h M k p at (Holding r) (insert_room t p.spare) (hand_out m k p t r) chain_after_out (Event.Out p.name e ∷ h) record {
-      legal = ((keeps_tail.held_by, oldest.1, is_oldest), M.legal);
+      legal = ((keeps_tail.held_by, oldest.rest, is_oldest), M.legal);
       chain = record {
         last = last_less m c h M t r keeps_tail.tail linked;
         once = once_less m c h M t r keeps_tail.tail linked;
@@ -141,7 +147,7 @@ module _ {P E : Type 0} (m : AbstractMachine P E) (c : Chain) (h : List (Event P
       };
       ends = M.ends;
       joined = λ i a b ia ib. joined_still m c h M k p at (Holding r) (insert_room t p.spare) (λ a b o. absurd (nothing a b o)) (suc i) a b (at_down c.rooms i a ia) (at_down c.rooms (suc i) b ib);
-      holds = map_put m.cell t None (drop 1 c.rooms) (tail_away m c h M t r keeps_tail.tail linked) ∙ oldest.4 ∙ ap (map Some) (sym (ap (drop 1) is_oldest));
+      holds = map_put m.cell t None (drop 1 c.rooms) (tail_away m c h M t r keeps_tail.tail linked) ∙ oldest.cells ∙ ap (map Some) (sym (ap (drop 1) is_oldest));
       right = right_with m c h M k p at t has (Holding r) (insert_room t p.spare) (drop 1 c.rooms) (Event.Out p.name e ∷ h) r refl keeps_tail.held_by;
       goes = λ j q ne _. goes_drops m c h M t r keeps_tail.tail linked (update m.cell t None) (update c.owner t (Spare k)) (Event.Out p.name e ∷ h) j q
           (λ x y o f. put_other m.cell t None x (λ s. ready_shared o (ap c.owner s ∙ tail_shared)) ∙ f)

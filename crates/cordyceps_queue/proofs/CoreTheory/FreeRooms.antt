@@ -28,21 +28,27 @@ module _ {E : Type 0} where
   free_same p f (x ∷ xs) i zero same = ap (λ b. cond b (i ∷ free_from p (suc i) xs) (free_from p (suc i) xs)) (same x refl)
   free_same p f (x ∷ xs) i (suc r) same = ap (λ ys. cond (is_free_for p x) (i ∷ ys) ys) (free_same p f xs (suc i) r same)
 
-  -- the least free room, and the others
-  pub free_first : (p : ℕ) (f : Room E → Room E) (rooms : List (Room E)) (i r : ℕ) (rest : List ℕ) → ((y : Room E) → is_free_for p (f y) ≡ false) → free_from p i rooms ≡ r ∷ rest →
-      (j : ℕ) × (y : Room E) × (r ≡ j + i) × (slice_get rooms j ≡ Some y) × (is_free_for p y ≡ true) × (free_from p i (change f j rooms) ≡ rest)
+  -- the least free room, and that the others are these once it is changed by f
+  pub record LeastFree (p : ℕ) (f : Room E → Room E) (rooms : List (Room E)) (i r : ℕ) (rest : List ℕ) : Type 0 where
+    pub at : ℕ
+    pub room : Room E
+    pub is : r ≡ at + i
+    pub there : slice_get rooms at ≡ Some room
+    pub free : is_free_for p room ≡ true
+    pub others : free_from p i (change f at rooms) ≡ rest
+
+  pub free_first : (p : ℕ) (f : Room E → Room E) (rooms : List (Room E)) (i r : ℕ) (rest : List ℕ) → ((y : Room E) → is_free_for p (f y) ≡ false) → free_from p i rooms ≡ r ∷ rest → LeastFree p f rooms i r rest
   free_first p f [] i r rest gone e = let no : ⊥ = cc in absurd no
   free_first p f (x ∷ xs) i r rest gone e = from (free_first p f xs (suc i) r rest gone) (is_free_for p x) refl e
     where
-      from : (free_from p (suc i) xs ≡ r ∷ rest → (j : ℕ) × (y : Room E) × (r ≡ j + suc i) × (slice_get xs j ≡ Some y) × (is_free_for p y ≡ true) × (free_from p (suc i) (change f j xs) ≡ rest)) →
-          (b : Bool) → is_free_for p x ≡ b → cond b (i ∷ free_from p (suc i) xs) (free_from p (suc i) xs) ≡ r ∷ rest →
-          (j : ℕ) × (y : Room E) × (r ≡ j + i) × (slice_get (x ∷ xs) j ≡ Some y) × (is_free_for p y ≡ true) × (free_from p i (change f j (x ∷ xs)) ≡ rest)
+      from : (free_from p (suc i) xs ≡ r ∷ rest → LeastFree p f xs (suc i) r rest) → (b : Bool) → is_free_for p x ≡ b →
+          cond b (i ∷ free_from p (suc i) xs) (free_from p (suc i) xs) ≡ r ∷ rest → LeastFree p f (x ∷ xs) i r rest
       from rec true t e =
           let first : i ≡ r = cc in let others : free_from p (suc i) xs ≡ rest = cc in
-          (0, x, sym first ∙ omega arith, refl, t, ap (λ b. cond b (i ∷ free_from p (suc i) xs) (free_from p (suc i) xs)) (gone x) ∙ others)
+          record { at = 0; room = x; is = sym first ∙ omega arith; there = refl; free = t; others = ap (λ b. cond b (i ∷ free_from p (suc i) xs) (free_from p (suc i) xs)) (gone x) ∙ others }
       from rec false t e =
           let w = rec e in
-          (suc w.0, w.1, omega (arith, w.2), w.3, w.4, ap (λ b. cond b (i ∷ free_from p (suc i) (change f w.0 xs)) (free_from p (suc i) (change f w.0 xs))) t ∙ w.5)
+          record { at = suc w.at; room = w.room; is = omega (arith, w.is); there = w.there; free = w.free; others = ap (λ b. cond b (i ∷ free_from p (suc i) (change f w.at xs)) (free_from p (suc i) (change f w.at xs))) t ∙ w.others }
 
   -- each free room has a place among them
   pub free_has : (p : ℕ) (rooms : List (Room E)) (i j : ℕ) (y : Room E) → slice_get rooms j ≡ Some y → is_free_for p y ≡ true → (n : ℕ) × ItemAt (free_from p i rooms) n (j + i)

@@ -36,7 +36,7 @@ module _ {E : Type 0} where
 
     -- a tail that is not the stub has its element
     full : (stage : Stage) → slice_get m.parties p ≡ Some stage → (t : ℕ) → tail_of stage ≡ Some t → t ≢ 0 → (e : E) × (element_in (slice_get m.rooms t) ≡ Some e)
-    full stage at t has ne = let w = tail_full (abstract_of m) s.1.chain (reverse s.0) s.1.meets t ne (tail_at stage at t has) in (w.0, w.3)
+    full stage at t has ne = let w = tail_full (abstract_of m) s.1.chain (reverse s.0) s.1.meets t ne (tail_at stage at t has) in (w.first, w.cell)
 
     pub holding_full : (t : ℕ) → slice_get m.parties p ≡ Some (Holding t) → t ≢ 0 → (e : E) × (element_in (slice_get m.rooms t) ≡ Some e)
     holding_full t at ne = full (Holding t) at t refl ne

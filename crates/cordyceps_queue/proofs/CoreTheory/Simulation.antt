@@ -110,13 +110,13 @@ module _ {E : Type 0} where
         (abstract_of after ≡ words.clear_room (abstract_of m) p me r rest e) × IsOwned after
     holds e r rest free =
         let w = free_first p (with_element e) m.rooms 0 r rest (λ y. refl) free in
-        let same : r ≡ w.0 = omega (arith, w.2) in
-        let there : slice_get m.rooms r ≡ Some w.1 = ap (slice_get m.rooms) same ∙ w.3 in
-        let others : (k : ℕ) → k ≢ p → free_rooms k (change (with_element e) r m.rooms) ≡ free_rooms k m.rooms = λ k ne. free_same k (with_element e) m.rooms 0 r (λ y got. sym (not_mine k ne y (some_inj (sym there ∙ got)) w.4)) in (
+        let same : r ≡ w.at = omega (arith, w.is) in
+        let there : slice_get m.rooms r ≡ Some w.room = ap (slice_get m.rooms) same ∙ w.there in
+        let others : (k : ℕ) → k ≢ p → free_rooms k (change (with_element e) r m.rooms) ≡ free_rooms k m.rooms = λ k ne. free_same k (with_element e) m.rooms 0 r (λ y got. sym (not_mine k ne y (some_inj (sym there ∙ got)) w.free)) in (
           words_eq m.head (right_word m.right) (length (change (with_element e) r m.rooms)) (length m.rooms) (read next_in (change (with_element e) r m.rooms)) (update (read next_in m.rooms) r None)
               (read element_in (change (with_element e) r m.rooms)) (update (read element_in m.rooms) r (Some e)) _ _
-              (length-change (with_element e) r m.rooms) (read_changed next_in (with_element e) m.rooms r w.1 there) (read_changed element_in (with_element e) m.rooms r w.1 there)
-              (parties_put m.rooms (change (with_element e) r m.rooms) m.parties p stage (Cleared r) rest at (ap (λ n. free_rooms p (change (with_element e) n m.rooms)) same ∙ w.5) others),
+              (length-change (with_element e) r m.rooms) (read_changed next_in (with_element e) m.rooms r w.room there) (read_changed element_in (with_element e) m.rooms r w.room there)
+              (parties_put m.rooms (change (with_element e) r m.rooms) m.parties p stage (Cleared r) rest at (ap (λ n. free_rooms p (change (with_element e) n m.rooms)) same ∙ w.others) others),
           owned_by m.head m.right (change (with_element e) r m.rooms) (Cleared r) others,
         )
       where

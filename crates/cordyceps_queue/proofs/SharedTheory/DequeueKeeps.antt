@@ -255,14 +255,14 @@ module _ {E : Type 0} (s : TableState E) (k : PlainHolds s) (id : ℕ) (v : View
   hands before under M t r i has nothing is_real linked slots deep =
       let first : ItemAt k.chain.rooms 0 t = (keeping n k.chain (reverse before ++ out_events) M id (party v) there t has).tail in
       let f = tail_full n k.chain (reverse before ++ out_events) M t is_real first in
-      let e = f.0 in
+      let e = f.first in
       let near_t = chain_near s k 0 t first in
       let near_r = chain_near s k 1 r (second n k.chain (reverse before ++ out_events) M t r first linked) in
-      let o = out_kept before under M t r has nothing is_real linked e f.3 i in (
+      let o = out_kept before under M t r has nothing is_real linked e f.cell i in (
         record {
-          view = out_view before under M t r has nothing is_real linked e f.3;
+          view = out_view before under M t r has nothing is_real linked e f.cell;
           act = takes t (Some e);
-          valid = k.full 0 t first is_real ∙ ap (λ x. some (some x)) f.3;
+          valid = k.full 0 t first is_real ∙ ap (λ x. some (some x)) f.cell;
           becomes = o.0;
         },
         record {

@@ -66,7 +66,7 @@ module _ {E : Type 0} (s : TableState E) (k : PlainHolds s) (id : ℕ) (v : View
         let r = rights s k id v at named bare (x ∷ []) (refl, tt) (Holding t) (chain_after_take core k.chain gone_by k.meets id (party v) is_there t rest e) 0
         (take_keeps core k.chain gone_by k.meets id (party v) is_there t rest e) (same_rooms s k id v at named bare) (λ q is. cc) (ap cleared_count rest) refl (λ x pooled. pooled) in
         let first = free_right core.right core.party k.chain.rooms gone_by k.chain.keeper t e k.meets.right in
-        let near = chain_near s k 0 t first.2 in
+        let near = chain_near s k 0 t first.tail_at in
         let w = sees s k id v at named bare (x ∷ []) v.free v.end v.back v.to (Holding t) in (
           record {
             view = w;

@@ -123,8 +123,8 @@ module _ (E : Type 0) where
       is_first n k p e =
           let first : View E = newcomer n in
           let w = party_was (get_elem? (first ∷ []) k) p e in
-          let o = seats.only first w.0 k w.1 in
-          (o.0, ap party o.1 ∙ w.3)
+          let o = seats.only first w.view k w.there in
+          (o.0, ap party o.1 ∙ w.is)
 
       stub : (n : ℕ) → deal (Spare 0) (down_from n) new_owner 0 ≡ Shared
       stub n = deal_else (Spare 0) (down_from n) new_owner 0 (λ i a. let t = at_down_from n i 0 a in let l = t.1 in absurd (omega arith))
@@ -158,7 +158,7 @@ module _ {E : Type 0} (s : TableState E) (k : PlainHolds s) (id n : ℕ) (v : Vi
   far_free : (q : AbstractParty Name) → (core s k).party far ≡ Some q → ⊥
   far_free q e =
       let w = party_was (get_elem? s.views far) q e in
-      let l = at_length s.views far w.0 w.1 in
+      let l = at_length s.views far w.view w.there in
       let same = length-set s.views id left_view in omega arith
 
   was_here : (q : AbstractParty Name) → (core s k).party id ≡ Some q → party v ≡ q
@@ -187,22 +187,22 @@ module _ {E : Type 0} (s : TableState E) (k : PlainHolds s) (id n : ℕ) (v : Vi
     fixed = deal_fixed k.chain.owner id (Spare far) (take n v.free) taken;
     stays = λ i p e. elim (ℕ_discrete i id) [
       | yes same ↦ let is = was_here p (ap (core s k).party (sym same) ∙ e) in inr (ap (λ (x : AbstractParty Name). x.name) (sym is), ap (λ (x : AbstractParty Name). x.stage) (sym is) ∙ rest)
-      | no ne ↦ let w = party_was (get_elem? s.views i) p e in inl (ap party_of (cut_still i w.0 ne w.1 ∙ sym w.1) ∙ e)
+      | no ne ↦ let w = party_was (get_elem? s.views i) p e in inl (ap party_of (cut_still i w.view ne w.there ∙ sym w.there) ∙ e)
     ];
     was = λ i p e.
         let w = party_was (get_elem? cut_views i) p e in
-        subst (Was_cut i) w.3 (set_more (λ j u. u.known.share ≢ [] → Was_cut j (party u)) s.views id left_view right
+        subst (Was_cut i) w.is (set_more (λ j u. u.known.share ≢ [] → Was_cut j (party u)) s.views id left_view right
         (λ _. inr (rest, λ q e. ap (λ (x : AbstractParty Name). x.name) (sym (was_here q e))))
         (λ _. inr (refl, λ q e. absurd (far_free q e)))
         (λ j u ne there some_name. inl (party_at s k j u there some_name))
-        i w.0 w.1 w.2);
+        i w.view w.there w.named);
     rooms = λ i p e.
         let w = party_was (get_elem? cut_views i) p e in
-        subst (λ (q : AbstractParty Name). OwnsRooms owner_cut i q.spare) w.3 (set_more (λ j u. u.known.share ≢ [] → OwnsRooms owner_cut j (party u).spare) s.views id left_view right
+        subst (λ (q : AbstractParty Name). OwnsRooms owner_cut i q.spare) w.is (set_more (λ j u. u.known.share ≢ [] → OwnsRooms owner_cut j (party u).spare) s.views id left_view right
         (λ _. subst (OwnsRooms owner_cut id) (sym (ap (λ l. drop n v.free ++ l) bare ∙ append-nil (drop n v.free))) (deal_kept k.chain.owner id v.free free_rooms n (Spare far)))
         (λ _. subst (OwnsRooms owner_cut far) (sym (append-nil (take n v.free))) (deal_given k.chain.owner id v.free free_rooms n far))
         (λ j u ne there some_name. deal_others k.chain.owner id (Spare far) (take n v.free) taken j (u.free ++ u.back) ne (rooms_of s k j u there some_name))
-        i w.0 w.1 w.2);
+        i w.view w.there w.named);
     names = names_differ cut_views k.history cut_owned;
   }
 
@@ -315,18 +315,18 @@ module _ {E : Type 0} (s : TableState E) (k : PlainHolds s) (id other : ℕ) (v 
     ];
     was = λ i p e.
         let t = party_was (get_elem? joint i) p e in
-        subst (Was_join i) t.3 (two_set (λ j u. u.known.share ≢ [] → Was_join j (party u)) s.views id other (view_absorbing v w) view_absorbed
+        subst (Was_join i) t.is (two_set (λ j u. u.known.share ≢ [] → Was_join j (party u)) s.views id other (view_absorbing v w) view_absorbed
         (λ _. inr (refl, λ q e. inl (ap (λ (x : AbstractParty Name). x.name) (sym (first_was q e)))))
         (λ some_name. absurd (some_name refl))
         (λ j u ne no_other at some_name. inl (party_at s k j u at some_name))
-        i t.0 t.1 t.2);
+        i t.view t.there t.named);
     rooms = λ i p e.
         let t = party_was (get_elem? joint i) p e in
-        subst (λ (q : AbstractParty Name). OwnsRooms owner_join i q.spare) t.3 (two_set (λ j u. u.known.share ≢ [] → OwnsRooms owner_join j (party u).spare) s.views id other (view_absorbing v w) view_absorbed
+        subst (λ (q : AbstractParty Name). OwnsRooms owner_join i q.spare) t.is (two_set (λ j u. u.known.share ≢ [] → OwnsRooms owner_join j (party u).spare) s.views id other (view_absorbing v w) view_absorbed
         (λ _. subst (OwnsRooms owner_join id) (sym (append-nil (v.free ++ w.free))) (deal_both k.chain.owner id other v.free w.free (λ e. apart (sym e)) first_rooms second_rooms))
         (λ some_name. absurd (some_name refl))
         (λ j u ne no_other at some_name. deal_others k.chain.owner other (Spare id) w.free second_rooms.own j (u.free ++ u.back) no_other (rooms_of s k j u at some_name))
-        i t.0 t.1 t.2);
+        i t.view t.there t.named);
     names = names_differ joint relabelled_history joint_owned;
   }
 

@@ -38,9 +38,15 @@ named_was (n ∷ ns) p q e = ((λ c. absurd (cc)), some_inj e)
 
 module _ {E : Type 0} where
   -- a party is a seat with a share
-  pub party_was : (o : maybe.Option (View E)) (p : AbstractParty Name) → party_of o ≡ Some p → (u : View E) × (o ≡ some u) × (u.known.share ≢ []) × (party u ≡ p)
+  pub record IsSeat (o : maybe.Option (View E)) (p : AbstractParty Name) : Type 0 where
+    pub view : View E
+    pub there : o ≡ some view
+    pub named : view.known.share ≢ []
+    pub is : party view ≡ p
+
+  pub party_was : (o : maybe.Option (View E)) (p : AbstractParty Name) → party_of o ≡ Some p → IsSeat o p
   party_was none p e = absurd (none_some e)
-  party_was (some u) p e = let t = named_was u.known.share (party u) p e in (u, refl, t.0, t.1)
+  party_was (some u) p e = let t = named_was u.known.share (party u) p e in record { view = u; there = refl; named = t.0; is = t.1 }
 
 -- ---- names
 named_first : (ns : List Name) (y : Name) → ns ≢ [] → 1 ≤ covers (first_name ns ++ y) ns
@@ -71,7 +77,7 @@ module _ {E : Type 0} (views : List (View E)) (h : History E) (o : SharesDisjoin
       let a = party_was (get_elem? views j) p ej in
       let b = party_was (get_elem? views k) q ek in
       let by : (x : AbstractParty Name) → Name = λ (x : AbstractParty Name). x.name in
-      same_seat j k a.0 b.0 a.1 b.1 a.2 b.2 (ap by a.3 ∙ (same ∙ sym (ap by b.3)))
+      same_seat j k a.view b.view a.there b.there a.named b.named (ap by a.is ∙ (same ∙ sym (ap by b.is)))
 
 -- ---- rooms
 module _ {E : Type 0} (s : TableState E) (k : PlainHolds s) (id : ℕ) (v : View E) (at : get_elem? s.views id ≡ some v) (named : v.known.share ≢ []) where
@@ -92,8 +98,8 @@ module _ {E : Type 0} (s : TableState E) (k : PlainHolds s) (id : ℕ) (v : View
   not_another : (j : ℕ) (p : AbstractParty Name) (q : Name) → j ≢ id → (core s k).party j ≡ Some p → p.name ≡ q → IsOf v.known.share q → ⊥
   not_another j p q ne e same of =
       let w = party_was (get_elem? s.views j) p e in
-      let clear = first_clear knows s.views k.history id j v w.0 k.owned (λ c. ne (sym c)) at w.1 w.2 in
-      of (subst (λ n. Clear n v.known.share) (ap (λ (z : AbstractParty Name). z.name) w.3 ∙ same) clear)
+      let clear = first_clear knows s.views k.history id j v w.view k.owned (λ c. ne (sym c)) at w.there w.named in
+      of (subst (λ n. Clear n v.known.share) (ap (λ (z : AbstractParty Name). z.name) w.is ∙ same) clear)
 
   mine : (p : AbstractParty Name) → (core s k).party id ≡ Some p → party v ≡ p
   mine p e = some_inj (sym (party_at s k id v at named) ∙ e)

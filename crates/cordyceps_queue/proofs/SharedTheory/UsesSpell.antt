@@ -132,7 +132,7 @@ module _ {E : Type 0} (s : TableState E) (k : PlainHolds s) where
   spare_not_in l x i free a = spare_shared free (k.meets.shared i x a)
 
   pub right_in : (t : ℕ) → word.right s.words ≡ suc t → ItemAt k.chain.rooms 0 t
-  right_in t e = (free_right (core s k).right (core s k).party k.chain.rooms (reverse (events k.history)) k.chain.keeper t e k.meets.right).2
+  right_in t e = (free_right (core s k).right (core s k).party k.chain.rooms (reverse (events k.history)) k.chain.keeper t e k.meets.right).tail_at
 
   pub next_in : (i x y : ℕ) → ItemAt k.chain.rooms i x → word.next s.words x ≡ suc y → (j : ℕ) × ItemAt k.chain.rooms j y
   next_in i x y a e = leads_in (core s k) k.chain (reverse (events k.history)) k.meets i x y a (ap link_of e)
