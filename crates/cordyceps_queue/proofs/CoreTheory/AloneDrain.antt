@@ -25,12 +25,19 @@ use Rattle.cordyceps_queue.proofs.CoreTheory.CoreKeeps.{core_steps}
 use Rattle.cordyceps_queue.proofs.CoreTheory.AloneTry.{IsFinal, step_met, tries_law}
 
 module _ {E : Type 0} where
+  -- the elements that came out, and why no more did
+  abbrev pub came_out : Drained E → List E
+  came_out d = d.1
+
+  abbrev pub stop_of : Drained E → Option TryDequeueError
+  stop_of d = d.2
+
   -- what a holder's tries come to
   pub record Law (h : List (Event ℕ E)) (p n : ℕ) (t : ℕ) (d : Drained E) : Type 0 where
-    pub meets : CoreMeets (h ++ drain_events p d.1 d.2) d.0
-    pub took : Drains h p n (Some (Holding t)) d.1 d.2
+    pub meets : CoreMeets (h ++ drain_events p (came_out d) (stop_of d)) d.0
+    pub took : Drains h p n (Some (Holding t)) (came_out d) (stop_of d)
     pub holds : (u : ℕ) × (slice_get d.0.parties p ≡ Some (Holding u))
-    pub free : d.2 ≢ Some error.Busy
+    pub free : stop_of d ≢ Some error.Busy
 
   -- what is held after a try that gave an element
   gone : (h : List (Event ℕ E)) (p : ℕ) (e : E) (m m2 : Machine E) → CoreMeets h m → CoreMeets (h ++ Look p ∷ Out p e ∷ []) m2 → held (h ++ Look p ∷ Out p e ∷ []) ≡ drop 1 (held h)
@@ -62,12 +69,12 @@ module _ {E : Type 0} where
       let d = after_drain p n out in
       let left : held h ≡ e ∷ held (h ++ Look p ∷ Out p e ∷ []) = finds.1 ∙ ap (λ z. e ∷ z) (ap (drop 1) (sym finds.1) ∙ sym (gone h p e m out was met)) in
       record {
-        meets = subst (λ l. CoreMeets l d.0) (append_assoc h (Look p ∷ Out p e ∷ []) (drain_events p d.1 d.2) ∙ ap (λ l. h ++ l) (sym (one_more p e d.1 d.2))) L.meets;
+        meets = subst (λ l. CoreMeets l d.0) (append_assoc h (Look p ∷ Out p e ∷ []) (drain_events p (came_out d) (stop_of d)) ∙ ap (λ l. h ++ l) (sym (one_more p e (came_out d) (stop_of d)))) L.meets;
         took = record {
           rest = L.took.rest;
           front = left ∙ ap (λ z. e ∷ z) L.took.front;
           few = let f = L.took.few in omega arith;
-          stops = stops_more h p n t holds.0 e d.1 d.2 left L.took.stops L.free;
+          stops = stops_more h p n t holds.0 e (came_out d) (stop_of d) left L.took.stops L.free;
         };
         holds = L.holds;
         free = L.free;
@@ -98,8 +105,8 @@ module _ {E : Type 0} where
 
   -- what a call comes to
   pub record Whole (h : List (Event ℕ E)) (p n : ℕ) (stage : Option Stage) (d : Drained E) : Type 0 where
-    pub meets : CoreMeets (h ++ batch_events p stage d.1 d.2) d.0
-    pub took : Drains h p n stage d.1 d.2
+    pub meets : CoreMeets (h ++ batch_events p stage (came_out d) (stop_of d)) d.0
+    pub took : Drains h p n stage (came_out d) (stop_of d)
 
   rest_events : (p : ℕ) (es : List E) (stop : Option TryDequeueError) → stop ≢ Some error.Busy → batch_events p (Some Rest) es stop ≡ Take p ∷ drain_events p es stop ++ Free p ∷ []
   rest_events p es None f = refl
@@ -118,20 +125,20 @@ module _ {E : Type 0} where
   whole_taken n h m p t was at =
       let L = law n (h ++ Take p ∷ []) m p t was at in
       let d = after_drain p n m in
-      let H : List (Event ℕ E) = (h ++ Take p ∷ []) ++ drain_events p d.1 d.2 in
+      let H : List (Event ℕ E) = (h ++ Take p ∷ []) ++ drain_events p (came_out d) (stop_of d) in
       let K = core_steps H d.0 p step.Give L.meets in
       let given : CoreMeets (H ++ Free p ∷ []) (after_step d.0 p step.Give).0 =
       subst (λ l. CoreMeets (H ++ l) (after_step d.0 p step.Give).0) (ap (λ o. events_of p d.0.rooms o step.Give (after_step_at d.0 p o step.Give).1) L.holds.1) K.0 in
-      let whole : H ++ Free p ∷ [] ≡ h ++ batch_events p (Some Rest) d.1 d.2 =
-      append_assoc (h ++ Take p ∷ []) (drain_events p d.1 d.2) (Free p ∷ []) ∙ (append_assoc h (Take p ∷ []) (drain_events p d.1 d.2 ++ Free p ∷ [])
-      ∙ ap (λ l. h ++ l) (sym (rest_events p d.1 d.2 L.free))) in
+      let whole : H ++ Free p ∷ [] ≡ h ++ batch_events p (Some Rest) (came_out d) (stop_of d) =
+      append_assoc (h ++ Take p ∷ []) (drain_events p (came_out d) (stop_of d)) (Free p ∷ []) ∙ (append_assoc h (Take p ∷ []) (drain_events p (came_out d) (stop_of d) ++ Free p ∷ [])
+      ∙ ap (λ l. h ++ l) (sym (rest_events p (came_out d) (stop_of d) L.free))) in
       record {
         meets = subst (λ l. CoreMeets l (after_step d.0 p step.Give).0) whole given;
         took = record {
           rest = L.took.rest;
           front = sym (held_take h p) ∙ L.took.front;
           few = L.took.few;
-          stops = stops_before h p n t d.1 d.2 L.free L.took.stops;
+          stops = stops_before h p n t (came_out d) (stop_of d) L.free L.took.stops;
         };
       }
 
@@ -158,7 +165,7 @@ module _ {E : Type 0} where
 
   -- elements that came out before, and then those that came out
   abbrev pub after_items : List E → Drained E → Drained E
-  after_items es d = (d.0, es ++ d.1, d.2)
+  after_items es d = record d { 1 = es ++ d.1 }
 
   -- a try of a holder that gave an element
   pub record Gave (h : List (Event ℕ E)) (p : ℕ) (m : Machine E) (e : E) : Type 0 where
@@ -181,7 +188,7 @@ module _ {E : Type 0} where
   pub after_more : (p k : ℕ) (items : List E) (m : Machine E) (e : E) → found_of (tries p 6 m).1 ≡ Ok e → after_items (items ++ e ∷ []) (after_drain p k (tries p 6 m).0) ≡ after_items items (after_drain p (suc k) m)
   after_more p k items m e is =
       let d = after_drain p k (tries p 6 m).0 in
-      ap (λ es. (d.0, es, d.2)) (append_assoc items (e ∷ []) d.1) ∙ ap (after_items items) (sym (ap (drain_goes_on (after_drain p k) (tries p 6 m).0) is))
+      ap (λ es. record d { 1 = es }) (append_assoc items (e ∷ []) d.1) ∙ ap (after_items items) (sym (ap (drain_goes_on (after_drain p k) (tries p 6 m).0) is))
 
   pub after_last : (p k : ℕ) (items : List E) (m : Machine E) (why : TryDequeueError) → found_of (tries p 6 m).1 ≡ Err why → ((tries p 6 m).0, items, Some why) ≡ after_items items (after_drain p (suc k) m)
   after_last p k items m why is =
@@ -243,25 +250,25 @@ module _ {E : Type 0} where
   stops_oldest h p n stage es rest (Some error.Busy) some first few s still mine = absurd (s.3 (mine s.1 s.2))
 
   pub oldest_law : (h : List (Event ℕ E)) (m : Machine E) (p n : ℕ) → CoreMeets h m → may_dequeue (slice_get m.parties p) ≡ true → 1 ≤ n → NobodyPending h → NobodyElse h p →
-      let d = after_drain_at p n m (slice_get m.parties p) in batch_of d.1 d.2 ≡ oldest n (held h)
+      let d = after_drain_at p n m (slice_get m.parties p) in batch_of (came_out d) (stop_of d) ≡ oldest n (held h)
   oldest_law h m p n was may some still mine =
       let W = batch_law n h m p was may in
       let d = after_drain_at p n m (slice_get m.parties p) in
-      stops_oldest h p n (slice_get m.parties p) d.1 W.took.rest d.2 some W.took.front W.took.few W.took.stops still mine
+      stops_oldest h p n (slice_get m.parties p) (came_out d) W.took.rest (stop_of d) some W.took.front W.took.few W.took.stops still mine
 
   -- where another party has the right
   held_rest : (h : List (Event ℕ E)) (m : Machine E) (p q n : ℕ) → CoreMeets h m → holder h ≡ Some q → (o : Option ℕ) → m.right ≡ o →
-      let d = drains_first p n (take m p o).0 (take m p o).1 in batch_of d.1 d.2 ≡ Err error.Busy
+      let d = drains_first p n (take m p o).0 (take m p o).1 in batch_of (came_out d) (stop_of d) ≡ Err error.Busy
   held_rest h m p q n was held None right = refl
   held_rest h m p q n was held (Some t) right = absurd (no_right h m q t was held right)
 
   held_at : (h : List (Event ℕ E)) (m : Machine E) (p q n : ℕ) → CoreMeets h m → holder h ≡ Some q → p ≢ q → (stage : Option Stage) → slice_get m.parties p ≡ stage → may_dequeue stage ≡ true →
-      let d = after_drain_at p n m stage in batch_of d.1 d.2 ≡ Err error.Busy
+      let d = after_drain_at p n m stage in batch_of (came_out d) (stop_of d) ≡ Err error.Busy
   held_at h m p q n was held ne (Some Rest) at may =
-      subst (λ (out : Outcome E). let d = drains_first p n out.0 out.1 in batch_of d.1 d.2 ≡ Err error.Busy) (sym (ap (λ o. after_step_at m p o step.Take) at)) (held_rest h m p q n was held m.right refl)
+      subst (λ (out : Outcome E). let d = drains_first p n out.0 out.1 in batch_of (came_out d) (stop_of d) ≡ Err error.Busy) (sym (ap (λ o. after_step_at m p o step.Take) at)) (held_rest h m p q n was held m.right refl)
   held_at h m p q n was held ne (Some (Holding t)) at may = absurd (ne (holds_right h m p q t was held at))
   held_at h m p q n was held ne stage at may = let no : ⊥ = cc in absurd no
 
   pub held_law : (h : List (Event ℕ E)) (m : Machine E) (p q n : ℕ) → CoreMeets h m → holder h ≡ Some q → p ≢ q → may_dequeue (slice_get m.parties p) ≡ true →
-      let d = after_drain_at p n m (slice_get m.parties p) in batch_of d.1 d.2 ≡ Err error.Busy
+      let d = after_drain_at p n m (slice_get m.parties p) in batch_of (came_out d) (stop_of d) ≡ Err error.Busy
   held_law h m p q n was held ne may = held_at h m p q n was held ne (slice_get m.parties p) refl may

@@ -37,7 +37,7 @@ use Rattle.cordyceps_queue.proofs.CoreTheory.SpareMoves.{moves_keep}
 use Rattle.cordyceps_queue.proofs.CoreTheory.ProducerSteps.{spare_shared, ready_shared, shared_pooled}
 use Rattle.cordyceps_queue.proofs.CoreTheory.ChainShrinks.{at_down, real_first, tail_full, tail_away, second}
 use Rattle.cordyceps_queue.proofs.SharedTheory.SeatNames.{few_rooms}
-use Rattle.cordyceps_queue.proofs.SharedTheory.WordsAsMachine.{links_same, next_low, none_cleared, keeps_rule, rooms_of}
+use Rattle.cordyceps_queue.proofs.SharedTheory.WordsAsMachine.{party_spelled, links_same, next_low, none_cleared, keeps_rule, rooms_of}
 use Rattle.cordyceps_queue.proofs.SharedTheory.WordsAsMachine.{empties, empties_same, readies, readies_same}
 use Rattle.cordyceps_queue.proofs.SharedTheory.WordsAsMachine.{linkeds_low, linkeds_same, chain_near, LeavesPool}
 use Rattle.cordyceps_queue.proofs.SharedTheory.WordsAsMachine.{PlainStep, Becomes, Comes as Keeping}
@@ -103,19 +103,9 @@ module _ {E : Type 0} (s : TableState E) (k : PlainHolds s) (id : ℕ) (v : View
       → Becomes s k v (sees es v.free v.end v.back v.to stage) record { words = set s.words i (get_or s.words i 0); homes = s.homes; views = set s.views id (sees es v.free v.end v.back v.to stage) } × Sees v es (sees es v.free v.end v.back v.to stage)
   reads es under stage chain met among away quiet even owners i =
       let w = sees es v.free v.end v.back v.to stage in
-      let same : set_stage n id (party v) stage ≡ machine_of k.cell s.words (set s.views id w) = spelled w in
+      let same : set_stage n id (party v) stage ≡ machine_of k.cell s.words (set s.views id w) = party_spelled s.words k.cell (set s.views id w) (views_put s k id v at named w named) in
       let r = keeps_rule s k id es v w s.words s.homes k.cell chain (set_stage n id (party v) stage) at named under refl same met refl refl (full_among chain.rooms among) (empties_same s k id w (k.empty id v at named)) (readies_same s k id w away) (linkeds_same s k id w (k.linked id v at named)) refl (λ j x jx. inr (among j x jx)) (λ j x jx. inl (j, jx)) (leaves_rooms es stage chain s.words away quiet even owners (λ _ _. refl)) in
       (subst (λ (ws : List ℕ). Becomes s k v w record { words = ws; homes = s.homes; views = set s.views id w }) (sym (set-get_or s.words i 0)) r.0, r.1)
-    where
-      spelled : (w : View E) → set_stage n id (party v) stage ≡ machine_of k.cell s.words (set s.views id (sees es v.free v.end v.back v.to stage))
-      spelled w j = record {
-        head = word.head s.words;
-        right = word.right s.words;
-        count = length s.words - LINKS;
-        next = λ r. link_of (word.next s.words r);
-        cell = k.cell;
-        party = views_put s k id v at named (sees es v.free v.end v.back v.to stage) named j;
-      }
 
   -- the right changes
   pub rights : (es : List (Event Name E)) → Under actor (name v) es → (stage : Stage) (chain : Chain) (right : ℕ) → Meets (set_right n id (party v) right stage) chain (reverse es ++ out_events) → Among chain.rooms k.chain.rooms → ((q : ℕ) → stage ≡ Cleared q → ⊥) → cleared_count v.stage ≡ 0 → length (real chain.rooms) ≡ length (real k.chain.rooms) → ((r : ℕ) → k.chain.owner r ≡ Pooled → chain.owner r ≡ Pooled)
@@ -177,14 +167,7 @@ module _ {E : Type 0} (s : TableState E) (k : PlainHolds s) (id : ℕ) (v : View
         id handed_party (put_same n.party id (Some handed_party)) next_chain.owner (v.free ++ t ∷ []) record { fixed = λ x o e _ _. e; others = λ j rooms _ R. R; mine = new_rooms }
 
     spelled_out : freed_machine ≡ machine_of (update k.cell t None) s.words (set s.views id out_view)
-    spelled_out j = record {
-      head = word.head s.words;
-      right = word.right s.words;
-      count = length s.words - LINKS;
-      next = λ x. link_of (word.next s.words x);
-      cell = update k.cell t None;
-      party = (put_twice n.party id (Some handed_party) (Some (party out_view)) ∙ views_put s k id v at named out_view named) j;
-    }
+    spelled_out = party_spelled s.words (update k.cell t None) (set s.views id out_view) (put_twice n.party id (Some handed_party) (Some (party out_view)) ∙ views_put s k id v at named out_view named)
 
     out_full : FullAtHome homes_out (update k.cell t None) next_chain.rooms
     out_full i x ix ne =

@@ -27,7 +27,7 @@ use Rattle.cordyceps_queue.specs.Cores.Abstract.{AbstractMachine, update, clear_
 use Rattle.cordyceps_queue.proofs.CoreTheory.Basics.{some_inj, put_same, put_other, at_split, real_more}
 use Rattle.cordyceps_queue.proofs.CoreTheory.ChainGrows.{real_one}
 use Rattle.cordyceps_queue.proofs.CoreTheory.ProducerSteps.{spare_shared, spare_pooled, ready_spare, ready_pooled, shared_pooled, clear_keeps, chain_after_clear, swap_keeps, chain_after_swap, was, fresh, link_keeps, spare_one}
-use Rattle.cordyceps_queue.proofs.SharedTheory.WordsAsMachine.{links_put, links_same, next_low, parties_put, keeps_rule, core, party_at, rooms_of, free_spare, empties, empties_same, readies, readies_same, head_near, linked_else, own_links, linkeds, linkeds_low, Becomes, PlainAllows}
+use Rattle.cordyceps_queue.proofs.SharedTheory.WordsAsMachine.{link_spelled, head_spelled, links_put, links_same, next_low, parties_put, keeps_rule, core, party_at, rooms_of, free_spare, empties, empties_same, readies, readies_same, head_near, linked_else, own_links, linkeds, linkeds_low, Becomes, PlainAllows}
 
 abbrev room_of : Stage → ℕ
 room_of (Cleared r) = r
@@ -77,14 +77,8 @@ module _ {E : Type 0} (s : TableState E) (k : PlainHolds s) (id : ℕ) (v : View
     inside = at_length s.homes r (some None) (empty 0 r refl)
 
     clear_machine : clear_room m id (party v) r rs e ≡ machine_of (update k.cell r (Some e)) words_clear (set s.views id clear_view)
-    clear_machine i = record {
-      head = sym (head_beside_next s.words r 0) i;
-      right = sym (right_beside_next s.words r 0) i;
-      count = ap (λ n. n - LINKS) (sym (length-set s.words (LINKS + r) 0)) i;
-      next = sym (links_put s.words r 0 (let w = wide_words in let l = inside in omega arith)) i;
-      cell = update k.cell r (Some e);
-      party = (ap (λ (l : List ℕ). update m.party id (Some record { name = name v; stage = Cleared r; spare = l })) (sym (append-nil rs)) ∙ views_put clear_view named) i;
-    }
+    clear_machine = link_spelled s.words r 0 (update k.cell r (Some e)) (set s.views id clear_view) (let w = wide_words in let l = inside in omega arith)
+        (ap (λ (l : List ℕ). update m.party id (Some record { name = name v; stage = Cleared r; spare = l })) (sym (append-nil rs)) ∙ views_put clear_view named)
 
     clear_full : FullAtHome homes_clear (update k.cell r (Some e)) k.chain.rooms
     clear_full i x ix ne =
@@ -139,14 +133,7 @@ module _ {E : Type 0} (s : TableState E) (k : PlainHolds s) (id : ℕ) (v : View
     known = was m k.chain past k.meets id (party v) here r e ready has
 
     swap_machine : swap_head m id (party v) r (Swapped r found_word) ≡ machine_of k.cell words_swap (set s.views id swap_view)
-    swap_machine i = record {
-      head = sym (head_set s.words r (let w = wide_words in omega arith)) i;
-      right = sym (right_beside_head s.words r) i;
-      count = ap (λ n. n - LINKS) (sym (length-set s.words HEAD r)) i;
-      next = sym (links_same s.words HEAD r (omega arith)) i;
-      cell = k.cell;
-      party = views_put swap_view named i;
-    }
+    swap_machine = head_spelled s.words r k.cell (set s.views id swap_view) (let w = wide_words in omega arith) (views_put swap_view named)
 
     swap_full : FullAtHome homes_swap k.cell (k.chain.rooms ++ r ∷ [])
     swap_full i x ix ne = elim (at_split k.chain.rooms r i x ix) [
@@ -189,14 +176,7 @@ module _ {E : Type 0} (s : TableState E) (k : PlainHolds s) (id : ℕ) (v : View
     words_link = set s.words (LINKS + old) (suc r)
 
     link_machine : link_next m id (party v) old r Rest ≡ machine_of k.cell words_link (set s.views id link_view)
-    link_machine i = record {
-      head = sym (head_beside_next s.words old (suc r)) i;
-      right = sym (right_beside_next s.words old (suc r)) i;
-      count = ap (λ n. n - LINKS) (sym (length-set s.words (LINKS + old) (suc r))) i;
-      next = sym (links_put s.words old (suc r) (let w = wide_words in let l = inside in omega arith)) i;
-      cell = k.cell;
-      party = views_put link_view named i;
-    }
+    link_machine = link_spelled s.words old (suc r) k.cell (set s.views id link_view) (let w = wide_words in let l = inside in omega arith) (views_put link_view named)
 
     old_shared : k.chain.owner old ≡ Shared
     old_shared = let f = subst (AtStage m.head m.next m.cell k.chain.owner k.chain.keeper k.chain.rooms past id

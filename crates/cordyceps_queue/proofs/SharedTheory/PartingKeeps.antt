@@ -39,7 +39,7 @@ use Rattle.cordyceps_queue.proofs.CoreTheory.NewMachines.{new_owner, stub_alone,
 use Rattle.cordyceps_queue.proofs.CoreTheory.ProducerSteps.{spare_pooled}
 use Rattle.cordyceps_queue.proofs.SharedTheory.SeatNames.{party_was, name_known, names_differ}
 use Rattle.cordyceps_queue.proofs.CoreTheory.SplitParties.{deal, deal_else, deal_here, deal_fixed, deal_others, deal_kept, deal_given, deal_both, Regroups, regroups_keep}
-use Rattle.cordyceps_queue.proofs.SharedTheory.WordsAsMachine.{core, party_at, rooms_of, parties_put, pool_stays, count_same, spent_else, Stays}
+use Rattle.cordyceps_queue.proofs.SharedTheory.WordsAsMachine.{party_spelled, core, party_at, rooms_of, parties_put, pool_stays, count_same, spent_else, Stays}
 
 pub at_down_from : (n i r : ℕ) → ItemAt (down_from n) i r → (i + r ≡ n) × (1 ≤ r)
 at_down_from zero i r a = absurd a
@@ -410,11 +410,4 @@ module _ {E : Type 0} (s : TableState E) (k : PlainHolds s) (id : ℕ) (v : View
   }
     where
       unchanged : machine_of k.cell s.words s.views ≡ machine_of k.cell s.words (set s.views id (view_without_told v))
-      unchanged i = record {
-        head = word.head s.words;
-        right = word.right s.words;
-        count = length s.words - LINKS;
-        next = λ r. link_of (word.next s.words r);
-        cell = k.cell;
-        party = (sym (put_again (core s k).party id (party v) (party_at s k id v at named)) ∙ sym (parties_put s.views id (view_without_told v) (at_length s.views id v at) named)) i;
-      }
+      unchanged = party_spelled s.words k.cell (set s.views id (view_without_told v)) (sym (put_again (core s k).party id (party v) (party_at s k id v at named)) ∙ sym (parties_put s.views id (view_without_told v) (at_length s.views id v at) named))

@@ -47,7 +47,7 @@ use Rattle.cordyceps_queue.proofs.SharedTheory.SpareKeeps.{skip_kept}
 use Rattle.cordyceps_queue.proofs.SharedTheory.UsesKeep.{plain_table, mine}
 use Rattle.cordyceps_queue.proofs.SharedTheory.UsesShare.{same_words}
 use Rattle.cordyceps_queue.proofs.SharedTheory.UsesSpell.{free_link_as, pool_links, spells_low}
-use Rattle.cordyceps_queue.proofs.SharedTheory.WordsAsMachine.{at_after, next_low, core, party_at, rooms_of, free_spare, spent_else}
+use Rattle.cordyceps_queue.proofs.SharedTheory.WordsAsMachine.{party_spelled, at_after, next_low, core, party_at, rooms_of, free_spare, spent_else}
 
 -- ---- the slots of the pool's rooms are taken
 abbrev take_all : {E : Type 0} → List ℕ → Act (Option E)
@@ -128,14 +128,7 @@ module _ {E : Type 0} (s : TableState E) (k : PlainHolds s) (id : ℕ) (v : View
   still_named e = named (sym same ∙ e)
 
   moved_machine : record (core s k) { party = update (core s k).party id (Some (record (party v) { spare = free ++ back })) } ≡ machine_of k.cell s.words (set s.views id view_moved)
-  moved_machine i = record {
-    head = word.head s.words;
-    right = word.right s.words;
-    count = length s.words - LINKS;
-    next = λ r. link_of (word.next s.words r);
-    cell = k.cell;
-    party = (ap (λ (q : AbstractParty Name). update (core s k).party id (Some q)) (λ j. record { name = first_name (sym same j); stage = v.stage; spare = free ++ back }) ∙ views_put s k id v at named view_moved still_named) i;
-  }
+  moved_machine = party_spelled s.words k.cell (set s.views id view_moved) (ap (λ (q : AbstractParty Name). update (core s k).party id (Some q)) (λ j. record { name = first_name (sym same j); stage = v.stage; spare = free ++ back }) ∙ views_put s k id v at named view_moved still_named)
 
   pub pool_moved : (owner : ℕ → Owner) (homes : Homes E) (pool : FreeChain) → MovesPool owner homes pool → PoolMoved homes pool
   pool_moved owner homes pool g = record {

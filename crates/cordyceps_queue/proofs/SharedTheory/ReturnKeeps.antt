@@ -27,7 +27,7 @@ use Rattle.cordyceps_queue.specs.Shared.View.{View, knows, name, free_chain, bac
 use Rattle.cordyceps_queue.specs.Cores.Abstract.{update}
 use Rattle.cordyceps_queue.proofs.CoreTheory.Basics.{put_again}
 use Rattle.cordyceps_queue.proofs.CoreTheory.ProducerSteps.{spare_shared, spare_pooled}
-use Rattle.cordyceps_queue.proofs.SharedTheory.WordsAsMachine.{core, party_at, back_spare, linkeds_same, pool_stays, count_same, spent_else, Becomes, Stays, PlainAllows}
+use Rattle.cordyceps_queue.proofs.SharedTheory.WordsAsMachine.{party_spelled, core, party_at, back_spare, linkeds_same, pool_stays, count_same, spent_else, Becomes, Stays, PlainAllows}
 use Rattle.cordyceps_queue.proofs.SharedTheory.EnqueueKeeps.{views_put}
 
 abbrev pub homes_given : {E : Type 0} → Homes E → List ℕ → Homes E
@@ -120,14 +120,7 @@ module _ {E : Type 0} where
       }
     where
       unchanged : machine_of k.cell s.words s.views ≡ machine_of k.cell s.words (set s.views id (view_returned v))
-      unchanged i = record {
-        head = word.head s.words;
-        right = word.right s.words;
-        count = length s.words - LINKS;
-        next = λ r. link_of (word.next s.words r);
-        cell = k.cell;
-        party = (sym (put_again (core s k).party id (party v) (party_at s k id v at named)) ∙ (ap (λ (l : List ℕ). update (core s k).party id (Some record { name = name v; stage = v.stage; spare = l })) (sym (append-nil (v.free ++ v.back))) ∙ views_put s k id v at named (view_returned v) named)) i;
-      }
+      unchanged = party_spelled s.words k.cell (set s.views id (view_returned v)) (sym (put_again (core s k).party id (party v) (party_at s k id v at named)) ∙ (ap (λ (l : List ℕ). update (core s k).party id (Some record { name = name v; stage = v.stage; spare = l })) (sym (append-nil (v.free ++ v.back))) ∙ views_put s k id v at named (view_returned v) named))
 
   -- what a step leads to from there is what it leads to from here
   becomes_returned : (s : TableState E) (k : PlainHolds s) (id : ℕ) (v w : View E) (t : TableState E) (back : Stays s k (table_returned s id v)) → Becomes (table_returned s id v) back.now (view_returned v) w t → Becomes s k v w t

@@ -24,7 +24,7 @@ use Rattle.cordyceps_queue.specs.Shared.View.{View, knows}
 use Rattle.cordyceps_queue.proofs.CoreTheory.Basics.{open_with, put_again, ready_with, put_other, at_within, at_more}
 use Rattle.cordyceps_queue.proofs.CoreTheory.OtherParties.{GoesOn, bystander, right_stays}
 use Rattle.cordyceps_queue.proofs.CoreTheory.ProducerSteps.{spare_shared, spare_pooled, ready_spare, spare_one}
-use Rattle.cordyceps_queue.proofs.SharedTheory.WordsAsMachine.{at_after, links_put, parties_put, core, party_at, rooms_of, free_spare, empties_same, linked_else, linkeds, linkeds_same, pool_stays, count_same, spent_else, Stays}
+use Rattle.cordyceps_queue.proofs.SharedTheory.WordsAsMachine.{party_spelled, link_spelled, at_after, links_put, parties_put, core, party_at, rooms_of, free_spare, empties_same, linked_else, linkeds, linkeds_same, pool_stays, count_same, spent_else, Stays}
 
 -- ---- the link of a free room does not matter to the machine
 module _ {P E : Type 0} (m : AbstractMachine P E) (c : Chain) (h : List (Event P E)) (M : Meets m c h) (k r : ℕ) (o : Option ℕ) (mine : c.owner r ≡ Spare k) where
@@ -129,14 +129,7 @@ module _ {E : Type 0} (s : TableState E) (k : PlainHolds s) (id : ℕ) (v : View
     wide = let w = k.wide in omega arith
 
     tied_machine : (let w : View E = record v { end = n } in record (core s k) { next = update (core s k).next r (link_of n) } ≡ machine_of k.cell tied_words (set s.views id w))
-    tied_machine i = record {
-      head = sym (head_beside_next s.words r n) i;
-      right = sym (right_beside_next s.words r n) i;
-      count = ap (λ l. l - LINKS) (sym (length-set s.words (LINKS + r) n)) i;
-      next = sym (links_put s.words r n wide) i;
-      cell = k.cell;
-      party = same_parties n i;
-    }
+    tied_machine = link_spelled s.words r n k.cell (set s.views id record v { end = n }) wide (same_parties n)
 
     pub tied_kept : Stays s k record { words = tied_words; homes = s.homes; views = set s.views id record v { end = n } }
     tied_kept =
@@ -152,11 +145,4 @@ module _ {E : Type 0} (s : TableState E) (k : PlainHolds s) (id : ℕ) (v : View
   skip_kept = ended s.words v.end (subst (λ q. Meets q k.chain (reverse (events k.history))) same_machine k.meets) refl (linkeds_same s k id v (k.linked id v at named)) (λ r pooled. refl)
     where
       same_machine : core s k ≡ machine_of k.cell s.words (set s.views id v)
-      same_machine i = record {
-        head = word.head s.words;
-        right = word.right s.words;
-        count = length s.words - LINKS;
-        next = λ r. link_of (word.next s.words r);
-        cell = k.cell;
-        party = same_parties v.end i;
-      }
+      same_machine = party_spelled s.words k.cell (set s.views id v) (same_parties v.end)

@@ -26,7 +26,7 @@ use Rattle.cordyceps_queue.proofs.CoreTheory.DequeueSteps.{pass_keeps, chain_aft
 use Rattle.cordyceps_queue.proofs.CoreTheory.HolderSteps.{was_now, keeping, stage_keeps, tell_keeps, open_blocks, none_held, stub_out}
 use Rattle.cordyceps_queue.proofs.CoreTheory.ChainShrinks.{real_stub, second}
 use Rattle.cordyceps_queue.proofs.CoreTheory.StubSteps.{clear_stub_keeps, swap_stub_keeps, chain_after_stub, link_stub_keeps}
-use Rattle.cordyceps_queue.proofs.SharedTheory.WordsAsMachine.{links_put, links_same, next_low, none_cleared, keeps_rule, empties_same, readies_same, chain_near, head_near, linkeds, linkeds_low, own_links, Among, Becomes, PlainAllows}
+use Rattle.cordyceps_queue.proofs.SharedTheory.WordsAsMachine.{link_spelled, head_spelled, links_put, links_same, next_low, none_cleared, keeps_rule, empties_same, readies_same, chain_near, head_near, linkeds, linkeds_low, own_links, Among, Becomes, PlainAllows}
 use Rattle.cordyceps_queue.proofs.CoreTheory.ProducerSteps.{spare_shared, shared_pooled}
 use Rattle.cordyceps_queue.proofs.SharedTheory.EnqueueKeeps.{views_put, wide_words}
 use Rattle.cordyceps_queue.proofs.SharedTheory.ReturnKeeps.{returning, moved_on, handed_on}
@@ -189,7 +189,7 @@ module _ {E : Type 0} (s : TableState E) (k : PlainHolds s) (id : ℕ) (v : View
   clears_stub_bare : (t : ℕ) → v.stage ≡ PutClear t → Comes s k id v at named bare LINKS 0
       (λ _. MovesTo [] (PutSwap t) (v, []))
   clears_stub_bare t l =
-      let r = stores (PutSwap t) k.chain (clear_stub core id (party v) t) LINKS 0 (linkeds s k id 0 0 (view [] (PutSwap t)) (own_links s k id 0 0 v at named (λ mine. spare_shared mine k.meets.stub)) (λ j ne mine. spare_shared mine k.meets.stub)) spelled (clear_stub_keeps core k.chain past k.meets id (party v) is_there t l) k.full (λ q is. cc) (λ j x jx. inr (j, jx))
+      let r = stores (PutSwap t) k.chain (clear_stub core id (party v) t) LINKS 0 (linkeds s k id 0 0 (view [] (PutSwap t)) (own_links s k id 0 0 v at named (λ mine. spare_shared mine k.meets.stub)) (λ j ne mine. spare_shared mine k.meets.stub)) (link_spelled s.words 0 0 k.cell (set s.views id (view [] (PutSwap t))) (let w = wide_words s k id v at named in let st = k.stub in omega arith) (views_put s k id v at named (view [] (PutSwap t)) named)) (clear_stub_keeps core k.chain past k.meets id (party v) is_there t l) k.full (λ q is. cc) (λ j x jx. inr (j, jx))
       (ap cleared_count l) refl (λ x pooled. pooled)
       (λ x pooled. next_beside_next s.words 0 x 0
       (λ same. shared_pooled k.meets.stub (ap k.chain.owner (sym same) ∙ pooled))) in (
@@ -201,22 +201,12 @@ module _ {E : Type 0} (s : TableState E) (k : PlainHolds s) (id : ℕ) (v : View
         },
         stood s k id v at named bare [] (PutSwap t) r.1,
       )
-    where
-      spelled : clear_stub core id (party v) t ≡ machine_of k.cell (set s.words LINKS 0) (set s.views id (view [] (PutSwap t)))
-      spelled j = record {
-        head = sym (head_beside_next s.words 0 0) j;
-        right = sym (right_beside_next s.words 0 0) j;
-        count = ap (λ l. l - LINKS) (sym (length-set s.words LINKS 0)) j;
-        next = sym (links_put s.words 0 0 (let w = wide_words s k id v at named in let st = k.stub in omega arith)) j;
-        cell = k.cell;
-        party = views_put s k id v at named (view [] (PutSwap t)) named j;
-      }
 
   swaps_stub_bare : (t : ℕ) → v.stage ≡ PutSwap t → Comes s k id v at named bare HEAD 0
       (λ found. MovesTo [] (PutLink t found) (v, []))
   swaps_stub_bare t l =
       let old = word.head s.words in
-      let r = stores (PutLink t old) (chain_after_stub core k.chain past k.meets id (party v) is_there t l) (swap_head core id (party v) 0 (PutLink t old)) HEAD 0 (linkeds_low s k id HEAD 0 (view [] (PutLink t old)) (omega arith) (k.linked id v at named)) spelled
+      let r = stores (PutLink t old) (chain_after_stub core k.chain past k.meets id (party v) is_there t l) (swap_head core id (party v) 0 (PutLink t old)) HEAD 0 (linkeds_low s k id HEAD 0 (view [] (PutLink t old)) (omega arith) (k.linked id v at named)) (head_spelled s.words 0 k.cell (set s.views id (view [] (PutLink t old))) (let w = wide_words s k id v at named in omega arith) (views_put s k id v at named (view [] (PutLink t old)) named))
       (swap_stub_keeps core k.chain past k.meets id (party v) is_there t l) full (λ q is. cc) among
       (ap cleared_count l) (ap (λ (z : List ℕ). length z)
       (real_more k.chain.rooms (0 ∷ []) ∙ append-nil (real k.chain.rooms))) (λ x pooled. pooled)
@@ -230,16 +220,6 @@ module _ {E : Type 0} (s : TableState E) (k : PlainHolds s) (id : ℕ) (v : View
         stood s k id v at named bare [] (PutLink t old) r.1,
       )
     where
-      spelled : swap_head core id (party v) 0 (PutLink t (word.head s.words)) ≡ machine_of k.cell (set s.words HEAD 0) (set s.views id (view [] (PutLink t (word.head s.words))))
-      spelled j = record {
-        head = sym (head_set s.words 0 (let w = wide_words s k id v at named in omega arith)) j;
-        right = sym (right_beside_head s.words 0) j;
-        count = ap (λ l. l - LINKS) (sym (length-set s.words HEAD 0)) j;
-        next = sym (links_same s.words HEAD 0 (omega arith)) j;
-        cell = k.cell;
-        party = views_put s k id v at named (view [] (PutLink t (word.head s.words))) named j;
-      }
-
       among : Among (set s.words HEAD 0) k.chain.rooms (k.chain.rooms ++ 0 ∷ [])
       among i x ix = elim (at_split k.chain.rooms 0 i x ix) [ inl a ↦ inr (i, a) | inr a ↦ inl (a.1 ∙ sym (head_set s.words 0 (let w = wide_words s k id v at named in omega arith))) ]
 
@@ -251,7 +231,7 @@ module _ {E : Type 0} (s : TableState E) (k : PlainHolds s) (id : ℕ) (v : View
   links_stub_bare t old l inside =
       let f = fits_at (PutLink t old) l in
       let shared = k.meets.shared f.at old f.old_at in
-      let r = stores (PutRead t) k.chain (link_next core id (party v) old 0 (PutRead t)) (LINKS + old) 1 (linkeds s k id old 1 (view [] (PutRead t)) (own_links s k id old 1 v at named (λ mine. spare_shared mine shared)) (λ j ne mine. spare_shared mine shared)) spelled (link_stub_keeps core k.chain past k.meets id (party v) is_there t old l) k.full (λ q is. cc) (λ j x jx. inr (j, jx))
+      let r = stores (PutRead t) k.chain (link_next core id (party v) old 0 (PutRead t)) (LINKS + old) 1 (linkeds s k id old 1 (view [] (PutRead t)) (own_links s k id old 1 v at named (λ mine. spare_shared mine shared)) (λ j ne mine. spare_shared mine shared)) (link_spelled s.words old 1 k.cell (set s.views id (view [] (PutRead t))) (let w = wide_words s k id v at named in let st = inside in omega arith) (views_put s k id v at named (view [] (PutRead t)) named)) (link_stub_keeps core k.chain past k.meets id (party v) is_there t old l) k.full (λ q is. cc) (λ j x jx. inr (j, jx))
       (ap cleared_count l) refl (λ x pooled. pooled)
       (λ x pooled. next_beside_next s.words old x 1
       (λ same. shared_pooled shared (ap k.chain.owner (sym same) ∙ pooled))) in (
@@ -263,16 +243,6 @@ module _ {E : Type 0} (s : TableState E) (k : PlainHolds s) (id : ℕ) (v : View
         },
         stood s k id v at named bare [] (PutRead t) r.1,
       )
-    where
-      spelled : link_next core id (party v) old 0 (PutRead t) ≡ machine_of k.cell (set s.words (LINKS + old) 1) (set s.views id (view [] (PutRead t)))
-      spelled j = record {
-        head = sym (head_beside_next s.words old 1) j;
-        right = sym (right_beside_next s.words old 1) j;
-        count = ap (λ l. l - LINKS) (sym (length-set s.words (LINKS + old) 1)) j;
-        next = sym (links_put s.words old 1 (let w = wide_words s k id v at named in let st = inside in omega arith)) j;
-        cell = k.cell;
-        party = views_put s k id v at named (view [] (PutRead t)) named j;
-      }
 
   -- the read after it
   module _ (t : ℕ) (at_put : v.stage ≡ PutRead t) where

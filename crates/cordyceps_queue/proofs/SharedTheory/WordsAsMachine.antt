@@ -1,5 +1,5 @@
 -- A change of a queue's words and views is a change of its machine.
-use Rattle.std.proofs.Common.{◌≡◌, ◌≢◌, ℕ, suc, ◌+◌, ◌<◌, List, [], ◌∷◌, ◌++◌, length, reverse, set, Option, Some, refl, sym, ap, ◌∙◌, subst, arith, get_or-set_other, ◌⊎◌, get_or}
+use Rattle.std.proofs.Common.{◌≡◌, ◌≢◌, ℕ, suc, ◌+◌, ◌-◌, ◌<◌, length-set, List, [], ◌∷◌, ◌++◌, length, reverse, set, Option, Some, refl, sym, ap, ◌∙◌, subst, arith, get_or-set_other, ◌⊎◌, get_or}
 use Rattle.std.proofs.lemmas.List.{reverse-append}
 use mathlib.Core.Option.{some, none}
 use mathlib.Core.Option as maybe
@@ -9,8 +9,8 @@ use lib.ListN.{get_elem?}
 use Rattle.atomic_table.proofs.Lists.{set_here, set_else}
 use Rattle.atomic_table.specs.Table.{Act, Valid, stepped, carried_after}
 use Rattle.cordyceps_shared.specs.Words as word
-use Rattle.cordyceps_shared.specs.declared.layout.TheConstants.{LINKS}
-use Rattle.cordyceps_shared.proofs.Words.{next_set, next_beside_next}
+use Rattle.cordyceps_shared.specs.declared.layout.TheConstants.{HEAD, LINKS}
+use Rattle.cordyceps_shared.proofs.Words.{next_set, next_beside_next, head_set, right_beside_head, head_beside_next, right_beside_next}
 use Rattle.cordyceps_shared.specs.Counts.{tally}
 use Rattle.cordyceps_shared.specs.FreeChains.{Links}
 use Rattle.cordyceps_shared.proofs.FreeLinks.{links_frame}
@@ -148,6 +148,30 @@ module _ {E : Type 0} where
         (here ∙ sym (put_same (λ k. party_of (get_elem? views k)) id (Some (party w))))
     | no ne ↦ ap party_of (set_else views id j w ne) ∙ sym (put_other (λ k. party_of (get_elem? views k)) id (Some (party w)) j ne)
   ])
+
+  -- ---- the machine that the words spell after a store, or after none
+  pub party_spelled : (words : List ℕ) (cell : ℕ → Option E) (views : List (View E)) {parties : ℕ → Option (AbstractParty Name)} → parties ≡ (λ j. party_of (get_elem? views j)) → record (machine_of cell words views) { party = parties } ≡ machine_of cell words views
+  party_spelled words cell views is = ap (λ f. record (machine_of cell words views) { party = f }) is
+
+  pub link_spelled : (words : List ℕ) (r n : ℕ) (cell : ℕ → Option E) (views : List (View E)) {parties : ℕ → Option (AbstractParty Name)} → LINKS + r < length words → parties ≡ (λ j. party_of (get_elem? views j)) → record (machine_of cell words views) { next = update (links words) r (link_of n); party = parties } ≡ machine_of cell (set words (LINKS + r) n) views
+  link_spelled words r n cell views inside is i = record {
+    head = sym (head_beside_next words r n) i;
+    right = sym (right_beside_next words r n) i;
+    count = ap (λ l. l - LINKS) (sym (length-set words (LINKS + r) n)) i;
+    next = sym (links_put words r n inside) i;
+    cell = cell;
+    party = is i;
+  }
+
+  pub head_spelled : (words : List ℕ) (n : ℕ) (cell : ℕ → Option E) (views : List (View E)) {parties : ℕ → Option (AbstractParty Name)} → HEAD < length words → parties ≡ (λ j. party_of (get_elem? views j)) → record (machine_of cell words views) { head = n; party = parties } ≡ machine_of cell (set words HEAD n) views
+  head_spelled words n cell views inside is i = record {
+    head = sym (head_set words n inside) i;
+    right = sym (right_beside_head words n) i;
+    count = ap (λ l. l - LINKS) (sym (length-set words HEAD n)) i;
+    next = sym (links_same words HEAD n (omega arith)) i;
+    cell = cell;
+    party = is i;
+  }
 
   -- the rule after a step at which the party sees all and adds these events, and what it tells
   pub keeps_rule : (s : TableState E) (k : PlainHolds s) (id : ℕ) (es : List (Event Name E)) (v w : View E) (words : List ℕ) (homes : Homes E) (cell : ℕ → Option E) (chain : Chain) (m' : AbstractMachine Name E)

@@ -32,7 +32,7 @@ module _ {E : Type 0} where
   count_held m = occupied m.rooms - count_by is_cleared m.parties
 
   abbrev pub drain_goes_on : (Machine E → Drained E) → Machine E → Result E TryDequeueError → Drained E
-  drain_goes_on next m (Ok e) = let d = next m in (d.0, e ∷ d.1, d.2)
+  drain_goes_on next m (Ok e) = let d = next m in record d { 1 = e ∷ d.1 }
   drain_goes_on next m (Err why) = (m, [], Some why)
 
   -- tries of a holder, until n elements came out or a try gave none
@@ -42,7 +42,7 @@ module _ {E : Type 0} where
 
   -- the right is given back
   abbrev pub hands_back : ℕ → Drained E → Drained E
-  hands_back p d = ((after_step d.0 p step.Give).0, d.1, d.2)
+  hands_back p d = record d { 0 = (after_step d.0 p step.Give).0 }
 
   abbrev pub drains_first : ℕ → ℕ → Machine E → Answered E → Drained E
   drains_first p n m (Ok answer.Taken) = hands_back p (after_drain p n m)

@@ -3,7 +3,7 @@ use Rattle.std.specs.Prelude.{slice_get}
 use Rattle.cordyceps_queue.specs.Cores.Alone.{may_dequeue}
 use Rattle.cordyceps_queue.specs.Cores.CoreMeets.{CoreMeets}
 use Rattle.cordyceps_queue.specs.Cores.Drain.{batch_of}
-use Rattle.cordyceps_queue.proofs.CoreTheory.AloneDrain.{batch_law, oldest_law, held_law}
+use Rattle.cordyceps_queue.proofs.CoreTheory.AloneDrain.{came_out, stop_of, batch_law, oldest_law, held_law}
 use Rattle.cordyceps_queue.proofs.CoreTheory.HeldCount.{room_enough}
 use Rattle.cordyceps_queue.proofs.cores.calls.QueueCore.take_linked.Goals as goal
 
@@ -30,12 +30,12 @@ pub returns-clause-all : goal.returns-clause-all
 returns-clause-all g c = λ h was still mine.
     let m = c.self.inside.machine in
     let may : may_dequeue (slice_get m.parties c.args.party) ≡ true = sym c.may_dequeue.ensures ∙ c.if-not-may_dequeue.false in
-    c.batch_or.ensures ∙ ap (λ d. batch_of d.1 d.2) c.take_batch-stop.ensures
+    c.batch_or.ensures ∙ ap (λ d. batch_of (came_out d) (stop_of d)) c.take_batch-stop.ensures
     ∙ oldest_law h m c.args.party c.args.max (subst (CoreMeets h) (sym c.self.view_is) was) may (omega (arith, c.if-max-eq0.false)) still mine
 
 pub returns-clause-busy : goal.returns-clause-busy
 returns-clause-busy g c = λ h q was held ne.
     let m = c.self.inside.machine in
     let may : may_dequeue (slice_get m.parties c.args.party) ≡ true = sym c.may_dequeue.ensures ∙ c.if-not-may_dequeue.false in
-    c.batch_or.ensures ∙ ap (λ d. batch_of d.1 d.2) c.take_batch-stop.ensures
+    c.batch_or.ensures ∙ ap (λ d. batch_of (came_out d) (stop_of d)) c.take_batch-stop.ensures
     ∙ held_law h m c.args.party q c.args.max (subst (CoreMeets h) (sym c.self.view_is) was) held ne may
