@@ -37,7 +37,7 @@ use Rattle.cordyceps_queue.proofs.CoreTheory.SpareMoves.{moves_keep}
 use Rattle.cordyceps_queue.proofs.CoreTheory.ProducerSteps.{spare_shared, ready_shared, shared_pooled}
 use Rattle.cordyceps_queue.proofs.CoreTheory.ChainShrinks.{at_down, real_first, tail_full, tail_away, second}
 use Rattle.cordyceps_queue.proofs.SharedTheory.SeatNames.{few_rooms}
-use Rattle.cordyceps_queue.proofs.SharedTheory.WordsAsMachine.{party_spelled, links_same, next_low, none_cleared, keeps_rule, rooms_of}
+use Rattle.cordyceps_queue.proofs.SharedTheory.WordsAsMachine.{quiet, party_spelled, links_same, next_low, none_cleared, keeps_rule, rooms_of}
 use Rattle.cordyceps_queue.proofs.SharedTheory.WordsAsMachine.{empties, empties_same, readies, readies_same}
 use Rattle.cordyceps_queue.proofs.SharedTheory.WordsAsMachine.{linkeds_low, linkeds_same, chain_near, LeavesPool}
 use Rattle.cordyceps_queue.proofs.SharedTheory.WordsAsMachine.{PlainStep, Becomes, Comes as Keeping}
@@ -274,12 +274,7 @@ module _ {E : Type 0} (s : TableState E) (k : PlainHolds s) (id : ℕ) (v : View
       ) in
       let r = reads before under (Null t) k.chain met same_rooms (λ q is. cc)
       (none_cleared v.stage (λ q e. none_some (sym (ap tail_of e) ∙ has))) refl (λ x pooled. pooled) i in (
-        record {
-          view = sees before v.free v.end v.back v.to (Null t);
-          act = keeps;
-          valid = tt;
-          becomes = r.0;
-        },
+        quiet (sees before v.free v.end v.back v.to (Null t)) r.0,
         stood before (Null t) r.1,
       )
 

@@ -21,7 +21,7 @@ use Rattle.cordyceps_queue.proofs.CoreTheory.Basics.{some_inj, put_again, zero_s
 use Rattle.cordyceps_queue.proofs.CoreTheory.DequeueSteps.{free_right, take_keeps, chain_after_take, give_keeps, chain_after_give}
 use Rattle.cordyceps_queue.proofs.CoreTheory.HolderSteps.{keeping, tell_keeps}
 use Rattle.cordyceps_queue.proofs.CoreTheory.ProducerSteps.{busy_keeps}
-use Rattle.cordyceps_queue.proofs.SharedTheory.WordsAsMachine.{chain_near, Becomes, PlainAllows}
+use Rattle.cordyceps_queue.proofs.SharedTheory.WordsAsMachine.{quiet, chain_near, Becomes, PlainAllows}
 use Rattle.cordyceps_queue.proofs.SharedTheory.ReturnKeeps.{returning, moved_on, handed_on}
 use Rattle.cordyceps_queue.proofs.SharedTheory.DequeueKeeps.{n, out_events, there, sees, rights, stood, same_rooms, Comes, ReadsTail, reading}
 
@@ -53,12 +53,7 @@ module _ {E : Type 0} (s : TableState E) (k : PlainHolds s) (id : ℕ) (v : View
         let met = subst (λ q. Meets q k.chain (x ∷ gone_by)) (sym (unmoved e)) (busy_keeps core k.chain gone_by k.meets id (party v) is_there rest e) in
         let r = rights s k id v at named bare (x ∷ []) (refl, tt) Rest k.chain 0 met (same_rooms s k id v at named bare)
         (λ q is. cc) (ap cleared_count rest) refl (λ x pooled. pooled) in (
-          record {
-            view = sees s k id v at named bare (x ∷ []) v.free v.end v.back v.to Rest;
-            act = keeps;
-            valid = tt;
-            becomes = r.0;
-          },
+          quiet (sees s k id v at named bare (x ∷ []) v.free v.end v.back v.to Rest) r.0,
           λ _. ((λ _. stood s k id v at named bare (x ∷ []) Rest r.1), λ t f. absurd (zero_suc (sym e ∙ f))),
         )
     takes_bare slots deep (suc t) e =
@@ -68,12 +63,7 @@ module _ {E : Type 0} (s : TableState E) (k : PlainHolds s) (id : ℕ) (v : View
         let first = free_right core.right core.party k.chain.rooms gone_by k.chain.keeper t e k.meets.right in
         let near = chain_near s k 0 t first.tail_at in
         let w = sees s k id v at named bare (x ∷ []) v.free v.end v.back v.to (Holding t) in (
-          record {
-            view = w;
-            act = keeps;
-            valid = tt;
-            becomes = r.0;
-          },
+          quiet w r.0,
           λ _. (
             (λ f. absurd (suc_zero (sym e ∙ f))),
             λ t' f. subst

@@ -26,7 +26,7 @@ use Rattle.cordyceps_queue.proofs.CoreTheory.DequeueSteps.{pass_keeps, chain_aft
 use Rattle.cordyceps_queue.proofs.CoreTheory.HolderSteps.{was_now, keeping, stage_keeps, tell_keeps, open_blocks, none_held, stub_out}
 use Rattle.cordyceps_queue.proofs.CoreTheory.ChainShrinks.{real_stub, second}
 use Rattle.cordyceps_queue.proofs.CoreTheory.StubSteps.{clear_stub_keeps, swap_stub_keeps, chain_after_stub, link_stub_keeps}
-use Rattle.cordyceps_queue.proofs.SharedTheory.WordsAsMachine.{link_spelled, head_spelled, links_put, links_same, next_low, none_cleared, keeps_rule, empties_same, readies_same, chain_near, head_near, linkeds, linkeds_low, own_links, Among, Becomes, PlainAllows}
+use Rattle.cordyceps_queue.proofs.SharedTheory.WordsAsMachine.{quiet, link_spelled, head_spelled, links_put, links_same, next_low, none_cleared, keeps_rule, empties_same, readies_same, chain_near, head_near, linkeds, linkeds_low, own_links, Among, Becomes, PlainAllows}
 use Rattle.cordyceps_queue.proofs.CoreTheory.ProducerSteps.{spare_shared, shared_pooled}
 use Rattle.cordyceps_queue.proofs.SharedTheory.EnqueueKeeps.{views_put, wide_words}
 use Rattle.cordyceps_queue.proofs.SharedTheory.ReturnKeeps.{returning, moved_on, handed_on}
@@ -57,12 +57,7 @@ module _ {E : Type 0} (s : TableState E) (k : PlainHolds s) (id : ℕ) (v : View
       let r = reads s k id v at named bare [] tt (Holding t) k.chain met (same_rooms s k id v at named bare)
       (λ q is. cc) (none_cleared v.stage (λ q e. none_some (sym (ap tail_of e) ∙ has))) refl
       (λ x pooled. pooled) i in (
-        record {
-          view = view [] (Holding t);
-          act = keeps;
-          valid = tt;
-          becomes = r.0;
-        },
+        quiet (view [] (Holding t)) r.0,
         (stood s k id v at named bare [] (Holding t) r.1, blocked s k id v at named bare [] (Holding t) was),
       )
 
@@ -95,12 +90,7 @@ module _ {E : Type 0} (s : TableState E) (k : PlainHolds s) (id : ℕ) (v : View
         let r = reads s k id v at named bare (look ∷ []) (refl, tt) StubNull k.chain met
         (same_rooms s k id v at named bare) (λ q is. cc) (ap cleared_count holding) refl
         (λ x pooled. pooled) LINKS in (
-          record {
-            view = view (look ∷ []) StubNull;
-            act = keeps;
-            valid = tt;
-            becomes = r.0;
-          },
+          quiet (view (look ∷ []) StubNull) r.0,
           λ _. ((λ _. stood s k id v at named bare (look ∷ []) StubNull r.1), λ r' f. absurd (zero_suc (sym e ∙ f))),
         )
     looks_stub_bare slots deep (suc r) e =
@@ -111,12 +101,7 @@ module _ {E : Type 0} (s : TableState E) (k : PlainHolds s) (id : ℕ) (v : View
         let near = chain_near s k 1 r at_second in
         let ne : r ≢ 0 = λ z. zero_suc (k.meets.once 0 1 0 tail_at (subst (ItemAt k.chain.rooms 1) z at_second)) in
         let w = view (look ∷ []) (Second r) in (
-          record {
-            view = w;
-            act = keeps;
-            valid = tt;
-            becomes = o.0;
-          },
+          quiet w o.0,
           λ _. (
             (λ f. absurd (suc_zero (sym e ∙ f))),
             λ r' f.
@@ -139,12 +124,7 @@ module _ {E : Type 0} (s : TableState E) (k : PlainHolds s) (id : ℕ) (v : View
         let r = reads s k id v at named bare (x ∷ []) (refl, tt) (Holding 0) k.chain met
         (same_rooms s k id v at named bare) (λ q is. cc) (ap cleared_count at_null) refl
         (λ x pooled. pooled) HEAD in (
-          record {
-            view = view (x ∷ []) (Holding 0);
-            act = keeps;
-            valid = tt;
-            becomes = r.0;
-          },
+          quiet (view (x ∷ []) (Holding 0)) r.0,
           λ _. ((λ _. stood s k id v at named bare (x ∷ []) (Holding 0) r.1), λ ne. absurd (ne e)),
         )
     heads_stub_bare slots (no ne) =
@@ -166,12 +146,7 @@ module _ {E : Type 0} (s : TableState E) (k : PlainHolds s) (id : ℕ) (v : View
         (f.0, stub_out core k.chain past k.meets id (party v) is_there t (ap tail_of at_null) f.0.is_real e) in
         let r = reads s k id v at named bare [] tt (PutClear t) k.chain met (same_rooms s k id v at named bare)
         (λ q is. cc) (ap cleared_count at_null) refl (λ x pooled. pooled) HEAD in (
-          record {
-            view = view [] (PutClear t);
-            act = keeps;
-            valid = tt;
-            becomes = r.0;
-          },
+          quiet (view [] (PutClear t)) r.0,
           ((λ _. stood s k id v at named bare [] (PutClear t) r.1), λ ne. absurd (ne e)),
         )
     heads_bare (no ne) =
@@ -193,12 +168,7 @@ module _ {E : Type 0} (s : TableState E) (k : PlainHolds s) (id : ℕ) (v : View
       (ap cleared_count l) refl (λ x pooled. pooled)
       (λ x pooled. next_beside_next s.words 0 x 0
       (λ same. shared_pooled k.meets.stub (ap k.chain.owner (sym same) ∙ pooled))) in (
-        record {
-          view = view [] (PutSwap t);
-          act = keeps;
-          valid = tt;
-          becomes = r.0;
-        },
+        quiet (view [] (PutSwap t)) r.0,
         stood s k id v at named bare [] (PutSwap t) r.1,
       )
 
@@ -211,12 +181,7 @@ module _ {E : Type 0} (s : TableState E) (k : PlainHolds s) (id : ℕ) (v : View
       (ap cleared_count l) (ap (λ (z : List ℕ). length z)
       (real_more k.chain.rooms (0 ∷ []) ∙ append-nil (real k.chain.rooms))) (λ x pooled. pooled)
       (λ x pooled. next_low s.words HEAD 0 (omega arith) x) in (
-        record {
-          view = view [] (PutLink t old);
-          act = keeps;
-          valid = tt;
-          becomes = r.0;
-        },
+        quiet (view [] (PutLink t old)) r.0,
         stood s k id v at named bare [] (PutLink t old) r.1,
       )
     where
@@ -235,12 +200,7 @@ module _ {E : Type 0} (s : TableState E) (k : PlainHolds s) (id : ℕ) (v : View
       (ap cleared_count l) refl (λ x pooled. pooled)
       (λ x pooled. next_beside_next s.words old x 1
       (λ same. shared_pooled shared (ap k.chain.owner (sym same) ∙ pooled))) in (
-        record {
-          view = view [] (PutRead t);
-          act = keeps;
-          valid = tt;
-          becomes = r.0;
-        },
+        quiet (view [] (PutRead t)) r.0,
         stood s k id v at named bare [] (PutRead t) r.1,
       )
 

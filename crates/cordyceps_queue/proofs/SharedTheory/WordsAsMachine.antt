@@ -7,7 +7,7 @@ use mathlib.Core.Path.{fun_ext}
 use native.Mathlib.Decide.{ℕ_discrete}
 use lib.ListN.{get_elem?}
 use Rattle.atomic_table.proofs.Lists.{set_here, set_else}
-use Rattle.atomic_table.specs.Table.{Act, Valid, stepped, carried_after}
+use Rattle.atomic_table.specs.Table.{Act, Valid, keeps, stepped, carried_after}
 use Rattle.cordyceps_shared.specs.Words as word
 use Rattle.cordyceps_shared.specs.declared.layout.TheConstants.{HEAD, LINKS}
 use Rattle.cordyceps_shared.proofs.Words.{next_set, next_beside_next, head_set, right_beside_head, head_beside_next, right_beside_next}
@@ -132,6 +132,10 @@ module _ {E : Type 0} where
     pub act : Act (Option E)
     pub valid : Valid s.homes me.1 act
     pub becomes : Becomes s k me.0 view (stepped s i n id me.1 view act)
+
+  -- the same, where it takes no slot and gives none back
+  abbrev pub quiet : {s : TableState E} {k : PlainHolds s} {id i n : ℕ} {v : View E} (w : View E) → Becomes s k v w (stepped s i n id [] w keeps) → PlainStep s k id i n (v, [])
+  quiet w becomes = record { view = w; act = keeps; valid = tt; becomes = becomes }
 
   -- what the plain rule allows a party, whatever the table is when the word i becomes f of what it was
   abbrev pub PlainAllows : ℕ → ℕ → SeatState E → ℕ → (ℕ → ℕ) → (ℕ → SeatState E → Type 0) → Type 0
