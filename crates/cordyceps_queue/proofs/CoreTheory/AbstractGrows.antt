@@ -3,9 +3,9 @@ use Rattle.std.proofs.Common.{◌≡◌, ℕ, suc, List, [], Option, Some, None,
 use Rattle.cordyceps_queue.specs.History.{Event}
 use Rattle.cordyceps_queue.specs.declared.cores.stage.Stage.TheVariants.{Rest}
 use Rattle.cordyceps_queue.specs.Cores.Abstract.{AbstractParty, AbstractMachine, update, insert_room, add_party, add_room}
-use Rattle.cordyceps_queue.specs.Cores.Meets.{Owner, Shared, Spare, Ready, Unmade, Chain, OwnsRooms, Joined, IsStranger, AtStage, RightIs, Meets}
+use Rattle.cordyceps_queue.specs.Cores.Meets.{Owner, Spare, Ready, Unmade, Chain, OwnsRooms, Joined, IsStranger, AtStage, RightIs, Meets}
 use Rattle.cordyceps_queue.specs.Cores.StepKeeps.{AddsKeep}
-use Rattle.cordyceps_queue.proofs.CoreTheory.Basics.{owner_else, owns_else, none_some, put_same, put_other, put_all}
+use Rattle.cordyceps_queue.proofs.CoreTheory.Basics.{owner_else, owns_else, none_some, put_other, put_all}
 use Rattle.cordyceps_queue.proofs.CoreTheory.OtherParties.{fits_dealt, goes_dealt, taken_with}
 use Rattle.cordyceps_queue.proofs.CoreTheory.StepLeaves.{chain_dealt, joined_still, moves_on, right_kept, rooms_on}
 use Rattle.cordyceps_queue.proofs.CoreTheory.ProducerSteps.{spare_unmade, ready_unmade, shared_unmade}

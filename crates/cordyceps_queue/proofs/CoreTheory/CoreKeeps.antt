@@ -1,6 +1,6 @@
 -- What a core keeps from step to step.
 use Rattle.std.proofs.Common.{◌≡◌, ◌≢◌, ℕ, zero, suc, ◌+◌, List, [], ◌∷◌, ◌++◌, length, reverse, refl, ap, sym, ◌∙◌, subst, append-nil, length-append, arith}
-use Rattle.std.specs.Prelude.{Option, Some, None, slice_get, slice_set}
+use Rattle.std.specs.Prelude.{Option, Some, None, slice_get}
 use Rattle.std.proofs.lemmas.List.{reverse-append, reverse-reverse}
 use native.Mathlib.Decide.{ℕ_discrete}
 use mathlib.Core.Path.{fun_ext}

@@ -1,11 +1,11 @@
 -- The right is taken and given back, and the tail goes on.
-use Rattle.std.proofs.Common.{◌≡◌, ℕ, suc, ◌≢◌, List, ◌∷◌, map, drop, Option, Some, None, refl, sym, ap, ◌∙◌, subst, inl, inr}
+use Rattle.std.proofs.Common.{◌≡◌, ℕ, suc, ◌≢◌, List, ◌∷◌, map, drop, Option, Some, None, refl, sym, ap, ◌∙◌, subst}
 use Rattle.cordyceps_queue.specs.History.{Event}
 use Rattle.cordyceps_queue.specs.Past.{held_reversed, holder_reversed, IsSettled, IsPendingAt, HasLooked}
 use Rattle.cordyceps_queue.specs.declared.cores.stage.Stage.TheVariants.{Rest, Holding, Second}
 use Rattle.cordyceps_queue.specs.Cores.Abstract.{update, insert_room, AbstractParty, AbstractMachine, set_stage, set_right, hand_out}
 use Rattle.cordyceps_shared.specs.Places.{ItemAt}
-use Rattle.cordyceps_queue.specs.Cores.Meets.{real, Owner, Shared, Spare, Ready, Unmade, Owes, tail_of, Chain, OwnsRooms, Keeps, AtStage, RightIs, Meets}
+use Rattle.cordyceps_queue.specs.Cores.Meets.{real, Shared, Spare, Owes, tail_of, Chain, Keeps, AtStage, RightIs, Meets}
 use Rattle.cordyceps_queue.proofs.CoreTheory.Basics.{owner_else, owns_else, some_inj, none_some, suc_zero, zero_suc, suc_inj, put_same, put_other, map_put}
 use Rattle.cordyceps_queue.proofs.CoreTheory.OtherParties.{goes_without}
 use Rattle.cordyceps_queue.proofs.CoreTheory.StepLeaves.{chain_of, joined_still, moves_on, rooms_on, rooms_still}

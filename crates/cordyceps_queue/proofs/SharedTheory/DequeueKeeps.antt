@@ -8,7 +8,7 @@ use mathlib.Core.Path.{fun_ext}
 use native.Mathlib.Decide.{ℕ_discrete}
 use lib.ListN.{get_elem?}
 use lib.Seq.{set-get_or}
-use Rattle.atomic_table.specs.Table.{keeps, takes, carried_after}
+use Rattle.atomic_table.specs.Table.{takes, carried_after}
 use Rattle.atomic_table.proofs.Lists.{set_else}
 use Rattle.cordyceps_shared.specs.Words as word
 use Rattle.cordyceps_shared.specs.declared.layout.TheConstants.{RIGHT, LINKS}
@@ -23,16 +23,16 @@ use Rattle.cordyceps_queue.specs.declared.cores.stage.Stage.TheVariants.{Cleared
 use Rattle.cordyceps_shared.specs.FreeChains.{end_after}
 use Rattle.cordyceps_queue.specs.History.{Event, actor}
 use Rattle.cordyceps_shared.specs.Places.{ItemAt}
-use Rattle.cordyceps_queue.specs.Cores.Meets.{Owner, Spare, Shared, Pooled, OwnsRooms, Chain, Owes, tail_of, AtStage, Meets, real}
+use Rattle.cordyceps_queue.specs.Cores.Meets.{Owner, Spare, Shared, Pooled, OwnsRooms, Chain, Owes, tail_of, Meets, real}
 use Rattle.cordyceps_queue.specs.Past.{HasLooked, WasBlockedReversed}
 use Rattle.cordyceps_queue.specs.Shared.Plays.{SeatState, Sees, MovesTo, HandsOut, Blocked}
 use Rattle.cordyceps_shared.specs.Slots.{Homes, EmptyAtHome}
 use Rattle.cordyceps_queue.specs.Shared.Rule.{TableState, link_of, party, machine_of, FullAtHome, PlainHolds}
 use Rattle.cordyceps_queue.specs.Shared.View.{View, name, cleared_count}
 use Rattle.cordyceps_queue.specs.Cores.Abstract.{AbstractParty, AbstractMachine, update, insert_room, set_stage, set_right, hand_out}
-use Rattle.cordyceps_queue.proofs.CoreTheory.Basics.{none_some, zero_suc, suc_zero, suc_inj, some_inj, at_split, at_more, put_same, put_other, put_all}
+use Rattle.cordyceps_queue.proofs.CoreTheory.Basics.{none_some, zero_suc, suc_zero, suc_inj, some_inj, at_split, at_more, put_same, put_other}
 use Rattle.cordyceps_queue.proofs.CoreTheory.DequeueSteps.{out_keeps, chain_after_out}
-use Rattle.cordyceps_queue.proofs.CoreTheory.HolderSteps.{was_now, keeping, right_with, stage_keeps, open_blocks}
+use Rattle.cordyceps_queue.proofs.CoreTheory.HolderSteps.{was_now, keeping, stage_keeps, open_blocks}
 use Rattle.cordyceps_queue.proofs.CoreTheory.SpareMoves.{moves_keep}
 use Rattle.cordyceps_queue.proofs.CoreTheory.ProducerSteps.{spare_shared, ready_shared, shared_pooled}
 use Rattle.cordyceps_queue.proofs.CoreTheory.ChainShrinks.{at_down, real_first, tail_full, tail_away, second}

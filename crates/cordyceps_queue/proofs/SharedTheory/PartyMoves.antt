@@ -10,7 +10,7 @@ use Rattle.cordyceps_queue.specs.declared.cores.steps.TryDequeueError.{TryDequeu
 use Rattle.cordyceps_queue.specs.declared.cores.steps.TryDequeueError.TheVariants as error
 use Rattle.cordyceps_queue.specs.History.{Event, Swap, Link, Take, Busy, Look, Out, Empty, Free, came, went, held, IsLegal, actor, outs}
 use Rattle.cordyceps_queue.specs.Shared.Batches.{StopsAt, TakesLinked}
-use Rattle.cordyceps_queue.specs.Shared.Calls.{PartyOf, Legal, Adds, Enqueues, EnqueuesRefilled, Refills, Dequeues, Consumes, TakesRight, FindsBusy, GivesRight, Retries, AtLast, MissesDequeue}
+use Rattle.cordyceps_queue.specs.Shared.Calls.{PartyOf, Legal, Adds, Enqueues, EnqueuesRefilled, Refills, Dequeues, Consumes, TakesRight, FindsBusy, GivesRight, Retries, AtLast}
 use Rattle.cordyceps_queue.specs.Shared.Moves.{put_by, got_by, Moves, got_by_try}
 use Rattle.cordyceps_queue.proofs.PartyOrder.{nothing_lost}
 

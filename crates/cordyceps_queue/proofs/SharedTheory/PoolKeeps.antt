@@ -1,5 +1,5 @@
 -- The pool of a queue's table: a party takes it, and gives rooms back to it.
-use Rattle.std.proofs.Common.{◌≡◌, ◌<◌, ◌≢◌, ℕ, suc, ◌+◌, ◌-◌, ◌≤◌, List, [], ◌∷◌, ◌++◌, reverse, length, set, get_or, take, drop, eqb, Option, Some, None, refl, sym, ap, ◌∙◌, subst, inl, inr, arith, append-nil, eq-eqb, ne_eqb, length-set, length-append, take-append-drop}
+use Rattle.std.proofs.Common.{◌≡◌, ◌<◌, ◌≢◌, ℕ, suc, ◌+◌, ◌≤◌, List, [], ◌∷◌, ◌++◌, reverse, length, set, get_or, take, drop, eqb, Option, Some, None, refl, sym, ap, ◌∙◌, subst, inl, inr, arith, append-nil, eq-eqb, ne_eqb, length-set, length-append, take-append-drop}
 use mathlib.Core.Option.{some, none}
 use mathlib.Core.Logic.{dite}
 use native.Mathlib.Decide.{ℕ_discrete}
@@ -30,10 +30,10 @@ use Rattle.cordyceps_queue.specs.History.{Event, held, actor}
 use Rattle.cordyceps_queue.specs.Cores.Abstract.{AbstractParty, update}
 use Rattle.cordyceps_queue.specs.Cores.Meets.{Owner, Spare, Pooled, OwnsRooms, Meets, real}
 use Rattle.cordyceps_queue.specs.declared.cores.stage.Stage.TheVariants.{Rest, Cleared}
-use Rattle.cordyceps_queue.specs.Shared.Bits.{IsLink, IsRight, SpellsFree, KeepsUse, SpellsWords}
+use Rattle.cordyceps_queue.specs.Shared.Bits.{IsRight, SpellsFree, KeepsUse, SpellsWords}
 use Rattle.cordyceps_queue.specs.Shared.Plays.{SeatState, LegalReversed, Sees, carry}
 use Rattle.cordyceps_queue.specs.Shared.Uses as play
-use Rattle.cordyceps_queue.specs.Shared.Rule.{TableState, link_of, party, machine_of, IsPool, PlainHolds, RuleHolds}
+use Rattle.cordyceps_queue.specs.Shared.Rule.{TableState, party, machine_of, IsPool, PlainHolds, RuleHolds}
 use Rattle.cordyceps_queue.specs.Shared.View.{View, knows, bit_of, free_chain, back_chain, view_returned, room_count}
 use Rattle.cordyceps_queue.proofs.Legality.{held_of}
 use Rattle.cordyceps_queue.proofs.CoreTheory.Basics.{at_more}

@@ -1,5 +1,5 @@
 -- A store to the link of a party's last free room, and a read of a free room's link, keep the rule of a queue's table.
-use Rattle.std.proofs.Common.{◌≡◌, ◌≢◌, ◌⊎◌, ℕ, ◌+◌, ◌-◌, ◌<◌, List, [], ◌∷◌, ◌++◌, length, reverse, set, Option, Some, None, refl, sym, ap, ◌∙◌, subst, arith, length-set}
+use Rattle.std.proofs.Common.{◌≡◌, ◌≢◌, ◌⊎◌, ℕ, ◌+◌, ◌<◌, List, [], ◌∷◌, ◌++◌, length, reverse, set, Option, Some, None, refl, sym, ap, ◌∙◌, subst, arith, length-set}
 use mathlib.Core.Option.{some}
 use native.Mathlib.Decide.{ℕ_discrete}
 use lib.ListN.{get_elem?}
@@ -13,18 +13,17 @@ use Rattle.cordyceps_shared.proofs.Changing.{one_set}
 use Rattle.cordyceps_shared.proofs.FreeLinks.{links_retied}
 use Rattle.cordyceps_shared.proofs.Places.{at_end, times_at}
 use Rattle.cordyceps_shared.proofs.Telling.{at_length, owned_same, fits_same}
-use Rattle.cordyceps_shared.proofs.Words.{head_beside_next, right_beside_next, next_beside_next}
-use Rattle.cordyceps_queue.specs.declared.cores.stage.Stage.{Stage}
-use Rattle.cordyceps_queue.specs.declared.cores.stage.Stage.TheVariants.{Rest, Cleared, Swapped, Holding, StubNull, Second, Null, PutClear, PutSwap, PutLink, PutRead}
+use Rattle.cordyceps_shared.proofs.Words.{next_beside_next}
+use Rattle.cordyceps_queue.specs.declared.cores.stage.Stage.TheVariants.{Cleared}
 use Rattle.cordyceps_queue.specs.History.{Event, actor}
-use Rattle.cordyceps_queue.specs.Cores.Meets.{Spare, Shared, Pooled, Owed, Chain, AtStage, OwnsRooms, Meets}
+use Rattle.cordyceps_queue.specs.Cores.Meets.{Spare, Shared, Pooled, Owed, Chain, OwnsRooms, Meets}
 use Rattle.cordyceps_queue.specs.Cores.Abstract.{AbstractMachine, update}
 use Rattle.cordyceps_queue.specs.Shared.Rule.{TableState, link_of, party, party_of, machine_of, AreLinked, PlainHolds}
 use Rattle.cordyceps_queue.specs.Shared.View.{View, knows}
 use Rattle.cordyceps_queue.proofs.CoreTheory.Basics.{open_with, put_again, ready_with, put_other, at_within, at_more}
 use Rattle.cordyceps_queue.proofs.CoreTheory.OtherParties.{GoesOn, bystander, right_stays}
 use Rattle.cordyceps_queue.proofs.CoreTheory.ProducerSteps.{spare_shared, spare_pooled, ready_spare, spare_one}
-use Rattle.cordyceps_queue.proofs.SharedTheory.WordsAsMachine.{party_spelled, link_spelled, at_after, links_put, parties_put, core, party_at, rooms_of, free_spare, empties_same, linked_else, linkeds, linkeds_same, pool_stays, count_same, spent_else, Stays}
+use Rattle.cordyceps_queue.proofs.SharedTheory.WordsAsMachine.{party_spelled, link_spelled, at_after, parties_put, core, party_at, rooms_of, free_spare, empties_same, linked_else, linkeds, linkeds_same, pool_stays, count_same, spent_else, Stays}
 
 -- ---- the link of a free room does not matter to the machine
 module _ {P E : Type 0} (m : AbstractMachine P E) (c : Chain) (h : List (Event P E)) (M : Meets m c h) (k r : ℕ) (o : Option ℕ) (mine : c.owner r ≡ Spare k) where

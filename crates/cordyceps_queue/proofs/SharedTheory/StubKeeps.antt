@@ -1,13 +1,13 @@
 -- The steps of a try to dequeue at the stub, and of putting it in, keep the rule of a queue's table.
-use Rattle.std.proofs.Common.{◌≡◌, ◌≢◌, ℕ, zero, suc, ◌+◌, ◌-◌, ◌<◌, List, [], ◌∷◌, ◌++◌, length, set, get_or, Some, None, refl, sym, ap, ◌∙◌, subst, inl, inr, arith, length-set, append-nil}
+use Rattle.std.proofs.Common.{◌≡◌, ◌≢◌, ℕ, zero, suc, ◌+◌, ◌<◌, List, [], ◌∷◌, ◌++◌, length, set, get_or, Some, None, refl, sym, ap, ◌∙◌, subst, inl, inr, arith, length-set, append-nil}
 use mathlib.Core.Option.{some, none}
 use native.Mathlib.Decide.{ℕ_discrete}
 use lib.ListN.{get_elem?}
-use Rattle.atomic_table.specs.Table.{keeps, carried_after, stepped, step}
+use Rattle.atomic_table.specs.Table.{carried_after, stepped, step}
 use Rattle.cordyceps_shared.specs.Slots.{Near}
 use Rattle.cordyceps_shared.specs.Words as word
 use Rattle.cordyceps_shared.specs.declared.layout.TheConstants.{HEAD, LINKS}
-use Rattle.cordyceps_shared.proofs.Words.{head_set, right_beside_head, head_beside_next, right_beside_next, next_beside_next}
+use Rattle.cordyceps_shared.proofs.Words.{head_set, next_beside_next}
 use Rattle.cordyceps_shared.specs.Shares.{Name}
 use Rattle.cordyceps_queue.specs.declared.cores.stage.Stage.{Stage}
 use Rattle.cordyceps_queue.specs.declared.cores.stage.Stage.TheVariants.{Cleared, Holding, StubNull, Second, Null, PutClear, PutSwap, PutLink, PutRead}
@@ -26,7 +26,7 @@ use Rattle.cordyceps_queue.proofs.CoreTheory.DequeueSteps.{pass_keeps, chain_aft
 use Rattle.cordyceps_queue.proofs.CoreTheory.HolderSteps.{was_now, keeping, stage_keeps, tell_keeps, open_blocks, none_held, stub_out}
 use Rattle.cordyceps_queue.proofs.CoreTheory.ChainShrinks.{real_stub, second}
 use Rattle.cordyceps_queue.proofs.CoreTheory.StubSteps.{clear_stub_keeps, swap_stub_keeps, chain_after_stub, link_stub_keeps}
-use Rattle.cordyceps_queue.proofs.SharedTheory.WordsAsMachine.{quiet, link_spelled, head_spelled, links_put, links_same, next_low, none_cleared, keeps_rule, empties_same, readies_same, chain_near, head_near, linkeds, linkeds_low, own_links, Among, Becomes, PlainAllows}
+use Rattle.cordyceps_queue.proofs.SharedTheory.WordsAsMachine.{quiet, link_spelled, head_spelled, next_low, none_cleared, keeps_rule, empties_same, readies_same, chain_near, head_near, linkeds, linkeds_low, own_links, Among, Becomes, PlainAllows}
 use Rattle.cordyceps_queue.proofs.CoreTheory.ProducerSteps.{spare_shared, shared_pooled}
 use Rattle.cordyceps_queue.proofs.SharedTheory.EnqueueKeeps.{views_put, wide_words}
 use Rattle.cordyceps_queue.proofs.SharedTheory.ReturnKeeps.{returning, moved_on, handed_on}
