@@ -74,26 +74,21 @@ module _ {X A : Type 0} (get : Option X → A) where
       at (y ∷ xs) (suc j) = at xs j
 
 module _ {X : Type 0} where
+  get_index : (xs : List X) (i : ℕ) (d : X) → i < length xs → slice_get xs i ≡ Some (slice_index_or xs i d)
+  get_index [] i d lt = absurd (omega arith)
+  get_index (y ∷ ys) zero d lt = refl
+  get_index (y ∷ ys) (suc i) d lt = get_index ys i d (omega arith)
+
   -- a write after the first item
   pub set_after : (f : X → X) (x : X) (xs : List X) (i : ℕ) (d : X) → 0 < i → i < suc (length xs) → x ∷ slice_set xs (i - 1) (f (slice_index_or xs (i - 1) d)) ≡ change f i (x ∷ xs)
   set_after f x xs zero d pos lt = absurd (omega arith)
   set_after f x xs (suc i) d pos lt =
       let e : suc i - 1 ≡ i = omega arith in
-      ap (λ n. x ∷ slice_set xs n (f (slice_index_or xs n d))) e ∙ ap (λ ys. x ∷ ys) (set_change f xs i (slice_index_or xs i d) (at xs i (omega arith)))
-    where
-      at : (xs : List X) (i : ℕ) → i < length xs → slice_get xs i ≡ Some (slice_index_or xs i d)
-      at [] i lt = absurd (omega arith)
-      at (y ∷ ys) zero lt = refl
-      at (y ∷ ys) (suc i) lt = at ys i (omega arith)
+      ap (λ n. x ∷ slice_set xs n (f (slice_index_or xs n d))) e ∙ ap (λ ys. x ∷ ys) (set_change f xs i (slice_index_or xs i d) (get_index xs i d (omega arith)))
 
   pub get_after : (x : X) (xs : List X) (i : ℕ) (d : X) → 0 < i → i < suc (length xs) → slice_get (x ∷ xs) i ≡ Some (slice_index_or xs (i - 1) d)
   get_after x xs zero d pos lt = absurd (omega arith)
-  get_after x xs (suc i) d pos lt = let e : suc i - 1 ≡ i = omega arith in at xs i (omega arith) ∙ ap (λ n. Some (slice_index_or xs n d)) (sym e)
-    where
-      at : (xs : List X) (i : ℕ) → i < length xs → slice_get xs i ≡ Some (slice_index_or xs i d)
-      at [] i lt = absurd (omega arith)
-      at (y ∷ ys) zero lt = refl
-      at (y ∷ ys) (suc i) lt = at ys i (omega arith)
+  get_after x xs (suc i) d pos lt = let e : suc i - 1 ≡ i = omega arith in get_index xs i d (omega arith) ∙ ap (λ n. Some (slice_index_or xs n d)) (sym e)
 
 module _ {E : Type 0} where
   -- a room with an element is not the stub's

@@ -30,7 +30,7 @@ use Rattle.cordyceps_queue.specs.Shared.View.{View, name, bit_of, free_chain, ba
 use Rattle.cordyceps_queue.proofs.CoreTheory.Basics.{some_inj, put_same}
 use Rattle.cordyceps_queue.proofs.CoreTheory.HolderSteps.{keeping}
 use Rattle.cordyceps_queue.proofs.CoreTheory.ProducerSteps.{spare_shared, spare_pooled, ready_spare, spare_one}
-use Rattle.cordyceps_queue.proofs.SharedTheory.WordsAsMachine.{core, party_at, rooms_of, Becomes}
+use Rattle.cordyceps_queue.proofs.SharedTheory.WordsAsMachine.{PlainAllows, core, party_at, rooms_of, Becomes}
 use Rattle.cordyceps_queue.proofs.SharedTheory.EnqueueKeeps.{clears}
 use Rattle.cordyceps_queue.proofs.SharedTheory.UsesSpell.{SaysNext, free_link_as, place_of, begun_not_spare, spare_not_in, right_in, next_in, spells_begun, spells_low, pool_word, pool_links, spelt_read}
 use Rattle.cordyceps_queue.proofs.SharedTheory.HolderAllowed.{looks, reads_after}
@@ -249,132 +249,90 @@ module _ {E : Type 0} (slots id : ℕ) (me : SeatState E) (hand : me.1 ≡ carry
         told = told;
       }
 
-  pub reads_look : (t i : ℕ) → i ≡ LINKS + t → me.0.stage ≡ Holding t → t ≢ 0 → Allows RuleHolds slots id me i (λ x. x) (play.after_look (step slots i 0 0 none) me)
-  reads_look t i is holding is_real s k deep at fits =
-      let b = looks slots id me hand near named may t i is holding is_real (plain_table s k) k.plain deep at in
+  -- a load at which no use begins is allowed where the plain rule allows it
+  loads_allowed : (i : ℕ) (plainly then : ℕ → SeatState E → Type 0) → PlainAllows slots id me i (λ x. x) plainly
+      → ((n : ℕ) (c : SeatState E) → plainly n c → (x : ℕ) → Begun c.0.stage x → ⊥)
+      → ((s : TableState E) (k : RuleHolds s) → get_elem? s.views id ≡ some me.0 → (w : View E) (z : TableState E) (c : SeatState E) → c.0 ≡ w
+      → Becomes (plain_table s k) k.plain me.0 w z → plainly (get_or k.words i 0) c → play.KeepsBits me c → then (get_or s.words i 0) c)
+      → Allows RuleHolds slots id me i (λ x. x) then
+  loads_allowed i plainly then allows calm tells s k deep at fits =
+      let b = allows (plain_table s k) k.plain deep at in
       let w = b.0.view in
-      let es : List (Event Name E) = Event.Look (name me.0) ∷ [] in
-      let told = b.1 t holding is_real in
       let c : SeatState E = (w, carried_after me.1 b.0.act) in
       let z = stepped (plain_table s k) i (get_or k.words i 0) id me.1 w b.0.act in (
         w,
         b.0.act,
         b.0.valid,
-        load_kept s k id me.0 at named w i (homes_after s.homes me.1 b.0.act) b.0.becomes
-            (calm_reads es es (Null t) slots t (get_or k.words i 0) me c (λ x o. o) told.0 told.1),
-        (
-          bits_kept s k id me.0 at named w z b.0.becomes,
-          λ u stage ne. read_tells s k at t u i 0 w z c (λ n. plain.after_look (step slots i 0 0 none) me n c) refl is
-              (tail_in s k id me.0 at named t (ap tail_of holding)) (subst (λ l. Knows l t) (sym holding) refl)
-              (some_inj (ap tail_of (sym holding ∙ stage))) b.0.becomes b.1,
-        ),
+        load_kept s k id me.0 at named w i (homes_after s.homes me.1 b.0.act) b.0.becomes (calm (get_or k.words i 0) c b.1),
+        tells s k at w z c refl b.0.becomes b.1 (bits_kept s k id me.0 at named w z b.0.becomes),
       )
+
+  pub reads_look : (t i : ℕ) → i ≡ LINKS + t → me.0.stage ≡ Holding t → t ≢ 0 → Allows RuleHolds slots id me i (λ x. x) (play.after_look (step slots i 0 0 none) me)
+  reads_look t i is holding is_real =
+      let es : List (Event Name E) = Event.Look (name me.0) ∷ [] in
+      loads_allowed i (plain.after_look (step slots i 0 0 none) me) (play.after_look (step slots i 0 0 none) me)
+      (looks slots id me hand near named may t i is holding is_real)
+      (λ n c told. let r = told t holding is_real in calm_reads es es (Null t) slots t n me c (λ x o. o) r.0 r.1)
+      (λ s k at w z c is_w b told keeps. (
+        keeps,
+        λ u stage ne. read_tells s k at t u i 0 w z c (λ n. plain.after_look (step slots i 0 0 none) me n c) is_w is
+            (tail_in s k id me.0 at named t (ap tail_of holding)) (subst (λ l. Knows l t) (sym holding) refl)
+            (some_inj (ap tail_of (sym holding ∙ stage))) b told,
+      ))
 
   pub reads_second : (t i : ℕ) → i ≡ LINKS + t → me.0.stage ≡ Second t → Allows RuleHolds slots id me i (λ x. x) (play.after_read (step slots i 0 0 none) me)
-  reads_second t i is holding s k deep at fits =
-      let b = reads_after slots id me hand near named may t i is holding (plain_table s k) k.plain deep at in
-      let w = b.0.view in
-      let told = b.1 t holding in
-      let c : SeatState E = (w, carried_after me.1 b.0.act) in
-      let z = stepped (plain_table s k) i (get_or k.words i 0) id me.1 w b.0.act in (
-        w,
-        b.0.act,
-        b.0.valid,
-        load_kept s k id me.0 at named w i (homes_after s.homes me.1 b.0.act) b.0.becomes
-            (calm_reads [] [] (Null t) slots t (get_or k.words i 0) me c (λ x o. o) told.0 told.1),
-        (
-          bits_kept s k id me.0 at named w z b.0.becomes,
-          λ u stage. read_tells s k at t u i 0 w z c (λ n. plain.after_read (step slots i 0 0 none) me n c) refl is
-              (tail_in s k id me.0 at named t (ap tail_of holding)) (subst (λ l. Knows l t) (sym holding) refl)
-              (some_inj (ap tail_of (sym holding ∙ stage))) b.0.becomes b.1,
-        ),
-      )
+  reads_second t i is holding =
+      loads_allowed i (plain.after_read (step slots i 0 0 none) me) (play.after_read (step slots i 0 0 none) me)
+      (reads_after slots id me hand near named may t i is holding)
+      (λ n c told. let r = told t holding in calm_reads [] [] (Null t) slots t n me c (λ x o. o) r.0 r.1)
+      (λ s k at w z c is_w b told keeps. (
+        keeps,
+        λ u stage. read_tells s k at t u i 0 w z c (λ n. plain.after_read (step slots i 0 0 none) me n c) is_w is
+            (tail_in s k id me.0 at named t (ap tail_of holding)) (subst (λ l. Knows l t) (sym holding) refl)
+            (some_inj (ap tail_of (sym holding ∙ stage))) b told,
+      ))
 
   pub reads_again : (t i : ℕ) → i ≡ LINKS + t → me.0.stage ≡ PutRead t → Allows RuleHolds slots id me i (λ x. x) (play.after_reread (step slots i 0 0 none) me)
-  reads_again t i is holding s k deep at fits =
-      let b = rereads slots id me hand near named may t i is holding (plain_table s k) k.plain deep at in
-      let w = b.0.view in
-      let told = b.1 t holding in
-      let c : SeatState E = (w, carried_after me.1 b.0.act) in
-      let z = stepped (plain_table s k) i (get_or k.words i 0) id me.1 w b.0.act in (
-        w,
-        b.0.act,
-        b.0.valid,
-        load_kept s k id me.0 at named w i (homes_after s.homes me.1 b.0.act) b.0.becomes
-            (calm_reads [] [] (Holding t) slots t (get_or k.words i 0) me c (λ x o. o) (λ e. (told.0 e).0) told.1),
-        (
-          bits_kept s k id me.0 at named w z b.0.becomes,
-          λ u stage. read_tells s k at t u i 0 w z c (λ n. plain.after_reread (step slots i 0 0 none) me n c) refl is
-              (tail_in s k id me.0 at named t (ap tail_of holding)) (subst (λ l. Knows l t) (sym holding) refl)
-              (some_inj (ap tail_of (sym holding ∙ stage))) b.0.becomes b.1,
-        ),
-      )
+  reads_again t i is holding =
+      loads_allowed i (plain.after_reread (step slots i 0 0 none) me) (play.after_reread (step slots i 0 0 none) me)
+      (rereads slots id me hand near named may t i is holding)
+      (λ n c told. let r = told t holding in calm_reads [] [] (Holding t) slots t n me c (λ x o. o) (λ e. (r.0 e).0) r.1)
+      (λ s k at w z c is_w b told keeps. (
+        keeps,
+        λ u stage. read_tells s k at t u i 0 w z c (λ n. plain.after_reread (step slots i 0 0 none) me n c) is_w is
+            (tail_in s k id me.0 at named t (ap tail_of holding)) (subst (λ l. Knows l t) (sym holding) refl)
+            (some_inj (ap tail_of (sym holding ∙ stage))) b told,
+      ))
 
   pub reads_stub : me.0.stage ≡ Holding 0 → Allows RuleHolds slots id me LINKS (λ x. x) (play.after_look_stub (step slots LINKS 0 0 none) me)
-  reads_stub holding s k deep at fits =
-      let b = looks_stub slots id me hand near named may holding (plain_table s k) k.plain deep at in
-      let w = b.0.view in
+  reads_stub holding =
       let es : List (Event Name E) = Event.Look (name me.0) ∷ [] in
-      let told = b.1 holding in
-      let c : SeatState E = (w, carried_after me.1 b.0.act) in
-      let z = stepped (plain_table s k) LINKS (get_or k.words LINKS 0) id me.1 w b.0.act in (
-        w,
-        b.0.act,
-        b.0.valid,
-        load_kept s k id me.0 at named w LINKS (homes_after s.homes me.1 b.0.act) b.0.becomes
-            (calm_moves es es StubNull (λ r. Second r) (get_or k.words LINKS 0) me c (λ x o. o) (λ r x o. o) told.0
-            (λ r e. (told.1 r e).moves)),
-        (
-          bits_kept s k id me.0 at named w z b.0.becomes,
-          λ stage. read_tells s k at 0 0 LINKS 0 w z c (λ n. plain.after_look_stub (step slots LINKS 0 0 none) me n c)
-              refl refl (tail_in s k id me.0 at named 0 (ap tail_of holding))
-              (subst (λ l. Knows l 0) (sym holding) refl) refl b.0.becomes b.1,
-        ),
-      )
+      loads_allowed LINKS (plain.after_look_stub (step slots LINKS 0 0 none) me) (play.after_look_stub (step slots LINKS 0 0 none) me)
+      (looks_stub slots id me hand near named may holding)
+      (λ n c told. let r = told holding in calm_moves es es StubNull (λ r. Second r) n me c (λ x o. o) (λ r x o. o) r.0 (λ x e. (r.1 x e).moves))
+      (λ s k at w z c is_w b told keeps. (
+        keeps,
+        λ stage. read_tells s k at 0 0 LINKS 0 w z c (λ n. plain.after_look_stub (step slots LINKS 0 0 none) me n c) is_w refl
+            (tail_in s k id me.0 at named 0 (ap tail_of holding)) (subst (λ l. Knows l 0) (sym holding) refl) refl b told,
+      ))
 
   -- ---- the reads of the head
   pub heads_of_stub : me.0.stage ≡ StubNull → Allows RuleHolds slots id me HEAD (λ x. x) (play.after_head_stub (step slots HEAD 0 0 none) me)
-  heads_of_stub holding s k deep at fits =
-      let b = heads_stub slots id me hand near named may holding (plain_table s k) k.plain deep at in
-      let w = b.0.view in
-      let told = b.1 holding in
-      let c : SeatState E = (w, carried_after me.1 b.0.act) in
-      let z = stepped (plain_table s k) HEAD (get_or k.words HEAD 0) id me.1 w b.0.act in (
-        w,
-        b.0.act,
-        b.0.valid,
-        load_kept s k id me.0 at named w HEAD (homes_after s.homes me.1 b.0.act) b.0.becomes
-            (elim (ℕ_discrete (word.head k.words) 0) [
-              | yes e ↦ calm_at (told.0 e).stage (λ x o. o)
-              | no ne ↦ calm_at
-                  (told.1 ne).0.stage (λ x o. o)
-            ]),
-        (
-          bits_kept s k id me.0 at named w z b.0.becomes,
-          head_tells s k w z c
-              (λ n. plain.after_head_stub (step slots HEAD 0 0 none) me n c) refl b.0.becomes b.1,
-        ),
-      )
+  heads_of_stub holding =
+      loads_allowed HEAD (plain.after_head_stub (step slots HEAD 0 0 none) me) (play.after_head_stub (step slots HEAD 0 0 none) me)
+      (heads_stub slots id me hand near named may holding)
+      (λ n c told. let r = told holding in elim (ℕ_discrete n 0) [
+        | yes e ↦ calm_at (r.0 e).stage (λ x o. o)
+        | no ne ↦ calm_at (r.1 ne).0.stage (λ x o. o)
+      ])
+      (λ s k at w z c is_w b told keeps. (keeps, head_tells s k w z c (λ n. plain.after_head_stub (step slots HEAD 0 0 none) me n c) is_w b told))
 
   pub heads_of : (t : ℕ) → me.0.stage ≡ Null t → Allows RuleHolds slots id me HEAD (λ x. x) (play.after_head (step slots HEAD 0 0 none) me)
-  heads_of t holding s k deep at fits =
-      let b = heads slots id me hand near named may t holding (plain_table s k) k.plain deep at in
-      let w = b.0.view in
-      let told = b.1 t holding in
-      let c : SeatState E = (w, carried_after me.1 b.0.act) in
-      let z = stepped (plain_table s k) HEAD (get_or k.words HEAD 0) id me.1 w b.0.act in (
-        w,
-        b.0.act,
-        b.0.valid,
-        load_kept s k id me.0 at named w HEAD (homes_after s.homes me.1 b.0.act) b.0.becomes
-            (elim (ℕ_discrete (word.head k.words) t) [
-              | yes e ↦ calm_at (told.0 e).stage (λ x o. o)
-              | no ne ↦ calm_at
-                  (told.1 ne).0.stage (λ x o. o)
-            ]),
-        (
-          bits_kept s k id me.0 at named w z b.0.becomes,
-          head_tells s k w z c
-              (λ n. plain.after_head (step slots HEAD 0 0 none) me n c) refl b.0.becomes b.1,
-        ),
-      )
+  heads_of t holding =
+      loads_allowed HEAD (plain.after_head (step slots HEAD 0 0 none) me) (play.after_head (step slots HEAD 0 0 none) me)
+      (heads slots id me hand near named may t holding)
+      (λ n c told. let r = told t holding in elim (ℕ_discrete n t) [
+        | yes e ↦ calm_at (r.0 e).stage (λ x o. o)
+        | no ne ↦ calm_at (r.1 ne).0.stage (λ x o. o)
+      ])
+      (λ s k at w z c is_w b told keeps. (keeps, head_tells s k w z c (λ n. plain.after_head (step slots HEAD 0 0 none) me n c) is_w b told))
