@@ -14,6 +14,7 @@ use Rattle.cordyceps_queue.proofs.CoreTheory.Basics.{some_inj, none_some, suc_ze
 use Rattle.cordyceps_queue.proofs.CoreTheory.ProducerSteps.{clear_keeps, chain_after_clear, swap_keeps, chain_after_swap, link_keeps, busy_keeps}
 use Rattle.cordyceps_queue.proofs.CoreTheory.HolderSteps.{was_now, keeping, stage_keeps, tell_keeps, open_blocks, none_held, stub_out}
 use Rattle.cordyceps_queue.proofs.CoreTheory.DequeueSteps.{take_keeps, chain_after_take, give_keeps, chain_after_give, pass_keeps, chain_after_pass, out_keeps, chain_after_out}
+use Rattle.cordyceps_queue.proofs.CoreTheory.StepLeaves.{fits_as}
 use Rattle.cordyceps_queue.proofs.CoreTheory.StubSteps.{clear_stub_keeps, swap_stub_keeps, chain_after_stub, link_stub_keeps}
 
 abbrev Kept : {P E : Type 0} → P → List (Event P E) → Move P E → Type 0
@@ -43,9 +44,6 @@ module _ {P E : Type 0} (m : AbstractMachine P E) (c : Chain) (k : ℕ) (p : Abs
   reads_keep before h M same t has nothing ne looked (Some r) next e = gives_out_keep before h M same t r has nothing ne next (m.cell t) refl e
 
   module _ (h : List (Event P E)) (M : Meets m c h) where
-    fits_at : (stage : Stage) → p.stage ≡ stage → AtStage m.head m.next m.cell c.owner c.keeper c.rooms h k p.name stage
-    fits_at stage e = subst (AtStage m.head m.next m.cell c.owner c.keeper c.rooms h k p.name) e (M.fits k p at)
-
     clears_keep : p.stage ≡ Rest → (x : E) (s : List ℕ) → p.spare ≡ s → clears m k p s x ≡ Some v → Kept p.name h v
     clears_keep rest x [] spare e = absurd (none_some e)
     clears_keep rest x (r ∷ rooms) spare e = subst (Kept p.name h) (some_inj e) (chain_after_clear m c h M k p at rest r rooms spare x, clear_keeps m c h M k p at rest r rooms spare x, tt)
@@ -103,11 +101,11 @@ module _ {P E : Type 0} (m : AbstractMachine P E) (c : Chain) (k : ℕ) (p : Abs
         )
     heads_stub_keep stage false apart e =
         subst (Kept p.name h) (some_inj e) (fails_keep 0 (ap tail_of stage) (λ a b o. subst (λ l. Owes l a b) stage o)
-        ((fits_at StubNull stage).blocked (ne_of m.head 0 apart)))
+        ((fits_as m c h M k p at stage).blocked (ne_of m.head 0 apart)))
 
     heads_keep : (t : ℕ) → p.stage ≡ Null t → (b : Bool) → eqb m.head t ≡ b → heads m k p t b ≡ Some v → Kept p.name h v
     heads_keep t stage true same e =
-        let f : AtStage m.head m.next m.cell c.owner c.keeper c.rooms h k p.name (Null t) = fits_at (Null t) stage in
+        let f : AtStage m.head m.next m.cell c.owner c.keeper c.rooms h k p.name (Null t) = fits_as m c h M k p at stage in
         subst (Kept p.name h) (some_inj e) (
           c,
           stage_keeps m c h M k p at t (ap tail_of stage) (PutClear t) refl (λ a b o. absurd (subst (λ l. Owes l a b) stage o))
@@ -115,15 +113,15 @@ module _ {P E : Type 0} (m : AbstractMachine P E) (c : Chain) (k : ℕ) (p : Abs
           tt,
         )
     heads_keep t stage false apart e =
-        subst (Kept p.name h) (some_inj e) (fails_keep t (ap tail_of stage) (λ a b o. subst (λ l. Owes l a b) stage o) ((fits_at (Null t) stage).1 (ne_of m.head t apart)))
+        subst (Kept p.name h) (some_inj e) (fails_keep t (ap tail_of stage) (λ a b o. subst (λ l. Owes l a b) stage o) ((fits_as m c h M k p at stage).1 (ne_of m.head t apart)))
 
     reads_put_keep : (t : ℕ) → p.stage ≡ PutRead t → (n : Option ℕ) → m.next t ≡ n → reads_put m k p t n ≡ Some v → Kept p.name h v
     reads_put_keep t stage None next e =
-        let f : AtStage m.head m.next m.cell c.owner c.keeper c.rooms h k p.name (PutRead t) = fits_at (PutRead t) stage in
+        let f : AtStage m.head m.next m.cell c.owner c.keeper c.rooms h k p.name (PutRead t) = fits_as m c h M k p at stage in
         let nothing : (a b : ℕ) → Owes p.stage a b → ⊥ = λ a b o. subst (λ l. Owes l a b) stage o in
         subst (Kept p.name h) (some_inj e) (fails_keep t (ap tail_of stage) nothing (was_now p.name h f.0.looked (open_blocks m c h M k p at t (ap tail_of stage) nothing next f.1)))
     reads_put_keep t stage (Some r) next e =
-        let f : AtStage m.head m.next m.cell c.owner c.keeper c.rooms h k p.name (PutRead t) = fits_at (PutRead t) stage in
+        let f : AtStage m.head m.next m.cell c.owner c.keeper c.rooms h k p.name (PutRead t) = fits_as m c h M k p at stage in
         gives_out_keep [] h M refl t r (ap tail_of stage) (λ a b o. subst (λ l. Owes l a b) stage o) f.0.is_real next (m.cell t) refl e
 
     act_keeps : (stage : Stage) → p.stage ≡ stage → (s : QueueStep E) → act m k p stage s ≡ Some v → Kept p.name h v
@@ -135,7 +133,7 @@ module _ {P E : Type 0} (m : AbstractMachine P E) (c : Chain) (k : ℕ) (p : Abs
     act_keeps (Holding t) l step.Give e = subst (Kept p.name h) (some_inj e) (chain_after_give m c h M k p at t l, give_keeps m c h M k p at t l, tt)
     act_keeps StubNull l step.ReadHead e = heads_stub_keep l (eqb m.head 0) refl e
     act_keeps (Second t) l step.ReadNext e =
-        let f : Real c.keeper c.rooms h k p.name t = fits_at (Second t) l in
+        let f : Real c.keeper c.rooms h k p.name t = fits_as m c h M k p at l in
         reads_keep [] h M refl t (ap tail_of l) (λ a b o. subst (λ l. Owes l a b) l o) f.is_real f.looked (m.next t) refl e
     act_keeps (Null t) l step.ReadHead e = heads_keep t l (eqb m.head t) refl e
     act_keeps (PutClear t) l (step.Clear None) e = subst (Kept p.name h) (some_inj e) (c, clear_stub_keeps m c h M k p at t l, tt)

@@ -8,7 +8,7 @@ use Rattle.cordyceps_shared.specs.Places.{ItemAt}
 use Rattle.cordyceps_queue.specs.Cores.Meets.{real, Shared, Spare, Owes, tail_of, Chain, Keeps, AtStage, RightIs, Meets}
 use Rattle.cordyceps_queue.proofs.CoreTheory.Basics.{owner_else, owns_else, some_inj, none_some, suc_zero, zero_suc, suc_inj, put_same, put_other, map_put}
 use Rattle.cordyceps_queue.proofs.CoreTheory.OtherParties.{goes_without}
-use Rattle.cordyceps_queue.proofs.CoreTheory.StepLeaves.{chain_of, joined_still, moves_on, rooms_on, rooms_still}
+use Rattle.cordyceps_queue.proofs.CoreTheory.StepLeaves.{fits_as, chain_of, joined_still, moves_on, rooms_on, rooms_still}
 use Rattle.cordyceps_queue.proofs.CoreTheory.ProducerSteps.{spare_shared, ready_shared, shared_unmade}
 use Rattle.cordyceps_queue.proofs.CoreTheory.HolderSteps.{keeping, not_keeper, right_with}
 use Rattle.cordyceps_queue.proofs.CoreTheory.ChainShrinks.{at_down, at_up, Splits, real_stub, rank_stub, rank_first, tail_full, owns_insert, second, last_less, once_less, tail_away, goes_drops}
@@ -34,7 +34,7 @@ module _ {P E : Type 0} (m : AbstractMachine P E) (c : Chain) (h : List (Event P
     free = free_right m.right m.party c.rooms h c.keeper t right M.right
 
     settled : IsSettled p.name h
-    settled = subst (AtStage m.head m.next m.cell c.owner c.keeper c.rooms h k p.name) rest (M.fits k p at)
+    settled = fits_as m c h M k p at rest
 
     pub take_keeps : Meets (set_right m k p 0 (Holding t)) chain_after_take (Event.Take p.name ∷ h)
     take_keeps = moves_on m c h M k p at (Holding t) p.spare (set_right m k p 0 (Holding t)) chain_after_take (Event.Take p.name ∷ h) record {

@@ -16,7 +16,7 @@ use Rattle.cordyceps_queue.proofs.CoreTheory.Basics.{put_other, put_none, at_one
 use Rattle.cordyceps_queue.proofs.CoreTheory.Basics.{rank_more, rank_all, real_more, map_put, pending_one, open_from}
 use Rattle.cordyceps_queue.proofs.CoreTheory.ChainGrows.{real_one, held_length, alone, open_more, last_more, once_more, joined_more, right_more, right_same}
 use Rattle.cordyceps_queue.proofs.CoreTheory.OtherParties.{GoesOn, bystander, joined_put, right_stays}
-use Rattle.cordyceps_queue.proofs.CoreTheory.StepLeaves.{chain_dealt, chain_of, joined_on, moves_on, parties, right_else, rooms_on, rooms_still}
+use Rattle.cordyceps_queue.proofs.CoreTheory.StepLeaves.{fits_as, chain_dealt, chain_of, joined_on, moves_on, parties, right_else, rooms_on, rooms_still}
 
 pub spare_shared : {o : Owner} {k : ℕ} → o ≡ Spare k → o ≡ Shared → ⊥
 spare_shared a b = cc (a, b)
@@ -94,7 +94,7 @@ module _ {P E : Type 0} (m : AbstractMachine P E) (c : Chain) (h : List (Event P
         right = λ _. right_stays refl (λ l. l) (λ b. b) (λ _. put_none m.next r 0) (λ _ old _ _. put_none m.next r old);
       };
       mine = record {
-        settled = subst (AtStage m.head m.next m.cell c.owner c.keeper c.rooms h k p.name) rest (M.fits k p at);
+        settled = fits_as m c h M k p at rest;
         ready = put_same c.owner r (Ready k);
         is_real = λ e. away 0 M.stub (sym e);
         null = put_same m.next r None;
@@ -113,7 +113,7 @@ module _ {P E : Type 0} (m : AbstractMachine P E) (c : Chain) (h : List (Event P
     chain_after_swap = record c { rooms = c.rooms ++ r ∷ []; owner = update c.owner r Shared }
 
     pub was : AtStage m.head m.next m.cell c.owner c.keeper c.rooms h k p.name (Cleared r)
-    was = subst (AtStage m.head m.next m.cell c.owner c.keeper c.rooms h k p.name) ready (M.fits k p at)
+    was = fits_as m c h M k p at ready
 
     other_room : (x : ℕ) → c.owner x ≡ Shared → x ≢ r
     other_room x s e = ready_shared was.ready (ap c.owner (sym e) ∙ s)
@@ -188,7 +188,7 @@ module _ {P E : Type 0} (m : AbstractMachine P E) (c : Chain) (h : List (Event P
   -- Link of an element
   module _ (r old : ℕ) (waits : p.stage ≡ Swapped r old) where
     link : HasOpen m.next c.rooms h p.name r old
-    link = subst (AtStage m.head m.next m.cell c.owner c.keeper c.rooms h k p.name) waits (M.fits k p at)
+    link = fits_as m c h M k p at waits
 
     old_shared : c.owner old ≡ Shared
     old_shared = M.shared link.at old link.old_at

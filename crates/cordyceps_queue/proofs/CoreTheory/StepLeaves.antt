@@ -1,5 +1,5 @@
 -- What a step of a party leaves, from which the machine after it meets the history after it.
-use Rattle.std.proofs.Common.{◌≡◌, ◌≢◌, ℕ, suc, ◌≤◌, List, map, Option, Some, None, refl, sym}
+use Rattle.std.proofs.Common.{◌≡◌, ◌≢◌, ℕ, suc, ◌≤◌, List, map, Option, Some, None, refl, sym, subst}
 use Rattle.cordyceps_queue.specs.History.{Event}
 use Rattle.cordyceps_queue.specs.Past.{held_reversed, IsSettled, IsLegalReversed}
 use Rattle.cordyceps_queue.specs.declared.cores.stage.Stage.{Stage}
@@ -18,6 +18,10 @@ pub record IsChain (head count : ℕ) (rooms : List ℕ) (owner : ℕ → Owner)
   pub unmade : (r : ℕ) → count ≤ r → owner r ≡ Unmade
 
 module _ {P E : Type 0} (m : AbstractMachine P E) (c : Chain) (h : List (Event P E)) (M : Meets m c h) where
+  -- a party whose stage is known
+  pub fits_as : (k : ℕ) (p : AbstractParty P) → m.party k ≡ Some p → {stage : Stage} → p.stage ≡ stage → AtStage m.head m.next m.cell c.owner c.keeper c.rooms h k p.name stage
+  fits_as k p at is = subst (AtStage m.head m.next m.cell c.owner c.keeper c.rooms h k p.name) is (M.fits k p at)
+
   pub chain_of : IsChain m.head m.count c.rooms c.owner
   chain_of = record { last = M.last; once = M.once; shared = M.shared; stub = M.stub; unmade = M.unmade }
 

@@ -13,7 +13,7 @@ use Rattle.cordyceps_queue.proofs.CoreTheory.Basics.{put_none, at_one, at_within
 use Rattle.cordyceps_queue.proofs.CoreTheory.Basics.{real_more}
 use Rattle.cordyceps_queue.proofs.CoreTheory.ChainGrows.{open_more, last_more, once_more, joined_more}
 use Rattle.cordyceps_queue.proofs.CoreTheory.OtherParties.{goes_without, joined_put}
-use Rattle.cordyceps_queue.proofs.CoreTheory.StepLeaves.{chain_of, joined_on, moves_on, parties, rooms_still}
+use Rattle.cordyceps_queue.proofs.CoreTheory.StepLeaves.{fits_as, chain_of, joined_on, moves_on, parties, rooms_still}
 use Rattle.cordyceps_queue.proofs.CoreTheory.ProducerSteps.{ready_shared}
 use Rattle.cordyceps_queue.proofs.CoreTheory.HolderSteps.{not_keeper, right_with}
 
@@ -21,7 +21,7 @@ module _ {P E : Type 0} (m : AbstractMachine P E) (c : Chain) (h : List (Event P
   -- Clear of the stub
   module _ (t : ℕ) (stage : p.stage ≡ PutClear t) where
     unlinked : Real c.keeper c.rooms h k p.name t × IsOut c.rooms
-    unlinked = subst (AtStage m.head m.next m.cell c.owner c.keeper c.rooms h k p.name) stage (M.fits k p at)
+    unlinked = fits_as m c h M k p at stage
 
     pub clear_stub_keeps : Meets (clear_stub m k p t) c h
     clear_stub_keeps = moves_on m c h M k p at (PutSwap t) p.spare (clear_stub m k p t) c h record {
@@ -44,7 +44,7 @@ module _ {P E : Type 0} (m : AbstractMachine P E) (c : Chain) (h : List (Event P
     chain_after_stub = record c { rooms = c.rooms ++ 0 ∷ [] }
 
     cleared_stub : HasClearStub m.next c.keeper c.rooms h k p.name t
-    cleared_stub = subst (AtStage m.head m.next m.cell c.owner c.keeper c.rooms h k p.name) stage (M.fits k p at)
+    cleared_stub = fits_as m c h M k p at stage
 
     real_keeps : Real c.keeper (c.rooms ++ 0 ∷ []) h k p.name t
     real_keeps = record {
@@ -90,7 +90,7 @@ module _ {P E : Type 0} (m : AbstractMachine P E) (c : Chain) (h : List (Event P
   -- Link of the stub
   module _ (t old : ℕ) (stage : p.stage ≡ PutLink t old) where
     open_stub : HasOpenStub m.next c.keeper c.rooms h k p.name t old
-    open_stub = subst (AtStage m.head m.next m.cell c.owner c.keeper c.rooms h k p.name) stage (M.fits k p at)
+    open_stub = fits_as m c h M k p at stage
 
     not_old_stub : (j a : ℕ) → ItemAt c.rooms j a → j ≢ open_stub.at → a ≢ old
     not_old_stub j a ja ne same = ne (M.once j open_stub.at old (subst (ItemAt c.rooms j) same ja) open_stub.old_at)

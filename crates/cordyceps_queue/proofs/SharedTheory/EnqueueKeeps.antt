@@ -27,7 +27,7 @@ use Rattle.cordyceps_queue.specs.Cores.Abstract.{AbstractMachine, update, clear_
 use Rattle.cordyceps_queue.proofs.CoreTheory.Basics.{some_inj, put_same, put_other, at_split, real_more}
 use Rattle.cordyceps_queue.proofs.CoreTheory.ChainGrows.{real_one}
 use Rattle.cordyceps_queue.proofs.CoreTheory.ProducerSteps.{spare_shared, spare_pooled, ready_spare, ready_pooled, shared_pooled, clear_keeps, chain_after_clear, swap_keeps, chain_after_swap, was, fresh, link_keeps, spare_one}
-use Rattle.cordyceps_queue.proofs.SharedTheory.WordsAsMachine.{link_spelled, head_spelled, next_low, parties_put, keeps_rule, core, party_at, rooms_of, free_spare, empties, empties_same, readies, readies_same, head_near, linked_else, own_links, linkeds, linkeds_low, Becomes, PlainAllows}
+use Rattle.cordyceps_queue.proofs.SharedTheory.WordsAsMachine.{party_as, link_spelled, head_spelled, next_low, parties_put, keeps_rule, core, party_at, rooms_of, free_spare, empties, empties_same, readies, readies_same, head_near, linked_else, own_links, linkeds, linkeds_low, Becomes, PlainAllows}
 
 abbrev room_of : Stage → ℕ
 room_of (Cleared r) = r
@@ -179,8 +179,7 @@ module _ {E : Type 0} (s : TableState E) (k : PlainHolds s) (id : ℕ) (v : View
     link_machine = link_spelled s.words old (suc r) k.cell (set s.views id link_view) (let w = wide_words in let l = inside in omega arith) (views_put link_view named)
 
     old_shared : k.chain.owner old ≡ Shared
-    old_shared = let f = subst (AtStage m.head m.next m.cell k.chain.owner k.chain.keeper k.chain.rooms past id
-        (name v)) waits (k.meets.fits id (party v) here) in k.meets.shared f.at old f.old_at
+    old_shared = let f = party_as s k id v at named waits in k.meets.shared f.at old f.old_at
 
     link_kept : Becomes s k v link_view record { words = words_link; homes = s.homes; views = set s.views id link_view } × Sees v (Event.Link (name v) ∷ []) link_view
     link_kept = keeps_rule s k id (Event.Link (name v) ∷ []) v link_view words_link s.homes k.cell k.chain (link_next m id (party v) old r Rest)

@@ -21,7 +21,7 @@ use Rattle.cordyceps_queue.proofs.CoreTheory.Basics.{some_inj, put_again, zero_s
 use Rattle.cordyceps_queue.proofs.CoreTheory.DequeueSteps.{free_right, take_keeps, chain_after_take, give_keeps, chain_after_give}
 use Rattle.cordyceps_queue.proofs.CoreTheory.HolderSteps.{keeping, tell_keeps}
 use Rattle.cordyceps_queue.proofs.CoreTheory.ProducerSteps.{busy_keeps}
-use Rattle.cordyceps_queue.proofs.SharedTheory.WordsAsMachine.{quiet, chain_near, Becomes, PlainAllows}
+use Rattle.cordyceps_queue.proofs.SharedTheory.WordsAsMachine.{party_as, quiet, chain_near, Becomes, PlainAllows}
 use Rattle.cordyceps_queue.proofs.SharedTheory.ReturnKeeps.{returning, moved_on, handed_on}
 use Rattle.cordyceps_queue.proofs.SharedTheory.DequeueKeeps.{n, out_events, there, sees, rights, stood, same_rooms, Comes, ReadsTail, reading}
 
@@ -110,7 +110,7 @@ module _ {E : Type 0} (s : TableState E) (k : PlainHolds s) (id : ℕ) (v : View
 
   module _ (t : ℕ) (at_second : v.stage ≡ Second t) where
     knows_tail : Real k.chain.keeper k.chain.rooms gone_by id (name v) t
-    knows_tail = subst (AtStage core.head core.next core.cell k.chain.owner k.chain.keeper k.chain.rooms gone_by id (name v)) at_second (k.meets.fits id (party v) is_there)
+    knows_tail = party_as s k id v at named at_second
 
     reads_bare : (i : ℕ) → i ≡ LINKS + t → (slots : ℕ) → length s.homes ≡ slots → Comes s k id v at named bare i (get_or s.words i 0) (ReadsTail s k id v at named bare [] slots t)
     reads_bare i is slots deep = reading s k id v at named bare [] tt k.meets t i (ap tail_of at_second) (λ a b o. subst (λ l. Owes l a b) at_second o) knows_tail.is_real knows_tail.looked is slots deep (get_or s.words i 0) refl

@@ -38,7 +38,7 @@ use Rattle.cordyceps_queue.proofs.CoreTheory.NewMachines.{new_owner, stub_alone,
 use Rattle.cordyceps_queue.proofs.CoreTheory.ProducerSteps.{spare_pooled}
 use Rattle.cordyceps_queue.proofs.SharedTheory.SeatNames.{party_was, name_known, names_differ}
 use Rattle.cordyceps_queue.proofs.CoreTheory.SplitParties.{deal, deal_else, deal_here, deal_fixed, deal_others, deal_kept, deal_given, deal_both, Regroups, regroups_keep}
-use Rattle.cordyceps_queue.proofs.SharedTheory.WordsAsMachine.{party_spelled, core, party_at, rooms_of, parties_put, pool_stays, count_same, spent_else, Stays}
+use Rattle.cordyceps_queue.proofs.SharedTheory.WordsAsMachine.{party_as, party_spelled, core, party_at, rooms_of, parties_put, pool_stays, count_same, spent_else, Stays}
 
 pub at_down_from : (n i r : ℕ) → ItemAt (down_from n) i r → (i + r ≡ n) × (1 ≤ r)
 at_down_from zero i r a = absurd a
@@ -182,7 +182,7 @@ module _ {E : Type 0} (s : TableState E) (k : PlainHolds s) (id n : ℕ) (v : Vi
   cut_groups = record {
     known = λ q. name_known q (name v);
     settled = λ q e. subst (λ x. IsSettled x (reverse (events k.history))) (sym e)
-        (subst (AtStage (core s k).head (core s k).next k.cell k.chain.owner k.chain.keeper k.chain.rooms (reverse (events k.history)) id (name v)) rest (k.meets.fits id (party v) (party_at s k id v at named)));
+        (party_as s k id v at named rest);
     fixed = deal_fixed k.chain.owner id (Spare far) (take n v.free) taken;
     stays = λ i p e. elim (ℕ_discrete i id) [
       | yes same ↦ let is = was_here p (ap (core s k).party (sym same) ∙ e) in inr (ap (λ (x : AbstractParty Name). x.name) (sym is), ap (λ (x : AbstractParty Name). x.stage) (sym is) ∙ rest)
@@ -292,7 +292,7 @@ module _ {E : Type 0} (s : TableState E) (k : PlainHolds s) (id other : ℕ) (v 
 
   -- a party at rest has settled
   rest_settled : (i : ℕ) (u : View E) → get_elem? s.views i ≡ some u → u.known.share ≢ [] → u.stage ≡ Rest → IsSettled (name u) past
-  rest_settled i u e some_name idle = subst (AtStage (core s k).head (core s k).next k.cell k.chain.owner k.chain.keeper k.chain.rooms past i (name u)) idle (k.meets.fits i (party u) (party_at s k i u e some_name))
+  rest_settled i u e some_name idle = party_as s k i u e some_name idle
 
   join_groups : Regroups (core s k) k.chain past (λ j. party_of (get_elem? joint j)) owner_join Gone_join
   join_groups = record {

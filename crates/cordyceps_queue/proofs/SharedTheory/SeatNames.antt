@@ -28,7 +28,7 @@ use Rattle.cordyceps_queue.proofs.HistoryEnds.{links_by-append, swaps_by-append,
 use Rattle.cordyceps_queue.proofs.Legality.{told_legal, front_legal, counts, holder_of}
 use Rattle.cordyceps_queue.proofs.PartyOrder.{takes_append, frees_append}
 use Rattle.cordyceps_queue.proofs.SharedTheory.OwnNames.{links_other, swaps_other, takes_other, frees_other, even_frees, not_holder}
-use Rattle.cordyceps_queue.proofs.SharedTheory.WordsAsMachine.{core, party_at, rooms_of}
+use Rattle.cordyceps_queue.proofs.SharedTheory.WordsAsMachine.{party_as, core, party_at, rooms_of}
 use Rattle.cordyceps_shared.proofs.Telling.{at_length, first_clear}
 use Rattle.cordyceps_shared.proofs.Tracing.{foreign_counts}
 
@@ -108,7 +108,7 @@ module _ {E : Type 0} (s : TableState E) (k : PlainHolds s) (id : ℕ) (v : View
   unfolding past
   settled q of = elim (name_known q (name v)) [
     | yes e ↦ subst (λ x. IsSettled x (reverse (events k.history))) (sym e)
-        (subst (AtStage (core s k).head (core s k).next k.cell k.chain.owner k.chain.keeper k.chain.rooms (reverse (events k.history)) id (name v)) rest (k.meets.fits id (party v) (party_at s k id v at named)))
+        (party_as s k id v at named rest)
     | no not ↦ k.meets.strangers q (λ j p e same. elim (ℕ_discrete j id) [
       | yes here ↦ not (sym same ∙ sym (ap (λ (z : AbstractParty Name). z.name) (mine p (subst (λ i. (core s k).party i ≡ Some p) here e))))
       | no ne ↦ not_another j p q ne e same of

@@ -26,7 +26,7 @@ use Rattle.cordyceps_queue.proofs.CoreTheory.DequeueSteps.{pass_keeps, chain_aft
 use Rattle.cordyceps_queue.proofs.CoreTheory.HolderSteps.{was_now, keeping, stage_keeps, tell_keeps, open_blocks, none_held, stub_out}
 use Rattle.cordyceps_queue.proofs.CoreTheory.ChainShrinks.{real_stub, second}
 use Rattle.cordyceps_queue.proofs.CoreTheory.StubSteps.{clear_stub_keeps, swap_stub_keeps, chain_after_stub, link_stub_keeps}
-use Rattle.cordyceps_queue.proofs.SharedTheory.WordsAsMachine.{quiet, link_spelled, head_spelled, next_low, none_cleared, keeps_rule, empties_same, readies_same, chain_near, head_near, linkeds, linkeds_low, own_links, Among, Becomes, PlainAllows}
+use Rattle.cordyceps_queue.proofs.SharedTheory.WordsAsMachine.{party_as, quiet, link_spelled, head_spelled, next_low, none_cleared, keeps_rule, empties_same, readies_same, chain_near, head_near, linkeds, linkeds_low, own_links, Among, Becomes, PlainAllows}
 use Rattle.cordyceps_queue.proofs.CoreTheory.ProducerSteps.{spare_shared, shared_pooled}
 use Rattle.cordyceps_queue.proofs.SharedTheory.EnqueueKeeps.{views_put, wide_words}
 use Rattle.cordyceps_queue.proofs.SharedTheory.ReturnKeeps.{returning, moved_on, handed_on}
@@ -45,9 +45,6 @@ module _ {E : Type 0} (s : TableState E) (k : PlainHolds s) (id : ℕ) (v : View
 
   abbrev view : List (Event Name E) → Stage → View E
   view es stage = sees s k id v at named bare es v.free v.end v.back v.to stage
-
-  fits_at : (stage : Stage) → v.stage ≡ stage → AtStage core.head core.next core.cell k.chain.owner k.chain.keeper k.chain.rooms past id (name v) stage
-  fits_at stage e = subst (AtStage core.head core.next core.cell k.chain.owner k.chain.keeper k.chain.rooms past id (name v)) e (k.meets.fits id (party v) is_there)
 
   -- back to Holding, with nothing handed out
   fails : (t i : ℕ) → tail_of v.stage ≡ Some t → ((a b : ℕ) → Owes v.stage a b → ⊥) → WasBlockedReversed (name v) past
@@ -129,7 +126,7 @@ module _ {E : Type 0} (s : TableState E) (k : PlainHolds s) (id : ℕ) (v : View
         )
     heads_stub_bare slots (no ne) =
         let c = fails 0 HEAD (ap tail_of at_null) (λ a b o. subst (λ l. Owes l a b) at_null o)
-        ((fits_at StubNull at_null).blocked ne) in
+        ((party_as s k id v at named at_null).blocked ne) in
         (c.0, λ _. ((λ e. absurd (ne e)), λ _. c.1))
 
   module _ (t : ℕ) (at_null : v.stage ≡ Null t) where
@@ -141,7 +138,7 @@ module _ {E : Type 0} (s : TableState E) (k : PlainHolds s) (id : ℕ) (v : View
     heads_bare : Dec (word.head s.words ≡ t) → Comes s k id v at named bare HEAD (word.head s.words) HeadTells
     unfolding HeadTells
     heads_bare (yes e) =
-        let f = fits_at (Null t) at_null in
+        let f = party_as s k id v at named at_null in
         let met = stage_keeps core k.chain past k.meets id (party v) is_there t (ap tail_of at_null) (PutClear t) refl (λ a b o. absurd (subst (λ l. Owes l a b) at_null o))
         (f.0, stub_out core k.chain past k.meets id (party v) is_there t (ap tail_of at_null) f.0.is_real e) in
         let r = reads s k id v at named bare [] tt (PutClear t) k.chain met (same_rooms s k id v at named bare)
@@ -150,7 +147,7 @@ module _ {E : Type 0} (s : TableState E) (k : PlainHolds s) (id : ℕ) (v : View
           ((λ _. stood s k id v at named bare [] (PutClear t) r.1), λ ne. absurd (ne e)),
         )
     heads_bare (no ne) =
-        let c = fails t HEAD (ap tail_of at_null) (λ a b o. subst (λ l. Owes l a b) at_null o) ((fits_at (Null t) at_null).1 ne) in
+        let c = fails t HEAD (ap tail_of at_null) (λ a b o. subst (λ l. Owes l a b) at_null o) ((party_as s k id v at named at_null).1 ne) in
         (c.0, ((λ e. absurd (ne e)), λ _. c.1))
 
   -- ---- the stub is put in
@@ -194,7 +191,7 @@ module _ {E : Type 0} (s : TableState E) (k : PlainHolds s) (id : ℕ) (v : View
   links_stub_bare : (t old : ℕ) → v.stage ≡ PutLink t old → old < length s.homes → Comes s k id v at named bare
       (LINKS + old) 1 (λ _. MovesTo [] (PutRead t) (v, []))
   links_stub_bare t old l inside =
-      let f = fits_at (PutLink t old) l in
+      let f = party_as s k id v at named l in
       let shared = k.meets.shared f.at old f.old_at in
       let r = stores (PutRead t) k.chain (link_next core id (party v) old 0 (PutRead t)) (LINKS + old) 1 (linkeds s k id old 1 (view [] (PutRead t)) (own_links s k id old 1 v at named (λ mine. spare_shared mine shared)) (λ j ne mine. spare_shared mine shared)) (link_spelled s.words old 1 k.cell (set s.views id (view [] (PutRead t))) (let w = wide_words s k id v at named in let st = inside in omega arith) (views_put s k id v at named (view [] (PutRead t)) named)) (link_stub_keeps core k.chain past k.meets id (party v) is_there t old l) k.full (λ q is. cc) (λ j x jx. inr (j, jx))
       (ap cleared_count l) refl (λ x pooled. pooled)
@@ -213,14 +210,14 @@ module _ {E : Type 0} (s : TableState E) (k : PlainHolds s) (id : ℕ) (v : View
     rereads_bare : (slots : ℕ) → length s.homes ≡ slots → (i : ℕ) → i ≡ LINKS + t → (x : ℕ) → get_or s.words i 0 ≡ x → Comes s k id v at named bare i (get_or s.words i 0) (RereadTells slots)
     unfolding RereadTells
     rereads_bare slots deep i is zero e =
-        let f = fits_at (PutRead t) at_put in
+        let f = party_as s k id v at named at_put in
         let nothing : (a b : ℕ) → Owes v.stage a b → ⊥ = λ a b o. subst (λ l. Owes l a b) at_put o in
         let sum : LINKS + t ≡ i = omega arith in
         let open_link : core.next t ≡ None = ap link_of (ap (λ q. get_or s.words q 0) sum ∙ e) in
         let c = fails t i (ap tail_of at_put) nothing (was_now (name v) past f.0.looked (open_blocks core k.chain past k.meets id (party v) is_there t (ap tail_of at_put) nothing open_link f.1)) in
         (c.0, ((λ _. c.1), λ r g. absurd (zero_suc (sym e ∙ g))))
     rereads_bare slots deep i is (suc r) e =
-        let f = fits_at (PutRead t) at_put in
+        let f = party_as s k id v at named at_put in
         let sum : LINKS + t ≡ i = omega arith in
         let linked : core.next t ≡ Some r = ap link_of (ap (λ q. get_or s.words q 0) sum ∙ e) in
         let c = hands s k id v at named bare [] tt k.meets t r i (ap tail_of at_put)

@@ -24,7 +24,7 @@ use Rattle.cordyceps_queue.proofs.CoreTheory.Basics.{some_inj, none_some, some_n
 use Rattle.cordyceps_queue.proofs.CoreTheory.DequeueSteps.{free_right}
 use Rattle.cordyceps_queue.proofs.CoreTheory.HolderSteps.{at_some}
 use Rattle.cordyceps_queue.proofs.CoreTheory.ProducerSteps.{spare_shared, ready_shared, ready_spare}
-use Rattle.cordyceps_queue.proofs.SharedTheory.WordsAsMachine.{core, party_at, Among}
+use Rattle.cordyceps_queue.proofs.SharedTheory.WordsAsMachine.{party_as, core, party_at, Among}
 
 -- the link of a free room is as it was, and so is the plain link
 pub free_link_as : {link next link' next' : ℕ} → link' ≡ link → next' ≡ next → IsFreeLink link next → IsFreeLink link' next'
@@ -105,14 +105,11 @@ module _ {E : Type 0} (s : TableState E) (k : PlainHolds s) where
   abbrev past : List (Event Name E)
   past = reverse (events k.history)
 
-  pub at_stage_of : (j : ℕ) (u : View E) → get_elem? s.views j ≡ some u → u.known.share ≢ [] → AtStage (core s k).head (core s k).next k.cell k.chain.owner k.chain.keeper k.chain.rooms (reverse (events k.history)) j (name u) u.stage
-  at_stage_of j u at named = k.meets.fits j (party u) (party_at s k j u at named)
-
   pub place_of : (j : ℕ) (u : View E) (x : ℕ) → get_elem? s.views j ≡ some u → u.known.share ≢ [] → Knows u.stage x → Place k.chain.rooms k.chain.owner k.chain.keeper j x
-  place_of j u x at named o = known_place (core s k).head (core s k).next k.cell k.chain.owner k.chain.keeper k.chain.rooms (reverse (events k.history)) j (name u) u.stage x (at_stage_of j u at named) o
+  place_of j u x at named o = known_place (core s k).head (core s k).next k.cell k.chain.owner k.chain.keeper k.chain.rooms (reverse (events k.history)) j (name u) u.stage x (party_as s k j u at named refl) o
 
   pub begun_of : (j : ℕ) (u : View E) (x : ℕ) → get_elem? s.views j ≡ some u → u.known.share ≢ [] → Begun u.stage x → ((k.chain.owner x ≡ Ready j) ⊎ ((x ≡ 0) × (k.chain.keeper ≡ Some j) × IsOut k.chain.rooms)) × ((core s k).next x ≡ None)
-  begun_of j u x at named o = begun_place (core s k).head (core s k).next k.cell k.chain.owner k.chain.keeper k.chain.rooms (reverse (events k.history)) j (name u) u.stage x (at_stage_of j u at named) o
+  begun_of j u x at named o = begun_place (core s k).head (core s k).next k.cell k.chain.owner k.chain.keeper k.chain.rooms (reverse (events k.history)) j (name u) u.stage x (party_as s k j u at named refl) o
 
   -- no free room is begun
   pub begun_not_spare : (j l : ℕ) (u : View E) (x : ℕ) → get_elem? s.views j ≡ some u → u.known.share ≢ [] → Begun u.stage x → k.chain.owner x ≡ Spare l → ⊥

@@ -27,12 +27,12 @@ use Rattle.cordyceps_queue.specs.Shared.Rule.{TableState, RuleHolds}
 use Rattle.cordyceps_queue.specs.Shared.View.{View, name, bit_of, free_chain, back_chain}
 use Rattle.cordyceps_queue.proofs.CoreTheory.Basics.{some_inj, put_same, put_other}
 use Rattle.cordyceps_queue.proofs.CoreTheory.ProducerSteps.{spare_shared, ready_shared, shared_pooled}
-use Rattle.cordyceps_queue.proofs.SharedTheory.WordsAsMachine.{next_low, core, rooms_of, Becomes}
+use Rattle.cordyceps_queue.proofs.SharedTheory.WordsAsMachine.{party_as, next_low, core, rooms_of, Becomes}
 use Rattle.cordyceps_queue.proofs.SharedTheory.EnqueueKeeps.{swaps, links_on}
 use Rattle.cordyceps_queue.proofs.SharedTheory.HolderAllowed.{takes_right, gives_right}
 use Rattle.cordyceps_queue.proofs.SharedTheory.StubKeeps.{clears_stub, swaps_stub, links_stub}
 use Rattle.cordyceps_queue.proofs.SharedTheory.UsesKeep.{plain_table, with_use, begun_mine, now_old, mine, bits_kept, use_after, calm_at, calm_moves}
-use Rattle.cordyceps_queue.proofs.SharedTheory.UsesSpell.{at_stage_of, place_of, begun_of, begun_not_in, spare_not_in, right_in, next_in, null_word, spells_begun, spells_low, use_linked, spells_linked, pool_word, pool_links, spelt_right}
+use Rattle.cordyceps_queue.proofs.SharedTheory.UsesSpell.{place_of, begun_of, begun_not_in, spare_not_in, right_in, next_in, null_word, spells_begun, spells_low, use_linked, spells_linked, pool_word, pool_links, spelt_right}
 
 -- each number is a link of some use
 any_link : (n : ℕ) → IsFreeLink n (n / 4)
@@ -222,7 +222,7 @@ module _ {E : Type 0} where
       let b = links_on slots id i (suc r) me r old is (omega arith) waits near named q k.plain deep at in
       let w = b.0.view in
       let told = b.1 r old waits in
-      let f = subst (AtStage (core q k.plain).head (core q k.plain).next k.plain.cell k.plain.chain.owner k.plain.chain.keeper k.plain.chain.rooms (reverse (events k.plain.history)) id (name me.0)) waits (at_stage_of q k.plain id me.0 at named) in
+      let f = party_as q k.plain id me.0 at named waits in
       let homes = homes_after s.homes me.1 b.0.act in
       let kept : RuleHolds record { words = set s.words (LINKS + old) n; homes = homes; views = set s.views id w } =
       link_kept s k id me.0 at named r old n f.at w homes is_n (subst (λ l. Knows l r) (sym waits) (inl refl))
@@ -316,7 +316,7 @@ module _ {E : Type 0} (slots id : ℕ) (me : SeatState E) (hand : me.1 ≡ carry
       let b = links_stub slots id me hand near named may t old i is inside waits q k.plain deep at in
       let w = b.0.view in
       let told = b.1 t old waits in
-      let f = subst (AtStage (core q k.plain).head (core q k.plain).next k.plain.cell k.plain.chain.owner k.plain.chain.keeper k.plain.chain.rooms (reverse (events k.plain.history)) id (name me.0)) waits (at_stage_of q k.plain id me.0 at named) in
+      let f = party_as q k.plain id me.0 at named waits in
       let homes = homes_after s.homes me.1 b.0.act in
       let z = stepped q i 1 id me.1 w b.0.act in
       let kept : RuleHolds record { words = set s.words (LINKS + old) n; homes = homes; views = set s.views id w } =
@@ -345,7 +345,7 @@ module _ {E : Type 0} (slots id : ℕ) (me : SeatState E) (hand : me.1 ≡ carry
       let l = any_link found in
       let c = 1 - l.bit in
       let old = now_old found (found / 4) l.to l.bit l.is in
-      let f = subst (AtStage (core q p).head (core q p).next p.cell p.chain.owner p.chain.keeper p.chain.rooms (reverse (events p.history)) id (name me.0)) waits (at_stage_of q p id me.0 at named) in
+      let f = party_as q p id me.0 at named waits in
       let kept : p.chain.keeper ≡ Some id = f.0.keeps.kept in
       let out : (j : ℕ) → ItemAt p.chain.rooms j 0 → ⊥ = f.1 in
       let b = clears_stub slots id me hand near named may t waits q (with_use q p 0 c) deep at in

@@ -32,6 +32,7 @@ use Rattle.cordyceps_shared.specs.Slots.{Homes, EmptyAtHome}
 use Rattle.cordyceps_queue.specs.Shared.Rule.{TableState, link_of, party, party_if, party_of, machine_of, FullAtHome, AllEmptyAtHome, AllReady, AreLinked, IsPool, PlainHolds}
 use Rattle.cordyceps_queue.specs.Shared.View.{View, knows, name, cleared_count, room_count}
 use Rattle.cordyceps_queue.specs.Cores.Abstract.{AbstractParty, AbstractMachine, update}
+use Rattle.cordyceps_queue.proofs.CoreTheory.StepLeaves.{fits_as}
 use Rattle.cordyceps_queue.proofs.CoreTheory.Basics.{put_same, put_other, at_more}
 
 pub at_after : {A : Type 0} (xs ys : List A) (i : ℕ) (a : A) → ItemAt ys i a → ItemAt (xs ++ ys) (length xs + i) a
@@ -227,6 +228,9 @@ module _ {E : Type 0} where
     pub party_at : (j : ℕ) (u : View E) → get_elem? s.views j ≡ some u → u.known.share ≢ [] → core.party j ≡ Some (party u)
     party_at j u at some_name = ap party_of at ∙ named_party u.known.share (party u) some_name
 
+    pub party_as : (j : ℕ) (u : View E) → get_elem? s.views j ≡ some u → u.known.share ≢ [] → {stage : Stage} → u.stage ≡ stage → AtStage core.head core.next core.cell k.chain.owner k.chain.keeper k.chain.rooms (reverse (events k.history)) j (name u) stage
+    party_as j u at some_name is = fits_as core k.chain (reverse (events k.history)) k.meets j (party u) (party_at j u at some_name) is
+
     pub rooms_of : (j : ℕ) (u : View E) → get_elem? s.views j ≡ some u → u.known.share ≢ [] → OwnsRooms k.chain.owner j (u.free ++ u.back)
     rooms_of j u at some_name = k.meets.rooms j (party u) (party_at j u at some_name)
 
@@ -284,10 +288,7 @@ module _ {E : Type 0} where
 
     -- the cleared room of another party, or of this one before the step, is that party's alone
     ready_owner : (j : ℕ) (u : View E) (r : ℕ) → get_elem? s.views j ≡ some u → u.known.share ≢ [] → u.stage ≡ Cleared r → k.chain.owner r ≡ Ready j
-    ready_owner j u r at some_name is =
-        (subst (AtStage core.head core.next core.cell k.chain.owner k.chain.keeper k.chain.rooms
-        (reverse (events k.history)) j (party u).name) is
-        (k.meets.fits j (party u) (party_at j u at some_name))).ready
+    ready_owner j u r at some_name is = (party_as j u at some_name is).ready
 
     -- what rooms have changes in one room, which no other party has cleared, or in none
     pub readies : (id r : ℕ) (y : Option E) (w : View E) → ((q : ℕ) → w.stage ≡ Cleared q → update k.cell r y q ≡ w.item) → ((j : ℕ) → j ≢ id → k.chain.owner r ≡ Ready j → ⊥) → AllReady (update k.cell r y) (set s.views id w)
