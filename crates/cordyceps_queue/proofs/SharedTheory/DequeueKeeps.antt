@@ -232,6 +232,13 @@ module _ {E : Type 0} (s : TableState E) (k : PlainHolds s) (id : ℕ) (v : View
   Comes i new then =
       (c : PlainStep s k id i new (v, [])) × then (get_or s.words i 0) (c.view, carried_after [] c.act)
 
+  -- a load after which the party is at this stage, and that changes nothing else
+  abbrev pub loads_to : (es : List (Event Name E)) → Under actor (name v) es → (stage : Stage) → Meets (set_stage n id (party v) stage) k.chain (reverse es ++ out_events) → ((q : ℕ) → stage ≡ Cleared q → ⊥) → cleared_count v.stage ≡ 0 → (i : ℕ)
+      → Comes i (get_or s.words i 0) (λ _. MovesTo es stage (v, []))
+  loads_to es under stage M away uncleared i =
+      let r = reads es under stage k.chain M same_rooms away uncleared refl (λ x pooled. pooled) i in
+      (quiet (sees es v.free v.end v.back v.to stage) r.0, stood es stage r.1)
+
   -- with the tail's link a room: the element is handed out
   pub hands : (before : List (Event Name E)) (under : Under actor (name v) before) (M : Meets n k.chain (reverse before ++ out_events)) (t r i : ℕ) (has : tail_of v.stage ≡ Some t) (nothing : (a b : ℕ) → Owes v.stage a b → ⊥) (is_real : t ≢ 0) (linked : n.next t ≡ Some r) (slots : ℕ) → length s.homes ≡ slots
       → Comes i (get_or s.words i 0) (λ _. HandsOut before slots t r (v, []))
@@ -272,11 +279,7 @@ module _ {E : Type 0} (s : TableState E) (k : PlainHolds s) (id : ℕ) (v : View
         record { keeps = keeping n k.chain h M id (party v) there t has; is_real = is_real; looked = looked },
         (λ far. was_now (name v) h looked (open_blocks n k.chain h M id (party v) there t has nothing open_link far)),
       ) in
-      let r = reads before under (Null t) k.chain met same_rooms (λ q is. cc)
-      (none_cleared v.stage (λ q e. none_some (sym (ap tail_of e) ∙ has))) refl (λ x pooled. pooled) i in (
-        quiet (sees before v.free v.end v.back v.to (Null t)) r.0,
-        stood before (Null t) r.1,
-      )
+      loads_to before under (Null t) met (λ q is. cc) (none_cleared v.stage (λ q e. none_some (sym (ap tail_of e) ∙ has))) i
 
   -- the read of a tail's link that is no stub
   abbrev pub ReadsTail : List (Event Name E) → ℕ → ℕ → ℕ → SeatState E → Type 0

@@ -30,7 +30,7 @@ use Rattle.cordyceps_queue.proofs.SharedTheory.WordsAsMachine.{party_as, quiet, 
 use Rattle.cordyceps_queue.proofs.CoreTheory.ProducerSteps.{spare_shared, shared_pooled}
 use Rattle.cordyceps_queue.proofs.SharedTheory.EnqueueKeeps.{views_put, wide_words}
 use Rattle.cordyceps_queue.proofs.SharedTheory.ReturnKeeps.{returning, moved_on, handed_on}
-use Rattle.cordyceps_queue.proofs.SharedTheory.DequeueKeeps.{n, out_events, there, sees, reads, stood, blocked, same_rooms, less_rooms, leaves_rooms, hands, Comes}
+use Rattle.cordyceps_queue.proofs.SharedTheory.DequeueKeeps.{loads_to, n, out_events, there, sees, reads, stood, blocked, same_rooms, less_rooms, leaves_rooms, hands, Comes}
 use Rattle.cordyceps_queue.proofs.SharedTheory.HolderAllowed.{looked_on}
 
 module _ {E : Type 0} (s : TableState E) (k : PlainHolds s) (id : ℕ) (v : View E) (at : get_elem? s.views id ≡ some v) (named : v.known.share ≢ []) (bare : v.back ≡ []) where
@@ -51,12 +51,8 @@ module _ {E : Type 0} (s : TableState E) (k : PlainHolds s) (id : ℕ) (v : View
       → Comes s k id v at named bare i (get_or s.words i 0) (λ _ z. MovesTo [] (Holding t) (v, []) z × Blocked z.0)
   fails t i has nothing was =
       let met = stage_keeps core k.chain past k.meets id (party v) is_there t has (Holding t) refl (λ a b o. absurd (nothing a b o)) (keeping core k.chain past k.meets id (party v) is_there t has) in
-      let r = reads s k id v at named bare [] tt (Holding t) k.chain met (same_rooms s k id v at named bare)
-      (λ q is. cc) (none_cleared v.stage (λ q e. none_some (sym (ap tail_of e) ∙ has))) refl
-      (λ x pooled. pooled) i in (
-        quiet (view [] (Holding t)) r.0,
-        (stood s k id v at named bare [] (Holding t) r.1, blocked s k id v at named bare [] (Holding t) was),
-      )
+      let c = loads_to s k id v at named bare [] tt (Holding t) met (λ q is. cc) (none_cleared v.stage (λ q e. none_some (sym (ap tail_of e) ∙ has))) i in
+      (c.0, (c.1, blocked s k id v at named bare [] (Holding t) was))
 
   -- ---- the first read, of the stub's link
   module _ (holding : v.stage ≡ Holding 0) where
@@ -84,12 +80,8 @@ module _ {E : Type 0} (s : TableState E) (k : PlainHolds s) (id : ℕ) (v : View
               in
               inl (inl refl, at_open);
         } in
-        let r = reads s k id v at named bare (look ∷ []) (refl, tt) StubNull k.chain met
-        (same_rooms s k id v at named bare) (λ q is. cc) (ap cleared_count holding) refl
-        (λ x pooled. pooled) LINKS in (
-          quiet (view (look ∷ []) StubNull) r.0,
-          λ _. ((λ _. stood s k id v at named bare (look ∷ []) StubNull r.1), λ r' f. absurd (zero_suc (sym e ∙ f))),
-        )
+        let c = loads_to s k id v at named bare (look ∷ []) (refl, tt) StubNull met (λ q is. cc) (ap cleared_count holding) LINKS in
+        (c.0, λ _. ((λ _. c.1), λ r' f. absurd (zero_suc (sym e ∙ f))))
     looks_stub_bare slots deep (suc r) e =
         let linked : core.next 0 ≡ Some r = ap link_of e in
         let met = pass_keeps core k.chain (look ∷ past) looked id (party v) is_there r holding linked (inl refl) in
@@ -118,12 +110,8 @@ module _ {E : Type 0} (s : TableState E) (k : PlainHolds s) (id : ℕ) (v : View
         let held = record (party v) { stage = Holding 0 } in
         let back : Meets (set_stage core id (party v) (Holding 0)) k.chain past = stage_keeps core k.chain past k.meets id (party v) is_there 0 has (Holding 0) refl (λ a b o. absurd (subst (λ l. Owes l a b) at_null o)) mine in
         let met = tell_keeps (set_stage core id (party v) (Holding 0)) k.chain past back id held (put_same core.party id (Some held)) 0 refl x refl (mine.held_by, none_held core k.chain past k.meets id (party v) is_there 0 has refl e) refl refl (λ q s. s) (λ q n w. w) in
-        let r = reads s k id v at named bare (x ∷ []) (refl, tt) (Holding 0) k.chain met
-        (same_rooms s k id v at named bare) (λ q is. cc) (ap cleared_count at_null) refl
-        (λ x pooled. pooled) HEAD in (
-          quiet (view (x ∷ []) (Holding 0)) r.0,
-          λ _. ((λ _. stood s k id v at named bare (x ∷ []) (Holding 0) r.1), λ ne. absurd (ne e)),
-        )
+        let c = loads_to s k id v at named bare (x ∷ []) (refl, tt) (Holding 0) met (λ q is. cc) (ap cleared_count at_null) HEAD in
+        (c.0, λ _. ((λ _. c.1), λ ne. absurd (ne e)))
     heads_stub_bare slots (no ne) =
         let c = fails 0 HEAD (ap tail_of at_null) (λ a b o. subst (λ l. Owes l a b) at_null o)
         ((party_as s k id v at named at_null).blocked ne) in
@@ -141,11 +129,8 @@ module _ {E : Type 0} (s : TableState E) (k : PlainHolds s) (id : ℕ) (v : View
         let f = party_as s k id v at named at_null in
         let met = stage_keeps core k.chain past k.meets id (party v) is_there t (ap tail_of at_null) (PutClear t) refl (λ a b o. absurd (subst (λ l. Owes l a b) at_null o))
         (f.0, stub_out core k.chain past k.meets id (party v) is_there t (ap tail_of at_null) f.0.is_real e) in
-        let r = reads s k id v at named bare [] tt (PutClear t) k.chain met (same_rooms s k id v at named bare)
-        (λ q is. cc) (ap cleared_count at_null) refl (λ x pooled. pooled) HEAD in (
-          quiet (view [] (PutClear t)) r.0,
-          ((λ _. stood s k id v at named bare [] (PutClear t) r.1), λ ne. absurd (ne e)),
-        )
+        let c = loads_to s k id v at named bare [] tt (PutClear t) met (λ q is. cc) (ap cleared_count at_null) HEAD in
+        (c.0, ((λ _. c.1), λ ne. absurd (ne e)))
     heads_bare (no ne) =
         let c = fails t HEAD (ap tail_of at_null) (λ a b o. subst (λ l. Owes l a b) at_null o) ((party_as s k id v at named at_null).1 ne) in
         (c.0, ((λ e. absurd (ne e)), λ _. c.1))
