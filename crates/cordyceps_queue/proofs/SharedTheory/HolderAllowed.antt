@@ -90,20 +90,8 @@ module _ {E : Type 0} (s : TableState E) (k : PlainHolds s) (id : ℕ) (v : View
         let r = rights s k id v at named bare (x ∷ []) (refl, tt) Rest (chain_after_give core k.chain gone_by k.meets id (party v) is_there t holding) (suc t)
         (give_keeps core k.chain gone_by k.meets id (party v) is_there t holding) (same_rooms s k id v at named bare) (λ q is. cc) (ap cleared_count holding) refl (λ x pooled. pooled) in
         let same : suc t ≡ n' = omega arith in
-        let w = sees s k id v at named bare (x ∷ []) v.free v.end v.back v.to Rest in (
-          record {
-            view = w;
-            act = keeps;
-            valid = tt;
-            becomes = subst (λ q. Becomes s k v w record {
-              words = set s.words RIGHT q;
-              homes = s.homes;
-              views = set
-                  s.views id w;
-            }) same r.0;
-          },
-          stood s k id v at named bare (x ∷ []) Rest r.1,
-        )
+        subst (λ q. Comes s k id v at named bare RIGHT q (λ _. MovesTo (x ∷ []) Rest (v, []))) same
+        (quiet (sees s k id v at named bare (x ∷ []) v.free v.end v.back v.to Rest) r.0, stood s k id v at named bare (x ∷ []) Rest r.1)
 
     looks_bare : t ≢ 0 → (i : ℕ) → i ≡ LINKS + t → (slots : ℕ) → length s.homes ≡ slots → Comes s k id v at named bare i (get_or s.words i 0) (ReadsTail s k id v at named bare (Event.Look (name v) ∷ []) slots t)
     looks_bare is_real i is slots deep = reading s k id v at named bare (Event.Look (name v) ∷ []) (refl, tt) looked_on t i has nothing is_real (inl refl) is slots deep (get_or s.words i 0) refl
@@ -114,13 +102,6 @@ module _ {E : Type 0} (s : TableState E) (k : PlainHolds s) (id : ℕ) (v : View
 
     reads_bare : (i : ℕ) → i ≡ LINKS + t → (slots : ℕ) → length s.homes ≡ slots → Comes s k id v at named bare i (get_or s.words i 0) (ReadsTail s k id v at named bare [] slots t)
     reads_bare i is slots deep = reading s k id v at named bare [] tt k.meets t i (ap tail_of at_second) (λ a b o. subst (λ l. Owes l a b) at_second o) knows_tail.is_real knows_tail.looked is slots deep (get_or s.words i 0) refl
-
--- the tail of two stages that are one
-same_tail : {p : Stage} {t u : ℕ} → p ≡ Holding t → p ≡ Holding u → t ≡ u
-same_tail a b = some_inj (ap tail_of (sym a ∙ b))
-
-same_second : {p : Stage} {t u : ℕ} → p ≡ Second t → p ≡ Second u → t ≡ u
-same_second a b = some_inj (ap tail_of (sym a ∙ b))
 
 module _ {E : Type 0} (slots id : ℕ) (me : SeatState E) (hand : me.1 ≡ carry me.0.back) (near : Near slots me.0.back) (named : me.0.known.share ≢ []) (may : MayJoin (free_chain me.0) (back_chain me.0)) where
   pub takes_right : me.0.stage ≡ Rest → PlainAllows slots id me RIGHT (λ _. 0) (play.after_take (step slots RIGHT 0 0 none) me)
@@ -149,7 +130,7 @@ module _ {E : Type 0} (slots id : ℕ) (me : SeatState E) (hand : me.1 ≡ carry
         λ u stage ne.
             let z : SeatState E = (c.0.view, carried_after [] c.0.act) in
             let t = subst (λ q. ReadsTail s k id (view_returned me.0) at named refl
-            (Event.Look (name me.0) ∷ []) slots q (get_or s.words i 0) z) (same_tail holding stage) c.1 in
+            (Event.Look (name me.0) ∷ []) slots q (get_or s.words i 0) z) (some_inj (ap tail_of (sym holding ∙ stage))) c.1 in
             ((λ e. moved_on me z (Event.Look (name me.0) ∷ []) (Null u) (t.0 e)), λ r e. handed_on me z (Event.Look (name me.0) ∷ []) slots u r (t.1 r e)),
       ))
 
@@ -161,6 +142,6 @@ module _ {E : Type 0} (slots id : ℕ) (me : SeatState E) (hand : me.1 ≡ carry
         λ u stage.
             let z : SeatState E = (c.0.view, carried_after [] c.0.act) in
             let t = subst (λ q. ReadsTail s k id (view_returned me.0) at named refl [] slots q (get_or s.words i 0) z)
-            (same_second at_second stage) c.1 in
+            (some_inj (ap tail_of (sym at_second ∙ stage))) c.1 in
             ((λ e. moved_on me z [] (Null u) (t.0 e)), λ r e. handed_on me z [] slots u r (t.1 r e)),
       ))

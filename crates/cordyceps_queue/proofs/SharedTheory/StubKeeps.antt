@@ -137,35 +137,30 @@ module _ {E : Type 0} (s : TableState E) (k : PlainHolds s) (id : ℕ) (v : View
 
   -- ---- the stub is put in
   -- a step that changes one word and no slot
-  stores : (stage : Stage) (chain : Chain) (next : AbstractMachine Name E) (i x : ℕ) → AreLinked (set s.words i x) (set s.views id (view [] stage)) → next ≡ machine_of k.cell (set s.words i x) (set s.views id (view [] stage)) → Meets next chain past → FullAtHome s.homes k.cell chain.rooms → ((q : ℕ) → stage ≡ Cleared q → ⊥) → Among (set s.words i x) k.chain.rooms chain.rooms
+  abbrev stores : (stage : Stage) (chain : Chain) (next : AbstractMachine Name E) (i x : ℕ) → AreLinked (set s.words i x) (set s.views id (view [] stage)) → next ≡ machine_of k.cell (set s.words i x) (set s.views id (view [] stage)) → Meets next chain past → FullAtHome s.homes k.cell chain.rooms → ((q : ℕ) → stage ≡ Cleared q → ⊥) → Among (set s.words i x) k.chain.rooms chain.rooms
       → cleared_count v.stage ≡ 0 → length (real chain.rooms) ≡ length (real k.chain.rooms) → ((r : ℕ) → k.chain.owner r ≡ Pooled → chain.owner r ≡ Pooled) → ((r : ℕ) → k.chain.owner r ≡ Pooled → word.next (set s.words i x) r ≡ word.next s.words r)
-      → Becomes s k v (view [] stage) record { words = set s.words i x; homes = s.homes; views = set s.views id (view [] stage) } × Sees v [] (view [] stage)
-  stores stage chain next i x linked same met full away among quiet even owners links =
-      keeps_rule s k id [] v (view [] stage) (set s.words i x) s.homes k.cell chain next at named tt refl same met (length-set s.words i x) refl full (empties_same s k id (view [] stage) (k.empty id v at named)) (readies_same s k id (view [] stage) away) linked refl among (λ j y jy. inl (j, jy)) (leaves_rooms s k id v at named bare [] stage chain (set s.words i x) away quiet even owners links)
+      → Comes s k id v at named bare i x (λ _. MovesTo [] stage (v, []))
+  stores stage chain next i x linked same met full away among uncleared even owners links =
+      let r = keeps_rule s k id [] v (view [] stage) (set s.words i x) s.homes k.cell chain next at named tt refl same met (length-set s.words i x) refl full (empties_same s k id (view [] stage) (k.empty id v at named)) (readies_same s k id (view [] stage) away) linked refl among (λ j y jy. inl (j, jy)) (leaves_rooms s k id v at named bare [] stage chain (set s.words i x) away uncleared even owners links) in
+      (quiet (view [] stage) r.0, stood s k id v at named bare [] stage r.1)
 
   clears_stub_bare : (t : ℕ) → v.stage ≡ PutClear t → Comes s k id v at named bare LINKS 0
       (λ _. MovesTo [] (PutSwap t) (v, []))
   clears_stub_bare t l =
-      let r = stores (PutSwap t) k.chain (clear_stub core id (party v) t) LINKS 0 (linkeds s k id 0 0 (view [] (PutSwap t)) (own_links s k id 0 0 v at named (λ mine. spare_shared mine k.meets.stub)) (λ j ne mine. spare_shared mine k.meets.stub)) (link_spelled s.words 0 0 k.cell (set s.views id (view [] (PutSwap t))) (let w = wide_words s k id v at named in let st = k.stub in omega arith) (views_put s k id v at named (view [] (PutSwap t)) named)) (clear_stub_keeps core k.chain past k.meets id (party v) is_there t l) k.full (λ q is. cc) (λ j x jx. inr (j, jx))
+      stores (PutSwap t) k.chain (clear_stub core id (party v) t) LINKS 0 (linkeds s k id 0 0 (view [] (PutSwap t)) (own_links s k id 0 0 v at named (λ mine. spare_shared mine k.meets.stub)) (λ j ne mine. spare_shared mine k.meets.stub)) (link_spelled s.words 0 0 k.cell (set s.views id (view [] (PutSwap t))) (let w = wide_words s k id v at named in let st = k.stub in omega arith) (views_put s k id v at named (view [] (PutSwap t)) named)) (clear_stub_keeps core k.chain past k.meets id (party v) is_there t l) k.full (λ q is. cc) (λ j x jx. inr (j, jx))
       (ap cleared_count l) refl (λ x pooled. pooled)
       (λ x pooled. next_beside_next s.words 0 x 0
-      (λ same. shared_pooled k.meets.stub (ap k.chain.owner (sym same) ∙ pooled))) in (
-        quiet (view [] (PutSwap t)) r.0,
-        stood s k id v at named bare [] (PutSwap t) r.1,
-      )
+      (λ same. shared_pooled k.meets.stub (ap k.chain.owner (sym same) ∙ pooled)))
 
   swaps_stub_bare : (t : ℕ) → v.stage ≡ PutSwap t → Comes s k id v at named bare HEAD 0
       (λ found. MovesTo [] (PutLink t found) (v, []))
   swaps_stub_bare t l =
       let old = word.head s.words in
-      let r = stores (PutLink t old) (chain_after_stub core k.chain past k.meets id (party v) is_there t l) (swap_head core id (party v) 0 (PutLink t old)) HEAD 0 (linkeds_low s k id HEAD 0 (view [] (PutLink t old)) (omega arith) (k.linked id v at named)) (head_spelled s.words 0 k.cell (set s.views id (view [] (PutLink t old))) (let w = wide_words s k id v at named in omega arith) (views_put s k id v at named (view [] (PutLink t old)) named))
+      stores (PutLink t old) (chain_after_stub core k.chain past k.meets id (party v) is_there t l) (swap_head core id (party v) 0 (PutLink t old)) HEAD 0 (linkeds_low s k id HEAD 0 (view [] (PutLink t old)) (omega arith) (k.linked id v at named)) (head_spelled s.words 0 k.cell (set s.views id (view [] (PutLink t old))) (let w = wide_words s k id v at named in omega arith) (views_put s k id v at named (view [] (PutLink t old)) named))
       (swap_stub_keeps core k.chain past k.meets id (party v) is_there t l) full (λ q is. cc) among
       (ap cleared_count l) (ap (λ (z : List ℕ). length z)
       (real_more k.chain.rooms (0 ∷ []) ∙ append-nil (real k.chain.rooms))) (λ x pooled. pooled)
-      (λ x pooled. next_low s.words HEAD 0 (omega arith) x) in (
-        quiet (view [] (PutLink t old)) r.0,
-        stood s k id v at named bare [] (PutLink t old) r.1,
-      )
+      (λ x pooled. next_low s.words HEAD 0 (omega arith) x)
     where
       among : Among (set s.words HEAD 0) k.chain.rooms (k.chain.rooms ++ 0 ∷ [])
       among i x ix = elim (at_split k.chain.rooms 0 i x ix) [ inl a ↦ inr (i, a) | inr a ↦ inl (a.1 ∙ sym (head_set s.words 0 (let w = wide_words s k id v at named in omega arith))) ]
@@ -178,13 +173,10 @@ module _ {E : Type 0} (s : TableState E) (k : PlainHolds s) (id : ℕ) (v : View
   links_stub_bare t old l inside =
       let f = party_as s k id v at named l in
       let shared = k.meets.shared f.at old f.old_at in
-      let r = stores (PutRead t) k.chain (link_next core id (party v) old 0 (PutRead t)) (LINKS + old) 1 (linkeds s k id old 1 (view [] (PutRead t)) (own_links s k id old 1 v at named (λ mine. spare_shared mine shared)) (λ j ne mine. spare_shared mine shared)) (link_spelled s.words old 1 k.cell (set s.views id (view [] (PutRead t))) (let w = wide_words s k id v at named in let st = inside in omega arith) (views_put s k id v at named (view [] (PutRead t)) named)) (link_stub_keeps core k.chain past k.meets id (party v) is_there t old l) k.full (λ q is. cc) (λ j x jx. inr (j, jx))
+      stores (PutRead t) k.chain (link_next core id (party v) old 0 (PutRead t)) (LINKS + old) 1 (linkeds s k id old 1 (view [] (PutRead t)) (own_links s k id old 1 v at named (λ mine. spare_shared mine shared)) (λ j ne mine. spare_shared mine shared)) (link_spelled s.words old 1 k.cell (set s.views id (view [] (PutRead t))) (let w = wide_words s k id v at named in let st = inside in omega arith) (views_put s k id v at named (view [] (PutRead t)) named)) (link_stub_keeps core k.chain past k.meets id (party v) is_there t old l) k.full (λ q is. cc) (λ j x jx. inr (j, jx))
       (ap cleared_count l) refl (λ x pooled. pooled)
       (λ x pooled. next_beside_next s.words old x 1
-      (λ same. shared_pooled shared (ap k.chain.owner (sym same) ∙ pooled))) in (
-        quiet (view [] (PutRead t)) r.0,
-        stood s k id v at named bare [] (PutRead t) r.1,
-      )
+      (λ same. shared_pooled shared (ap k.chain.owner (sym same) ∙ pooled)))
 
   -- the read after it
   module _ (t : ℕ) (at_put : v.stage ≡ PutRead t) where
