@@ -43,15 +43,12 @@ module _ (owner : ℕ → Owner) (k : ℕ) (free : List ℕ) (R : OwnsRooms owne
   pub deal_kept : (to : Owner) → OwnsRooms (deal to (take n free) owner) k (drop n free)
   deal_kept to = record {
     own = λ i r a.
-        let t = at_drop n free i r a in
-        let far = t.2 in
-        deal_else to (take n free) owner r (λ x b. let u = at_take n free x r b in let near = u.1 in let same = R.once t.0 x r t.1 u.0 in absurd (omega arith)) ∙ R.own t.0 r t.1;
+        let (at, here, far) = at_drop n free i r a in
+        deal_else to (take n free) owner r (λ x b. let u = at_take n free x r b in let near = u.1 in let same = R.once at x r here u.0 in absurd (omega arith)) ∙ R.own at r here;
     once = λ i b r x y.
-        let t = at_drop n free i r x in
-        let u = at_drop n free b r y in
-        let e = t.2 in
-        let f = u.2 in
-        let same = R.once t.0 u.0 r t.1 u.1 in
+        let (at, here, e) = at_drop n free i r x in
+        let (at', here', f) = at_drop n free b r y in
+        let same = R.once at at' r here here' in
         omega arith;
   }
 

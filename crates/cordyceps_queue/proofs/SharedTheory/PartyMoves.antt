@@ -105,7 +105,8 @@ module _ {E A : Type 0} (f : E → A) where
   -- ---- a call that waits: tries that moved nothing, and the last
   pub moves_at_last : (Fails Ends : PartyOf E → PartyOf E → Type 0) (s g : List A) → ((u w : PartyOf E) → Fails u w → Moves f [] [] u w)
       → ((u w : PartyOf E) → Ends u w → Moves f s g u w) → (u w : PartyOf E) → AtLast Fails Ends u w → Moves f s g u w
-  moves_at_last Fails Ends s g fails ends u w a = moves_then (put_by f) (got_by f) [] [] s g u a.1 w (retried u a.0 a.1 a.2) (ends a.1 w a.3)
+  moves_at_last Fails Ends s g fails ends u w a =
+      let (tries, v, failed, last) = a in moves_then (put_by f) (got_by f) [] [] s g u v w (retried u tries v failed) (ends v w last)
     where
       retried : (u : PartyOf E) (vs : List (PartyOf E)) (w : PartyOf E) → Retries Fails u vs w → Moves f [] [] u w
       retried u [] w r = subst (λ z. Moves f [] [] u z) r (moves_none (put_by f) (got_by f) u)
