@@ -14,18 +14,19 @@ module _ {P E : Type 0} (same : Discrete P) where
   -- `h` has the oldest event first
   pub told_blocked : (h : List (Event P E)) → past.IsLegalReversed (reverse h) → past.IsBlockedReversed (reverse h) → told.IsBlocked same h
   told_blocked h legal b =
-      let S = stood same (reverse h) legal b.0 b.1 b.3 in
-      let came : length (told.came (reverse S.before)) ≡ length (told.went h) + b.1 = ap length (came_of (reverse S.before) ∙ ap past.came_reversed (reverse-reverse S.before)) ∙ S.there ∙ ap (λ l. length l + b.1) (sym (went_of h)) in
+      let (q, n, near, pending) = b in
+      let S = stood same (reverse h) legal q n pending in
+      let came : length (told.came (reverse S.before)) ≡ length (told.went h) + n = ap length (came_of (reverse S.before) ∙ ap past.came_reversed (reverse-reverse S.before)) ∙ S.there ∙ ap (λ l. length l + n) (sym (went_of h)) in
       record {
-        by = b.0;
-        pending = ap suc (sym (links_by-reverse same b.0 h)) ∙ (counts same (reverse h) legal b.0).1 (open_from (reverse h) b.0 b.1 b.3) ∙ swaps_by-reverse same b.0 h;
+        by = q;
+        pending = ap suc (sym (links_by-reverse same q h)) ∙ (counts same (reverse h) legal q).1 (open_from (reverse h) q n pending) ∙ swaps_by-reverse same q h;
         past = reverse S.before;
         element = S.element;
         later = reverse S.later;
-        is = sym (reverse-reverse h) ∙ turned_at (reverse h) S.later S.before (Swap b.0 S.element) S.is;
-        last = swaps_by-reverse same b.0 S.later ∙ S.last;
+        is = sym (reverse-reverse h) ∙ turned_at (reverse h) S.later S.before (Swap q S.element) S.is;
+        last = swaps_by-reverse same q S.later ∙ S.last;
         held_there = omega (arith, came);
-        near = let near = b.2 in omega (arith, came);
+        near = omega (arith, came);
       }
 
   pub past_blocked : (h : List (Event P E)) → past.IsLegalReversed (reverse h) → told.IsBlocked same h → past.IsBlockedReversed (reverse h)

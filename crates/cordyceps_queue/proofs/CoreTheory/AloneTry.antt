@@ -209,7 +209,8 @@ module _ {E : Type 0} where
     ends_later : (n : ℕ) → ((l : Stage) → slice_get out.0.parties p ≡ Some l → IsTry l → steps_left l ≤ n → CoreMeets (h ++ so_far p l) out.0 → Ended h p (tries p n out.0)) →
         (a : QueueAnswer E) → out.1 ≡ Ok a → Stands p stage a out.0 → CoreMeets (h ++ end_events p a) out.0 → Says (h ++ so_far p stage) p a → steps_left stage ≤ suc n → Ended h p (goes_on (tries p n) out.0 out.1)
     ends_later n rest answer.Done is s met says le =
-        subst (λ r. Ended h p (goes_on (tries p n) out.0 r)) (sym is) (rest s.0 s.1 (try_of s.0 s.3) (omega (arith, s.2)) (subst (λ l. CoreMeets (h ++ l) out.0) (sym (trying_so_far p s.0 s.3)) met))
+        let (next, now, less, trying) = s in
+        subst (λ r. Ended h p (goes_on (tries p n) out.0 r)) (sym is) (rest next now (try_of next trying) (omega (arith, less)) (subst (λ l. CoreMeets (h ++ l) out.0) (sym (trying_so_far p next trying)) met))
     ends_later n rest answer.Taken is s met says le = absurd s
     ends_later n rest answer.Busy is s met says le = absurd s
     ends_later n rest (answer.Out e) is s met says le = subst (λ r. Ended h p (goes_on (tries p n) out.0 r)) (sym is) (same (answer.Out e) is (ends (answer.Out e) tt is s met says))

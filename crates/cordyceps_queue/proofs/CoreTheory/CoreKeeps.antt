@@ -58,12 +58,13 @@ module _ {E : Type 0} where
     goes_by : (o : Option (Move ℕ E)) (out : Outcome E) → words.move_of (abstract_of m) p s ≡ o → Follows m p stage s o out → Goes_on h m p (Some stage) s out
     goes_by None out e f = subst (Goes_on h m p (Some stage) s) (sym f) (unchanged h m was, tt)
     goes_by (Some v) out e f =
-        let K = step_keeps ℕ E (abstract_of m) was.chain (reverse h) was.meets p (me_of m p stage) s v (ap (party_at m.rooms p) at) e in
+        let (machine_is, answer_is, events_are, owned) = f in
+        let (chain, meets, says) = step_keeps ℕ E (abstract_of m) was.chain (reverse h) was.meets p (me_of m p stage) s v (ap (party_at m.rooms p) at) e in
         let turned : reverse (h ++ events_of p m.rooms (Some stage) s out.1) ≡ v.events ++ reverse h =
-        reverse-append h (events_of p m.rooms (Some stage) s out.1) ∙ ap (λ l. reverse l ++ reverse h) f.2 ∙ ap (λ l. l ++ reverse h) (reverse-reverse v.events) in
-        let met : Meets (abstract_of out.0) K.0 (v.events ++ reverse h) = subst (λ w. Meets w K.0 (v.events ++ reverse h)) (sym f.0) K.1 in (
-          core_from (h ++ events_of p m.rooms (Some stage) s out.1) out.0 K.0 (subst (Meets (abstract_of out.0) K.0) (sym turned) met) f.3,
-          subst (AnswerSays h p) (sym f.1) (says_of h m was p v.answer K.2),
+        reverse-append h (events_of p m.rooms (Some stage) s out.1) ∙ ap (λ l. reverse l ++ reverse h) events_are ∙ ap (λ l. l ++ reverse h) (reverse-reverse v.events) in
+        let met : Meets (abstract_of out.0) chain (v.events ++ reverse h) = subst (λ w. Meets w chain (v.events ++ reverse h)) (sym machine_is) meets in (
+          core_from (h ++ events_of p m.rooms (Some stage) s out.1) out.0 chain (subst (Meets (abstract_of out.0) chain) (sym turned) met) owned,
+          subst (AnswerSays h p) (sym answer_is) (says_of h m was p v.answer says),
         )
 
   steps_at : (h : List (Event ℕ E)) (m : Machine E) (p : ℕ) (s : QueueStep E) → CoreMeets h m → (o : Option Stage) → slice_get m.parties p ≡ o → Goes_on h m p o s (after_step_at m p o s)

@@ -22,17 +22,20 @@ module _ {E : Type 0} where
       let all = whole_adds actor (λ h. Legal h) u w es is a in
       subst (λ r. past.IsLegalReversed r) (ap reverse all ∙ reverse-append (plain u.seen) es) ((legal_both_ways Name E same_name (plain w.seen)).0 a.0.legal)
 
+  -- these events of a whole party take out the first element that was held
+  first_taken : (u w : PartyOf E) (es : List (Event Name E)) (e : E) (rest : List E) → u.share ≡ whole → Adds u es w → let before = reverse (plain u.seen) in past.IsLegalReversed before
+      → past.held_reversed before ≡ e ∷ rest → past.held_reversed (reverse es ++ before) ≡ drop 1 (past.held_reversed before) → held (plain u.seen) ≡ e ∷ held (plain w.seen)
+  first_taken u w es e rest is a legal out less =
+      let back : reverse (plain w.seen) ≡ reverse es ++ reverse (plain u.seen) = ap reverse (whole_adds actor (λ h. Legal h) u w es is a) ∙ reverse-append (plain u.seen) es in
+      let after = held_of (plain w.seen) (subst (λ r. past.IsLegalReversed r) (sym back) (back_legal u w es is a)) ∙ ap (λ r. past.held_reversed r) back ∙ less in
+      held_of (plain u.seen) legal ∙ (out ∙ ap (λ xs. e ∷ xs) (sym (after ∙ ap (drop 1) out)))
+
   pub takes_first : (u w : PartyOf E) (e : E) → u.share ≡ whole → Dequeues (Ok e) u w → held (plain u.seen) ≡ e ∷ held (plain w.seen)
   takes_first u w e is d =
       let n = name_of u in
       let es : List (Event Name E) = Take n ∷ Look n ∷ Out n e ∷ Free n ∷ [] in
       let l = back_legal u w es is d.0 in
-      let before = held_of (plain u.seen) l.1.1.1.1 in
-      let out = l.1.0 in
-      let all = whole_adds actor (λ h. Legal h) u w es is d.0 in
-      let back : reverse (plain w.seen) ≡ reverse es ++ reverse (plain u.seen) = ap reverse all ∙ reverse-append (plain u.seen) es in
-      let after = held_of (plain w.seen) (subst (λ r. past.IsLegalReversed r) (sym back) l) ∙ ap (λ r. past.held_reversed r) back in
-      before ∙ (out.2 ∙ ap (λ xs. e ∷ xs) (sym (after ∙ ap (drop 1) out.2)))
+      let (holds, rest, first) = l.1.0 in first_taken u w es e rest is d.0 l.1.1.1.1 first refl
 
   -- what a whole party puts in is held after what was
   pub holds_last : (u w : PartyOf E) (e : E) → u.share ≡ whole → Enqueues e u w → held (plain w.seen) ≡ held (plain u.seen) ++ e ∷ []
@@ -69,11 +72,7 @@ module _ {E : Type 0} where
       let n = name_of u in
       let es : List (Event Name E) = Look n ∷ Out n e ∷ [] in
       let l = back_legal u w es is d.0 in
-      let out = l.0 in
-      let all = whole_adds actor (λ h. Legal h) u w es is d.0 in
-      let back : reverse (plain w.seen) ≡ reverse es ++ reverse (plain u.seen) = ap reverse all ∙ reverse-append (plain u.seen) es in
-      let after = held_of (plain w.seen) (subst (λ r. past.IsLegalReversed r) (sym back) l) ∙ ap (λ r. past.held_reversed r) back in
-      held_of (plain u.seen) l.1.1 ∙ (out.2 ∙ ap (λ xs. e ∷ xs) (sym (after ∙ ap (drop 1) out.2)))
+      let (holds, rest, first) = l.0 in first_taken u w es e rest is d.0 l.1.1 first refl
 
   pub gives_none : (u w : PartyOf E) (why : TryDequeueError) → u.share ≡ whole → Consumes (Err why) u w → IsCertain {E = E} (Err why) → (why ≡ error.Empty) × (held (plain u.seen) ≡ [])
   gives_none u w error.Empty is d c =

@@ -38,7 +38,7 @@ use Rattle.cordyceps_queue.proofs.SharedTheory.StubKeeps.{looks_stub, heads_stub
 
 -- a link of the use with this bit is old once the next use begins
 pub now_old : (link next to bit : ℕ) → IsLink link next to bit → IsOld (1 - bit) link × IsBit (1 - bit)
-now_old link next to bit k = let e = k.0 in let b = k.1 in let c = k.2 in ((2 * next + to, omega arith, omega arith), omega arith)
+now_old link next to bit k = let (is, to_bit, own_bit) = k in ((2 * next + to, omega arith, omega arith), omega arith)
 
 module _ {E : Type 0} where
   -- the table with the plain words

@@ -9,8 +9,8 @@ pub store-requires : goal.store-requires
 store-requires g c =
     let q = c.requires.stage in
     let near = q.1 in
-    let u = c.requires.knows in
-    let n = c.link_to.ensures ∙ stub_link c.args.seat.now.me c.args.stub c.args.old u.1 u.2 u.3 in
+    let (tail, stub, old, is_stub) = c.requires.knows in
+    let n = c.link_to.ensures ∙ stub_link c.args.seat.now.me c.args.stub c.args.old stub old is_stub in
     let t = c.requires.table in (
       search rules,
       search rules,
