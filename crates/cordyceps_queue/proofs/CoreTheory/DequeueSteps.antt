@@ -5,7 +5,7 @@ use Rattle.cordyceps_queue.specs.Past.{held_reversed, holder_reversed, IsSettled
 use Rattle.cordyceps_queue.specs.declared.cores.stage.Stage.TheVariants.{Rest, Holding, Second}
 use Rattle.cordyceps_queue.specs.Cores.Abstract.{update, insert_room, AbstractParty, AbstractMachine, set_stage, set_right, hand_out}
 use Rattle.cordyceps_shared.specs.Places.{ItemAt}
-use Rattle.cordyceps_queue.specs.Cores.Meets.{real, Shared, Spare, Owes, tail_of, Chain, Keeps, AtStage, RightIs, Meets}
+use Rattle.cordyceps_queue.specs.Cores.Meets.{real, Shared, Spare, Owes, tail_of, Chain, Keeps, RightIs, Meets}
 use Rattle.cordyceps_queue.proofs.CoreTheory.Basics.{owner_else, owns_else, some_inj, none_some, suc_zero, zero_suc, suc_inj, put_same, put_other, map_put}
 use Rattle.cordyceps_queue.proofs.CoreTheory.OtherParties.{goes_without}
 use Rattle.cordyceps_queue.proofs.CoreTheory.StepLeaves.{fits_as, chain_of, joined_still, moves_on, rooms_on, rooms_still}

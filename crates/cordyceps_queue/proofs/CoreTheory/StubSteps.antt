@@ -6,7 +6,7 @@ use Rattle.cordyceps_queue.specs.declared.cores.stage.Stage.TheVariants.{PutClea
 use Rattle.cordyceps_queue.specs.Cores.Abstract.{update, AbstractParty, AbstractMachine, clear_stub, swap_head, link_next}
 use Rattle.cordyceps_shared.specs.Places.{ItemAt}
 use Rattle.cordyceps_queue.specs.Cores.Meets.{real, Owes, tail_of, Chain, IsOut, Joined, Real}
-use Rattle.cordyceps_queue.specs.Cores.Meets.{HasClearStub, HasOpenStub, AtStage, Meets}
+use Rattle.cordyceps_queue.specs.Cores.Meets.{HasClearStub, HasOpenStub, Meets}
 use Rattle.cordyceps_shared.proofs.Places.{at_end}
 use Rattle.cordyceps_queue.proofs.CoreTheory.Basics.{open_with, ready_with, put_same, put_other}
 use Rattle.cordyceps_queue.proofs.CoreTheory.Basics.{put_none, at_one, at_within, at_more, at_split}

@@ -1,16 +1,15 @@
 -- What a queue's table allows a party that dequeues, with a slot in hand or none.
-use Rattle.std.proofs.Common.{◌≡◌, ◌≢◌, ℕ, zero, suc, ◌+◌, ◌-◌, ◌<◌, List, [], ◌∷◌, ◌++◌, length, set, get_or, Some, refl, sym, ap, ◌∙◌, subst, inl, arith}
+use Rattle.std.proofs.Common.{◌≡◌, ◌≢◌, ℕ, zero, suc, ◌+◌, ◌-◌, ◌<◌, List, [], ◌∷◌, ◌++◌, length, get_or, Some, refl, sym, ap, ◌∙◌, subst, inl, arith}
 use mathlib.Core.Option.{some, none}
 use lib.ListN.{get_elem?}
-use Rattle.atomic_table.specs.Table.{keeps, carried_after, step}
+use Rattle.atomic_table.specs.Table.{carried_after, step}
 use Rattle.cordyceps_shared.specs.Slots.{Near}
 use Rattle.cordyceps_shared.specs.Words as word
 use Rattle.cordyceps_shared.specs.declared.layout.TheConstants.{RIGHT, LINKS}
 use Rattle.cordyceps_shared.specs.Shares.{Name}
-use Rattle.cordyceps_queue.specs.declared.cores.stage.Stage.{Stage}
 use Rattle.cordyceps_queue.specs.declared.cores.stage.Stage.TheVariants.{Rest, Holding, Second, Null}
 use Rattle.cordyceps_queue.specs.History.{Event}
-use Rattle.cordyceps_queue.specs.Cores.Meets.{Owes, tail_of, AtStage, Real, Meets}
+use Rattle.cordyceps_queue.specs.Cores.Meets.{Owes, tail_of, Real, Meets}
 use Rattle.cordyceps_queue.specs.Shared.Plays.{SeatState, carry, MovesTo, HandsOut}
 use Rattle.cordyceps_queue.specs.Shared.Plays as play
 use Rattle.cordyceps_queue.specs.Shared.Rule.{TableState, link_of, party, PlainHolds}
@@ -21,7 +20,7 @@ use Rattle.cordyceps_queue.proofs.CoreTheory.Basics.{some_inj, put_again, zero_s
 use Rattle.cordyceps_queue.proofs.CoreTheory.DequeueSteps.{free_right, take_keeps, chain_after_take, give_keeps, chain_after_give}
 use Rattle.cordyceps_queue.proofs.CoreTheory.HolderSteps.{keeping, tell_keeps}
 use Rattle.cordyceps_queue.proofs.CoreTheory.ProducerSteps.{busy_keeps}
-use Rattle.cordyceps_queue.proofs.SharedTheory.WordsAsMachine.{party_as, quiet, chain_near, Becomes, PlainAllows}
+use Rattle.cordyceps_queue.proofs.SharedTheory.WordsAsMachine.{party_as, quiet, chain_near, PlainAllows}
 use Rattle.cordyceps_queue.proofs.SharedTheory.ReturnKeeps.{returning, moved_on, handed_on}
 use Rattle.cordyceps_queue.proofs.SharedTheory.DequeueKeeps.{n, out_events, there, sees, rights, stood, same_rooms, Comes, ReadsTail, reading}
 

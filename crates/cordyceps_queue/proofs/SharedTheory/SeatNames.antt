@@ -15,7 +15,7 @@ use Rattle.cordyceps_shared.proofs.Naming.{some_cover}
 use Rattle.cordyceps_shared.proofs.Places.{times_at}
 use Rattle.cordyceps_shared.proofs.Standing as seats
 use Rattle.cordyceps_queue.specs.declared.cores.stage.Stage.TheVariants.{Rest}
-use Rattle.cordyceps_queue.specs.Cores.Meets.{AtStage, RightIs, tail_of}
+use Rattle.cordyceps_queue.specs.Cores.Meets.{RightIs, tail_of}
 use Rattle.cordyceps_queue.specs.History.{Event, actor, links_by, swaps_by}
 use Rattle.cordyceps_queue.specs.Laws.{takes_by, frees_by}
 use Rattle.cordyceps_queue.specs.Shared.Calls.{same_name, Legal, NonePending, NoneHolds}

@@ -13,7 +13,7 @@ use Rattle.cordyceps_queue.specs.declared.cores.stage.Stage.{Stage}
 use Rattle.cordyceps_queue.specs.declared.cores.stage.Stage.TheVariants.{Cleared, Holding, StubNull, Second, Null, PutClear, PutSwap, PutLink, PutRead}
 use Rattle.cordyceps_queue.specs.History.{Event}
 use Rattle.cordyceps_shared.specs.Places.{ItemAt}
-use Rattle.cordyceps_queue.specs.Cores.Meets.{Pooled, Owes, tail_of, Chain, AtStage, Meets, real}
+use Rattle.cordyceps_queue.specs.Cores.Meets.{Pooled, Owes, tail_of, Chain, Meets, real}
 use Rattle.cordyceps_queue.specs.Past.{WasBlockedReversed}
 use Rattle.cordyceps_queue.specs.Shared.Plays.{SeatState, Sees, carry, MovesTo, HandsOut, Blocked}
 use Rattle.cordyceps_queue.specs.Shared.Plays as play
@@ -30,7 +30,7 @@ use Rattle.cordyceps_queue.proofs.SharedTheory.WordsAsMachine.{party_as, quiet, 
 use Rattle.cordyceps_queue.proofs.CoreTheory.ProducerSteps.{spare_shared, shared_pooled}
 use Rattle.cordyceps_queue.proofs.SharedTheory.EnqueueKeeps.{views_put, wide_words}
 use Rattle.cordyceps_queue.proofs.SharedTheory.ReturnKeeps.{returning, moved_on, handed_on}
-use Rattle.cordyceps_queue.proofs.SharedTheory.DequeueKeeps.{loads_to, n, out_events, there, sees, reads, stood, blocked, same_rooms, less_rooms, leaves_rooms, hands, Comes}
+use Rattle.cordyceps_queue.proofs.SharedTheory.DequeueKeeps.{loads_to, n, out_events, there, sees, reads, stood, blocked, less_rooms, leaves_rooms, hands, Comes}
 use Rattle.cordyceps_queue.proofs.SharedTheory.HolderAllowed.{looked_on}
 
 module _ {E : Type 0} (s : TableState E) (k : PlainHolds s) (id : ℕ) (v : View E) (at : get_elem? s.views id ≡ some v) (named : v.known.share ≢ []) (bare : v.back ≡ []) where

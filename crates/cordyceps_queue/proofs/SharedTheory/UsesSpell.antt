@@ -18,13 +18,13 @@ use Rattle.cordyceps_queue.specs.History.{Event}
 use Rattle.cordyceps_queue.specs.Cores.Abstract.{AbstractMachine, update}
 use Rattle.cordyceps_queue.specs.Cores.Meets.{Owner, Spare, Ready, Chain, Joined, IsOut, AtStage, Meets}
 use Rattle.cordyceps_queue.specs.Shared.Bits.{IsBit, IsFreeLink, IsLink, IsOld, IsRead, IsRight, Spells, SpellsFree, Knows, Begun, KeepsUse, SpellsWords}
-use Rattle.cordyceps_queue.specs.Shared.Rule.{TableState, link_of, party, PlainHolds}
+use Rattle.cordyceps_queue.specs.Shared.Rule.{TableState, link_of, PlainHolds}
 use Rattle.cordyceps_queue.specs.Shared.View.{View, name}
 use Rattle.cordyceps_queue.proofs.CoreTheory.Basics.{some_inj, none_some, some_none, suc_inj, zero_suc, at_within, put_same, put_other}
 use Rattle.cordyceps_queue.proofs.CoreTheory.DequeueSteps.{free_right}
 use Rattle.cordyceps_queue.proofs.CoreTheory.HolderSteps.{at_some}
 use Rattle.cordyceps_queue.proofs.CoreTheory.ProducerSteps.{spare_shared, ready_shared, ready_spare}
-use Rattle.cordyceps_queue.proofs.SharedTheory.WordsAsMachine.{party_as, core, party_at, Among}
+use Rattle.cordyceps_queue.proofs.SharedTheory.WordsAsMachine.{party_as, core, Among}
 
 -- the link of a free room is as it was, and so is the plain link
 pub free_link_as : {link next link' next' : ℕ} → link' ≡ link → next' ≡ next → IsFreeLink link next → IsFreeLink link' next'

@@ -1,13 +1,12 @@
 -- The steps of a queue's parties that write a word keep the rule of its table, and so does the one by which a use of the
 -- stub's room begins.
-use Rattle.std.proofs.Common.{◌≡◌, ◌≢◌, ℕ, suc, ◌+◌, ◌*◌, ◌-◌, ◌/◌, ◌%◌, ◌<◌, List, [], ◌∷◌, ◌++◌, length, reverse, set, get_or, append-nil, Option, Some, None, MatchOption, refl, sym, ap, ◌∙◌, subst, inl, inr, arith, length-set, get_or-set_other}
+use Rattle.std.proofs.Common.{◌≡◌, ◌≢◌, ℕ, suc, ◌+◌, ◌*◌, ◌-◌, ◌/◌, ◌%◌, ◌<◌, List, [], ◌∷◌, ◌++◌, length, set, get_or, append-nil, Option, Some, None, MatchOption, refl, sym, ap, ◌∙◌, subst, inl, inr, arith, length-set, get_or-set_other}
 use mathlib.Core.Option.{some, none}
 use lib.ListN.{get_elem?}
 use lib.Seq.{set-get_or}
 use Rattle.atomic_table.specs.Table.{homes_after, stepped, carried_after, step, Allows}
 use Rattle.atomic_table.proofs.Lists.{set_here}
 use Rattle.cordyceps_shared.specs.FreeChains.{MayJoin}
-use Rattle.cordyceps_shared.specs.Histories.{events}
 use Rattle.cordyceps_shared.specs.Places.{ItemAt}
 use Rattle.cordyceps_shared.specs.Shares.{Name}
 use Rattle.cordyceps_shared.specs.Slots.{Homes, Near, Hand}
@@ -19,7 +18,6 @@ use Rattle.cordyceps_queue.specs.declared.cores.stage.Stage.TheVariants.{Rest, C
 use Rattle.cordyceps_queue.specs.declared.shared.uses.RoomUse.{RoomUse}
 use Rattle.cordyceps_queue.specs.History.{Event}
 use Rattle.cordyceps_queue.specs.Cores.Abstract.{update}
-use Rattle.cordyceps_queue.specs.Cores.Meets.{AtStage}
 use Rattle.cordyceps_queue.specs.Shared.Bits.{IsBit, IsFreeLink, IsRead, IsRight, Spells, Knows, Begun, SpellsWords}
 use Rattle.cordyceps_queue.specs.Shared.Plays.{SeatState, carry}
 use Rattle.cordyceps_queue.specs.Shared.Uses as play
@@ -27,7 +25,7 @@ use Rattle.cordyceps_queue.specs.Shared.Rule.{TableState, RuleHolds}
 use Rattle.cordyceps_queue.specs.Shared.View.{View, name, bit_of, free_chain, back_chain}
 use Rattle.cordyceps_queue.proofs.CoreTheory.Basics.{some_inj, put_same, put_other}
 use Rattle.cordyceps_queue.proofs.CoreTheory.ProducerSteps.{spare_shared, ready_shared, shared_pooled}
-use Rattle.cordyceps_queue.proofs.SharedTheory.WordsAsMachine.{party_as, next_low, core, rooms_of, Becomes}
+use Rattle.cordyceps_queue.proofs.SharedTheory.WordsAsMachine.{party_as, next_low, rooms_of, Becomes}
 use Rattle.cordyceps_queue.proofs.SharedTheory.EnqueueKeeps.{swaps, links_on}
 use Rattle.cordyceps_queue.proofs.SharedTheory.HolderAllowed.{takes_right, gives_right}
 use Rattle.cordyceps_queue.proofs.SharedTheory.StubKeeps.{clears_stub, swaps_stub, links_stub}
