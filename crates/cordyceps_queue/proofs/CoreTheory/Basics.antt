@@ -70,6 +70,10 @@ at_one [] i a b p q = absurd p
 at_one (x ∷ xs) zero a b p q = p ∙ sym q
 at_one (x ∷ xs) (suc i) a b p q = at_one xs i a b p q
 
+pub at_only : {A : Type 0} (x : A) (i : ℕ) (a : A) → ItemAt (x ∷ []) i a → (i ≡ 0) × (a ≡ x)
+at_only x zero a p = (refl, p)
+at_only x (suc i) a p = absurd p
+
 pub at_within : {A : Type 0} (xs : List A) (i : ℕ) (a : A) → ItemAt xs i a → i < length xs
 at_within [] i a p = absurd p
 at_within (x ∷ xs) zero a p = omega arith

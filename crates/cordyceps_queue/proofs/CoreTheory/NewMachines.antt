@@ -3,16 +3,12 @@ use Rattle.std.proofs.Common.{◌≡◌, ℕ, zero, suc, ◌≤◌, [], ◌∷�
 use Rattle.cordyceps_shared.specs.Places.{ItemAt}
 use Rattle.cordyceps_queue.specs.Cores.Meets.{Owner, Shared, Unmade}
 use Rattle.cordyceps_queue.specs.Cores.StepKeeps.{NewMeets}
-use Rattle.cordyceps_queue.proofs.CoreTheory.Basics.{none_some}
+use Rattle.cordyceps_queue.proofs.CoreTheory.Basics.{at_only, none_some}
 
 -- whose the rooms of a new machine are
 abbrev pub new_owner : ℕ → Owner
 new_owner zero = Shared
 new_owner (suc r) = Unmade
-
-pub stub_alone : (i r : ℕ) → ItemAt (0 ∷ []) i r → (i ≡ 0) × (r ≡ 0)
-stub_alone zero r a = (refl, a)
-stub_alone (suc i) r a = absurd a
 
 pub is_unmade : (r : ℕ) → 1 ≤ r → new_owner r ≡ Unmade
 is_unmade zero lt = absurd (omega arith)
@@ -26,8 +22,8 @@ new_meets P E = (
     last = record { at = 0; long = refl; head_at = refl };
     ends = refl;
     joined = λ i a b ia ib. absurd (none_follows i b ib);
-    once = λ i j r ir jr. (stub_alone i r ir).0 ∙ sym (stub_alone j r jr).0;
-    shared = λ i r ir. ap new_owner (stub_alone i r ir).1;
+    once = λ i j r ir jr. (at_only 0 i r ir).0 ∙ sym (at_only 0 j r jr).0;
+    shared = λ i r ir. ap new_owner (at_only 0 i r ir).1;
     stub = refl;
     unmade = λ r lt. is_unmade r lt;
     holds = refl;

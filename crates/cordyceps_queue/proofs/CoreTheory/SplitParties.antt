@@ -58,20 +58,21 @@ module _ (owner : ℕ → Owner) (k : ℕ) (free : List ℕ) (R : OwnsRooms owne
     once = λ i b r x y. R.once i b r (at_take n free i r x).0 (at_take n free b r y).0;
   }
 
-pub deal_both : (owner : ℕ → Owner) (a b : ℕ) (xs ys : List ℕ) → a ≢ b → OwnsRooms owner a xs → OwnsRooms owner b ys → OwnsRooms (deal (Spare a) ys owner) a (xs ++ ys)
-deal_both owner a b xs ys ne R S = record {
+-- rooms that were not the party's come behind its own
+pub deal_behind : (owner : ℕ → Owner) (k : ℕ) (xs ys : List ℕ) → OwnsRooms owner k xs → ((i r : ℕ) → ItemAt ys i r → owner r ≡ Spare k → ⊥) → ((i j r : ℕ) → ItemAt ys i r → ItemAt ys j r → i ≡ j) → OwnsRooms (deal (Spare k) ys owner) k (xs ++ ys)
+deal_behind owner k xs ys R apart once = record {
   own = λ i r at. elim (at_either xs ys i r at) [
-    | inl t ↦ deal_else (Spare a) ys owner r (λ n c. ne (spare_one (R.own i r t) (S.own n r c))) ∙ R.own i r t
-    | inr t ↦ deal_here (Spare a) ys owner t.0 r t.1
+    | inl t ↦ deal_else (Spare k) ys owner r (λ n c. apart n r c (R.own i r t)) ∙ R.own i r t
+    | inr t ↦ deal_here (Spare k) ys owner t.0 r t.1
   ];
-  once = λ i j r x y. both i j r (at_either xs ys i r x) (at_either xs ys j r y);
+  once = λ i j r x y. elim (at_either xs ys i r x) [
+    | inl a ↦ elim (at_either xs ys j r y) [ inl b ↦ R.once i j r a b | inr b ↦ absurd (apart b.0 r b.1 (R.own i r a)) ]
+    | inr a ↦ elim (at_either xs ys j r y) [
+      | inl b ↦ absurd (apart a.0 r a.1 (R.own j r b))
+      | inr b ↦ let (n, here, e) = a in let (n', here', f) = b in let same = once n n' r here here' in omega arith
+    ]
+  ];
 }
-  where
-    both : (i j r : ℕ) → ItemAt xs i r ⊎ ((n : ℕ) × ItemAt ys n r × (i ≡ length xs + n)) → ItemAt xs j r ⊎ ((n : ℕ) × ItemAt ys n r × (j ≡ length xs + n)) → i ≡ j
-    both i j r (inl x) (inl y) = R.once i j r x y
-    both i j r (inl x) (inr y) = absurd (ne (spare_one (R.own i r x) (S.own y.0 r y.1)))
-    both i j r (inr x) (inl y) = absurd (ne (spare_one (R.own j r y) (S.own x.0 r x.1)))
-    both i j r (inr x) (inr y) = let e = x.2 in let f = y.2 in let same = S.once x.0 y.0 r x.1 y.1 in omega arith
 
 -- ---- parties that come and go
 module _ {P E : Type 0} (m : AbstractMachine P E) (c : Chain) (h : List (Event P E)) (parties : ℕ → Option (AbstractParty P)) (owner : ℕ → Owner) (Gone : P → Type 0) where

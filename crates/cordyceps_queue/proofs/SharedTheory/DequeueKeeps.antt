@@ -30,10 +30,11 @@ use Rattle.cordyceps_shared.specs.Slots.{Homes, EmptyAtHome}
 use Rattle.cordyceps_queue.specs.Shared.Rule.{TableState, link_of, party, machine_of, FullAtHome, PlainHolds}
 use Rattle.cordyceps_queue.specs.Shared.View.{View, name, cleared_count}
 use Rattle.cordyceps_queue.specs.Cores.Abstract.{AbstractParty, AbstractMachine, update, insert_room, set_stage, set_right, hand_out}
-use Rattle.cordyceps_queue.proofs.CoreTheory.Basics.{none_some, zero_suc, suc_zero, suc_inj, some_inj, at_split, at_more, put_same, put_other}
+use Rattle.cordyceps_queue.proofs.CoreTheory.Basics.{at_only, none_some, zero_suc, suc_zero, suc_inj, some_inj, at_split, at_more, put_same, put_other}
 use Rattle.cordyceps_queue.proofs.CoreTheory.DequeueSteps.{out_keeps, chain_after_out}
 use Rattle.cordyceps_queue.proofs.CoreTheory.HolderSteps.{was_now, keeping, stage_keeps, open_blocks}
 use Rattle.cordyceps_queue.proofs.CoreTheory.SpareMoves.{moves_keep}
+use Rattle.cordyceps_queue.proofs.CoreTheory.SplitParties.{deal_behind}
 use Rattle.cordyceps_queue.proofs.CoreTheory.ProducerSteps.{spare_shared, ready_shared, shared_pooled}
 use Rattle.cordyceps_queue.proofs.CoreTheory.ChainShrinks.{at_down, real_first, tail_full, tail_away, second}
 use Rattle.cordyceps_queue.proofs.SharedTheory.SeatNames.{few_rooms}
@@ -48,19 +49,6 @@ put_twice f k v w = fun_ext (λ j. elim (ℕ_discrete j k) [
   | yes same ↦ subst (λ i. update (update f k v) k w i ≡ update f k w i) (sym same) (put_same (update f k v) k w ∙ sym (put_same f k w))
   | no ne ↦ put_other (update f k v) k w j ne ∙ (put_other f k v j ne ∙ sym (put_other f k w j ne))
 ])
-
--- one room more behind those of a party
-owns_last : (owner : ℕ → Owner) (k : ℕ) (rooms : List ℕ) (t : ℕ) → ((i x : ℕ) → ItemAt rooms i x → owner x ≡ Spare k) → ((i j x : ℕ) → ItemAt rooms i x → ItemAt rooms j x → i ≡ j) → ((i : ℕ) → ItemAt rooms i t → ⊥) → owner t ≡ Spare k → OwnsRooms owner k (rooms ++ t ∷ [])
-owns_last owner k rooms t own once apart last = record { own = owns; once = distinct }
-  where
-    owns : (i x : ℕ) → ItemAt (rooms ++ t ∷ []) i x → owner x ≡ Spare k
-    owns i x a = elim (at_split rooms t i x a) [ inl b ↦ own i x b | inr b ↦ ap owner b.1 ∙ last ]
-
-    distinct : (i j x : ℕ) → ItemAt (rooms ++ t ∷ []) i x → ItemAt (rooms ++ t ∷ []) j x → i ≡ j
-    distinct i j x a b = elim (at_split rooms t i x a) [
-      | inl c ↦ elim (at_split rooms t j x b) [ inl d ↦ once i j x c d | inr d ↦ absurd (apart i (subst (ItemAt rooms i) d.1 c)) ]
-      | inr c ↦ elim (at_split rooms t j x b) [ inl d ↦ absurd (apart j (subst (ItemAt rooms j) c.1 d)) | inr d ↦ c.0 ∙ sym d.0 ]
-    ]
 
 -- what a word is whose link is a room
 linked_word : (n r : ℕ) → link_of n ≡ Some r → n ≡ suc r
@@ -148,10 +136,8 @@ module _ {E : Type 0} (s : TableState E) (k : PlainHolds s) (id : ℕ) (v : View
     free_rooms = subst (OwnsRooms k.chain.owner id) (ap (λ l. v.free ++ l) bare ∙ append-nil v.free) (rooms_of s k id v at named)
 
     new_rooms : OwnsRooms next_chain.owner id (v.free ++ t ∷ [])
-    new_rooms = owns_last next_chain.owner id v.free t (λ i x a. put_other k.chain.owner t (Spare id) x (λ same. apart i (subst (ItemAt v.free i) same a)) ∙ free_rooms.own i x a) free_rooms.once apart (put_same k.chain.owner t (Spare id))
-      where
-        apart : (i : ℕ) → ItemAt v.free i t → ⊥
-        apart i a = spare_shared (free_rooms.own i t a) tail_shared
+    new_rooms = deal_behind k.chain.owner id v.free (t ∷ []) free_rooms (λ i x a free. spare_shared free (ap k.chain.owner (at_only t i x a).1 ∙ tail_shared))
+        (λ i j x a b. (at_only t i x a).0 ∙ sym (at_only t j x b).0)
 
     abbrev handed_machine : AbstractMachine Name E
     handed_machine = hand_out n id (party v) t r

@@ -33,11 +33,11 @@ use Rattle.cordyceps_shared.specs.Slots.{Homes, EmptyAtHome}
 use Rattle.cordyceps_queue.specs.Shared.Rule.{TableState, History, link_of, party, party_of, machine_of, PlainHolds}
 use Rattle.cordyceps_queue.specs.Shared.View.{View, knows, name, newcomer, down_from, free_chain, cleared_count, room_count}
 use Rattle.cordyceps_queue.specs.Cores.Abstract.{AbstractParty}
-use Rattle.cordyceps_queue.proofs.CoreTheory.Basics.{some_inj, put_again}
-use Rattle.cordyceps_queue.proofs.CoreTheory.NewMachines.{new_owner, stub_alone, is_unmade}
-use Rattle.cordyceps_queue.proofs.CoreTheory.ProducerSteps.{spare_pooled}
+use Rattle.cordyceps_queue.proofs.CoreTheory.Basics.{at_only, some_inj, put_again}
+use Rattle.cordyceps_queue.proofs.CoreTheory.NewMachines.{new_owner, is_unmade}
+use Rattle.cordyceps_queue.proofs.CoreTheory.ProducerSteps.{spare_one, spare_pooled}
 use Rattle.cordyceps_queue.proofs.SharedTheory.SeatNames.{party_was, name_known, names_differ}
-use Rattle.cordyceps_queue.proofs.CoreTheory.SplitParties.{deal, deal_else, deal_here, deal_fixed, deal_others, deal_kept, deal_given, deal_both, Regroups, regroups_keep}
+use Rattle.cordyceps_queue.proofs.CoreTheory.SplitParties.{deal, deal_else, deal_here, deal_fixed, deal_others, deal_kept, deal_given, deal_behind, Regroups, regroups_keep}
 use Rattle.cordyceps_queue.proofs.SharedTheory.WordsAsMachine.{party_as, party_spelled, core, party_at, rooms_of, parties_put, pool_stays, count_same, spent_else, Stays}
 
 pub at_down_from : (n i r : ℕ) → ItemAt (down_from n) i r → (i + r ≡ n) × (1 ≤ r)
@@ -90,8 +90,8 @@ module _ (E : Type 0) where
             last = record { at = 0; long = refl; head_at = head };
             ends = ap (λ n. link_of (word.next words n)) head ∙ ap link_of link;
             joined = λ i a b ia ib. absurd ib;
-            once = λ i j r ir jr. (stub_alone i r ir).0 ∙ sym (stub_alone j r jr).0;
-            shared = λ i r ir. ap owner (stub_alone i r ir).1 ∙ stub rooms;
+            once = λ i j r ir jr. (at_only 0 i r ir).0 ∙ sym (at_only 0 j r jr).0;
+            shared = λ i r ir. ap owner (at_only 0 i r ir).1 ∙ stub rooms;
             stub = stub rooms;
             unmade = λ r l. deal_else (Spare 0) (down_from rooms) new_owner r (λ i a. let t = at_down_from rooms i r a in let e = t.0 in absurd (omega arith)) ∙ is_unmade r (omega arith);
             holds = refl;
@@ -103,7 +103,7 @@ module _ (E : Type 0) where
           };
           wide = omega arith;
           stub = omega arith;
-          full = λ i r ir ne. absurd (ne (stub_alone i r ir).1);
+          full = λ i r ir ne. absurd (ne (at_only 0 i r ir).1);
           empty = λ j v e some_name. subst (λ (z : View E). EmptyAtHome homes z.free) (seats.only first v j e).1 (vacant_empty rooms);
           ready = λ j v r e some_name is. absurd (let c = ap (λ (z : View E). z.stage) (seats.only first v j e).1 ∙ is in cc);
           linked = λ j v e some_name. subst (λ (z : View E). Links words z.free z.end × Links words z.back z.to) (seats.only first v j e).1 (links_down words rooms (λ r l. new.linked r (omega arith)), tt);
@@ -322,7 +322,7 @@ module _ {E : Type 0} (s : TableState E) (k : PlainHolds s) (id other : ℕ) (v 
     rooms = λ i p e.
         let t = party_was (get_elem? joint i) p e in
         subst (λ (q : AbstractParty Name). OwnsRooms owner_join i q.spare) t.is (two_set (λ j u. u.known.share ≢ [] → OwnsRooms owner_join j (party u).spare) s.views id other (view_absorbing v w) view_absorbed
-        (λ _. subst (OwnsRooms owner_join id) (sym (append-nil (v.free ++ w.free))) (deal_both k.chain.owner id other v.free w.free (λ e. apart (sym e)) first_rooms second_rooms))
+        (λ _. subst (OwnsRooms owner_join id) (sym (append-nil (v.free ++ w.free))) (deal_behind k.chain.owner id v.free w.free first_rooms (λ i r a free. apart (sym (spare_one free (second_rooms.own i r a)))) second_rooms.once))
         (λ some_name. absurd (some_name refl))
         (λ j u ne no_other at some_name. deal_others k.chain.owner other (Spare id) w.free second_rooms.own j (u.free ++ u.back) no_other (rooms_of s k j u at some_name))
         i t.view t.there t.named);

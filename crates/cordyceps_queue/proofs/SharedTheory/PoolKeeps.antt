@@ -40,7 +40,7 @@ use Rattle.cordyceps_queue.proofs.CoreTheory.Basics.{at_more}
 use Rattle.cordyceps_queue.proofs.CoreTheory.ChainGrows.{held_length}
 use Rattle.cordyceps_queue.proofs.CoreTheory.ProducerSteps.{spare_pooled, shared_pooled}
 use Rattle.cordyceps_queue.proofs.CoreTheory.SpareMoves.{MovesRooms, moves_keep}
-use Rattle.cordyceps_queue.proofs.CoreTheory.SplitParties.{deal, deal_else, deal_here, deal_fixed, deal_others, deal_kept}
+use Rattle.cordyceps_queue.proofs.CoreTheory.SplitParties.{deal_behind, deal, deal_else, deal_here, deal_fixed, deal_others, deal_kept}
 use Rattle.cordyceps_queue.proofs.SharedTheory.EnqueueKeeps.{views_put}
 use Rattle.cordyceps_queue.proofs.SharedTheory.ReturnKeeps.{homes_given, give_all, give_homes, give_carried, give_valid, settles}
 use Rattle.cordyceps_queue.proofs.SharedTheory.SpareKeeps.{skip_kept}
@@ -81,22 +81,6 @@ module _ {E : Type 0} where
     take_valid bs hs (λ i j r x y. let e = once (suc i) (suc j) r x y in omega arith) (λ i r a. empty (suc i) r a),
     ap (λ (l : Homes E). get_elem? l b) (take_homes bs hs) ∙ (taken_else bs hs b (λ i a. let e = once (suc i) 0 b a refl in absurd (omega arith)) ∙ empty 0 b refl),
   )
-
--- rooms of the pool come behind those of a party
-deal_pool : (owner : ℕ → Owner) (k : ℕ) (xs ys : List ℕ) → OwnsRooms owner k xs → ((i r : ℕ) → ItemAt ys i r → owner r ≡ Pooled) → ((i j r : ℕ) → ItemAt ys i r → ItemAt ys j r → i ≡ j) → OwnsRooms (deal (Spare k) ys owner) k (xs ++ ys)
-deal_pool owner k xs ys R own once = record {
-  own = λ i r at. elim (at_either xs ys i r at) [
-    | inl t ↦ deal_else (Spare k) ys owner r (λ n c. spare_pooled (R.own i r t) (own n r c)) ∙ R.own i r t
-    | inr t ↦ deal_here (Spare k) ys owner t.0 r t.1
-  ];
-  once = λ i j r x y. elim (at_either xs ys i r x) [
-    | inl a ↦ elim (at_either xs ys j r y) [ inl b ↦ R.once i j r a b | inr b ↦ absurd (spare_pooled (R.own i r a) (own b.0 r b.1)) ]
-    | inr a ↦ elim (at_either xs ys j r y) [
-      | inl b ↦ absurd (spare_pooled (R.own j r b) (own a.0 r a.1))
-      | inr b ↦ let e = a.2 in let f = b.2 in let same = once a.0 b.0 r a.1 b.1 in omega arith
-    ]
-  ];
-}
 
 -- ---- what a step on the pool's word keeps of the plain rule
 module _ {E : Type 0} (s : TableState E) (k : PlainHolds s) (id : ℕ) (v : View E) (at : get_elem? s.views id ≡ some v) (named : v.known.share ≢ []) (known : Known (Event Name E)) (same : known.share ≡ v.known.share) (free : List ℕ) (end : ℕ) (back : List ℕ) (to : ℕ) where
@@ -223,7 +207,7 @@ module _ {E : Type 0} (s : TableState E) (k : PlainHolds s) (id : ℕ) (v : View
     moves = record {
       fixed = λ r o e not_spare not_pooled. deal_else (Spare id) k.pool.rooms k.chain.owner r (λ i a. not_pooled (sym e ∙ k.pooled.own i r a)) ∙ e;
       others = λ j rooms ne R. record { own = λ i r a. deal_else (Spare id) k.pool.rooms k.chain.owner r (λ n c. spare_pooled (R.own i r a) (k.pooled.own n r c)) ∙ R.own i r a; once = R.once };
-      mine = deal_pool k.chain.owner id v.free k.pool.rooms own_rooms k.pooled.own k.pooled.once;
+      mine = deal_behind k.chain.owner id v.free k.pool.rooms own_rooms (λ i r a free. spare_pooled free (k.pooled.own i r a)) k.pooled.once;
     };
     slots = λ r other. taken_else k.pool.rooms s.homes r (λ i a. other (k.pooled.own i r a));
     deep = taken_length k.pool.rooms s.homes;
