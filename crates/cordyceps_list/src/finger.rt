@@ -292,7 +292,9 @@ impl Fingers {
         found.address
     }
 
-    /// Returns the address of a node as `seek` does, or null if `to` is the place after the last node.
+    /// Returns the address of a node as `seek` does, or null if `to` is the place after the last node. It is inlined as
+    /// `seek` is.
+    #[inline(always)]
     pub(crate) fn seek_within<T>(&mut self, chain: &DoubleChain<T>, to: usize) -> Address
         requires { FingersFit chain.now self.old }
         ensures fit { FingersFit chain.now self.new }
