@@ -51,7 +51,7 @@ not_cons e = subst IsCons e tt
 first_of_cons : {A : Type 0} {x y : A} {xs ys : List A} → x ∷ xs ≡ y ∷ ys → x ≡ y
 first_of_cons {A} {x} e = ap (λ (l : List A). elim l as (λ _. A) [ a ∷ rest ↦ a | [] ↦ x ]) e
 
--- what these are of which y and ys are the cells
+-- a list is not empty: y is the cell of its first element, and ys are the cells of the others
 pub record Splits {E : Type 0} (xs : List E) (y : Option E) (ys : List (Option E)) : Type 0 where
   pub first : E
   pub rest : List E

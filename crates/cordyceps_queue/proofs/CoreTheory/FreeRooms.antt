@@ -28,7 +28,7 @@ module _ {E : Type 0} where
   free_same p f (x ∷ xs) i zero same = ap (λ b. cond b (i ∷ free_from p (suc i) xs) (free_from p (suc i) xs)) (same x refl)
   free_same p f (x ∷ xs) i (suc r) same = ap (λ ys. cond (is_free_for p x) (i ∷ ys) ys) (free_same p f xs (suc i) r same)
 
-  -- the least free room, and that the others are these once it is changed by f
+  -- the least of the rooms that are free for p, and what the others are once f has changed it
   pub record LeastFree (p : ℕ) (f : Room E → Room E) (rooms : List (Room E)) (i r : ℕ) (rest : List ℕ) : Type 0 where
     pub at : ℕ
     pub room : Room E

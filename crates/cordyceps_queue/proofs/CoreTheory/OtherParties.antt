@@ -73,7 +73,7 @@ module _ {P E : Type 0} (party : ℕ → Option (AbstractParty P)) (k : ℕ) (p 
     | no ne ↦ taken_with r (put_other party k (Some q) j ne ∙ r.there) r.held
   ]
 
--- what a step of another party leaves to the party j with this name, if that has the right
+-- what a step of another party leaves to the party with this name that has the right
 pub record GoesRight {P E : Type 0} (head head' : ℕ) (next next' : ℕ → Option ℕ) (keeper keeper' : Option ℕ)
     (rooms rooms' : List ℕ) (h h' : List (Event P E)) (name : P) : Type 0 where
   pub keeper_is : keeper' ≡ keeper
@@ -87,7 +87,7 @@ pub record GoesRight {P E : Type 0} (head head' : ℕ) (next next' : ℕ → Opt
   pub stub : IsOut rooms → next 0 ≡ None → next' 0 ≡ None
   pub before_stub : (i old : ℕ) → ItemAt rooms i old → ItemAt rooms (suc i) 0 → next old ≡ None → next' old ≡ None
 
--- what it leaves to that party at any stage
+-- what a step of another party leaves to party j, which has this name
 pub record Goes {P E : Type 0} (head head' : ℕ) (next next' : ℕ → Option ℕ) (cell cell' : ℕ → Option E)
     (owner owner' : ℕ → Owner) (keeper keeper' : Option ℕ) (rooms rooms' : List ℕ) (h h' : List (Event P E)) (j : ℕ)
     (name : P) : Type 0 where
@@ -100,7 +100,7 @@ pub record Goes {P E : Type 0} (head head' : ℕ) (next next' : ℕ → Option �
 abbrev pub GoesOn : {P E : Type 0} → AbstractMachine P E → AbstractMachine P E → Chain → Chain → List (Event P E) → List (Event P E) → ℕ → P → Type 0
 GoesOn m m' c c' h h' j name = Goes m.head m'.head m.next m'.next m.cell m'.cell c.owner c'.owner c.keeper c'.keeper c.rooms c'.rooms h h' j name
 
--- where it does not have the right, and no link is set
+-- a step beside a party that does not have the right, after which each null link is still null
 pub goes_without : {P E : Type 0} {head head' : ℕ} {next next' : ℕ → Option ℕ} {cell : ℕ → Option E} {owner : ℕ → Owner}
     {keeper keeper' : Option ℕ} {rooms : List ℕ} {h h' : List (Event P E)} {j : ℕ} {name : P}
     → ((r : ℕ) → next r ≡ None → next' r ≡ None) → (IsSettled name h → IsSettled name h')
@@ -113,7 +113,7 @@ goes_without none settled pending not = record {
   right = λ is. absurd (not is);
 }
 
--- where head and the chain are as they were
+-- a step that leaves head and the chain as they were, beside the party with the right
 pub right_stays : {P E : Type 0} {head : ℕ} {next next' : ℕ → Option ℕ} {keeper : Option ℕ} {rooms : List ℕ}
     {h h' : List (Event P E)} {name : P} → holder_reversed h' ≡ holder_reversed h
     → (HasLooked name h → HasLooked name h') → (WasBlockedReversed name h → WasBlockedReversed name h')
@@ -132,7 +132,7 @@ right_stays holder looked blocked stub before_stub = record {
   before_stub = before_stub;
 }
 
--- where only rooms change hands that no party has cleared
+-- a step at which only rooms change hands that no party has cleared
 pub goes_dealt : {P E : Type 0} {head : ℕ} {next : ℕ → Option ℕ} {cell : ℕ → Option E} {owner owner' : ℕ → Owner}
     {keeper : Option ℕ} {rooms : List ℕ} {h : List (Event P E)} {j : ℕ} {name : P}
     → ((r : ℕ) → owner r ≡ Ready j → owner' r ≡ Ready j)
@@ -177,7 +177,7 @@ module _ {P E : Type 0} {head head' : ℕ} {next next' : ℕ → Option ℕ} {ce
       }
   bystander (PutRead t) f = (real_on t f.0, (g.right f.0.keeps.kept).far t f.0.keeps.tail f.1)
 
--- where the rooms that it has cleared stay its own
+-- a party is where it was if the rooms that it has cleared stay its own
 pub fits_dealt : {P E : Type 0} (m : AbstractMachine P E) (c : Chain) (h : List (Event P E)) (owner : ℕ → Owner) (j : ℕ) (name : P) → ((r : ℕ) → c.owner r ≡ Ready j → owner r ≡ Ready j) → (stage : Stage) → AtStage m.head m.next m.cell c.owner c.keeper c.rooms h j name stage → AtStage m.head m.next m.cell owner c.keeper c.rooms h j name stage
 fits_dealt m c h owner j name ready stage f = let g : GoesOn m m c (record c { owner = owner }) h h j name = goes_dealt ready in bystander g stage f
 

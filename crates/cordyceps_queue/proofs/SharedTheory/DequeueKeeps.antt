@@ -23,7 +23,7 @@ use Rattle.cordyceps_queue.specs.declared.cores.stage.Stage.TheVariants.{Cleared
 use Rattle.cordyceps_shared.specs.FreeChains.{end_after}
 use Rattle.cordyceps_queue.specs.History.{Event, actor}
 use Rattle.cordyceps_shared.specs.Places.{ItemAt}
-use Rattle.cordyceps_queue.specs.Cores.Meets.{Owner, Spare, Shared, Pooled, OwnsRooms, Chain, Owes, tail_of, Meets, real}
+use Rattle.cordyceps_queue.specs.Cores.Meets.{Spare, Shared, Pooled, OwnsRooms, Chain, Owes, tail_of, Meets, real}
 use Rattle.cordyceps_queue.specs.Past.{HasLooked, WasBlockedReversed}
 use Rattle.cordyceps_queue.specs.Shared.Plays.{SeatState, Sees, MovesTo, HandsOut, Blocked}
 use Rattle.cordyceps_shared.specs.Slots.{Homes, EmptyAtHome}

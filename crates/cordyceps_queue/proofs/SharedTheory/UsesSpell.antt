@@ -26,7 +26,7 @@ use Rattle.cordyceps_queue.proofs.CoreTheory.HolderSteps.{at_some}
 use Rattle.cordyceps_queue.proofs.CoreTheory.ProducerSteps.{spare_shared, ready_shared, ready_spare}
 use Rattle.cordyceps_queue.proofs.SharedTheory.WordsAsMachine.{party_as, core, Among}
 
--- the link of a free room is as it was, and so is the plain link
+-- a link of a free room that is as it was still leads to the room that it led to
 pub free_link_as : {link next link' next' : ℕ} → link' ≡ link → next' ≡ next → IsFreeLink link next → IsFreeLink link' next'
 free_link_as same same' f = record { to = f.to; bit = f.bit; is = subst (λ (z : ℕ × ℕ). IsLink z.0 z.1 f.to f.bit) (λ j. (sym same j, sym same' j)) f.is }
 
@@ -260,7 +260,7 @@ pool_links plain words plain' words' pool pool' is same free = subst (λ (z : Fr
     (λ i r a. let e = same i r a in free_link_as e.0 e.1 (free i r a))
 
 -- ---- what a word tells
--- the link x, of a room whose use has this bit, where the plain link is n
+-- what the link x says of a room whose use has this bit, where the plain link is n
 pub record SaysNext (uses : ℕ → ℕ) (bit n x : ℕ) : Type 0 where
   pub to : ℕ
   pub read : IsRead bit x n to
@@ -270,7 +270,7 @@ pub spelt_read : (uses : ℕ → ℕ) (t n x : ℕ) → Spells uses t n x → Sa
 spelt_read uses t zero x k = record { to = 0; read = k; knows = λ r e. absurd (zero_suc e) }
 spelt_read uses t (suc s) x k = record { to = uses s; read = k; knows = λ r e. ap uses (suc_inj (sym e)) }
 
--- the word x of the right, where the plain word is n
+-- what the word x of the right says, where the plain word is n
 pub record SaysRight (uses : ℕ → ℕ) (n x : ℕ) : Type 0 where
   pub bit : ℕ
   pub found_is : x ≡ 2 * n + bit

@@ -14,7 +14,7 @@ module _ {E : Type 0} (Fails : PartyOf E → PartyOf E → Type 0) where
   retries_more u [] v w e f = (subst (λ z. Fails z w) (sym e) f, refl)
   retries_more u (x ∷ xs) v w t f = (t.0, retries_more x xs v w t.1 f)
 
-  -- so many tries that failed as it took to get here, of a whole party none
+  -- the tries of a waiting call so far, each of which failed; a whole party has made none
   pub record Waited (u v : PartyOf E) : Type 0 where
     pub tries : List (PartyOf E)
     pub failed : Retries Fails u tries v

@@ -134,7 +134,7 @@ module _ {E : Type 0} where
     pub valid : Valid s.homes me.1 act
     pub becomes : Becomes s k me.0 view (stepped s i n id me.1 view act)
 
-  -- the same, where it takes no slot and gives none back
+  -- a step that takes no slot and gives none back
   abbrev pub quiet : {s : TableState E} {k : PlainHolds s} {id i n : ℕ} {v : View E} (w : View E) → Becomes s k v w (stepped s i n id [] w keeps) → PlainStep s k id i n (v, [])
   quiet w becomes = record { view = w; act = keeps; valid = tt; becomes = becomes }
 
