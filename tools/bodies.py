@@ -10,6 +10,8 @@ Function = namedtuple("Function", "path first last types name header")
 BEGINS = re.compile(r"^( *)(?:pub(?:\([a-z]+\))? )?(?:const |unsafe )*fn (\w+)", re.M)
 # A line with which the front end refuses a crate.
 FAULT = re.compile(r"(?:\./)?(src/\S+?\.rt):(\d+):\d+: error\b")
+# A body for a function of any type, where its proof is left open.
+ENDLESS = "loop {}"
 OF_TYPE = re.compile(r"^(?:unsafe )?(?:impl\b.*|(?:pub(?:\([a-z]+\))? )?trait .*)$", re.M)
 
 
