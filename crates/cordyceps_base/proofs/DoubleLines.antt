@@ -27,6 +27,14 @@ pub flat-append : {A : Type 0} (ls ms : List (List A)) → flat (ls ++ ms) ≡ f
 flat-append [] ms = refl
 flat-append (l ∷ ls) ms = ap (λ s. l ++ s) (flat-append ls ms) ∙ sym (append_assoc l (flat ls) (flat ms))
 
+pub take_past : {A : Type 0} (xs ys : List A) → take (length xs) (xs ++ ys) ≡ xs
+take_past [] ys = refl
+take_past (x ∷ xs) ys = ap (λ s. x ∷ s) (take_past xs ys)
+
+pub drop_past : {A : Type 0} (xs ys : List A) → drop (length xs) (xs ++ ys) ≡ ys
+drop_past [] ys = refl
+drop_past (x ∷ xs) ys = drop_past xs ys
+
 abbrev Begins : Ptr → List Address → List Ptr → ℕ
 Begins p hs ps = elim p [ block_ptr b o ↦ index_of (block_ptr b o) ps | null_ptr ↦ begins hs ps ]
 
@@ -55,14 +63,6 @@ module _ {X : Type 0} where
   index_past [] c n d = ap (λ (b : Bool). if b then zero else suc (index_of n.0 (spots c))) (same_ptr_refl n.0)
   index_past (m ∷ l) c n d =
       ap (λ (b : Bool). if b then zero else suc (index_of n.0 (spots (l ++ n ∷ c)))) (other_way m.0 n.0 (new_at l c n m.0 d.0)) ∙ ap suc (index_past l c n d.1)
-
-  pub take_line : (l c : Nodes X) → take (length l) (l ++ c) ≡ l
-  take_line [] c = refl
-  take_line (n ∷ l) c = ap (λ s. n ∷ s) (take_line l c)
-
-  pub drop_line : (l c : Nodes X) → drop (length l) (l ++ c) ≡ c
-  drop_line [] c = refl
-  drop_line (n ∷ l) c = drop_line l c
 
   -- ---- where the lines begin
   abbrev pub FirstAt : Ptr → Nodes X → Type 0
@@ -104,7 +104,7 @@ module _ {X : Type 0} where
       let l : Nodes X = n ∷ m in let c = l ++ flat ms in
       let k = begins_at l hs ms f.1 (blocks_back l (flat ms) b) d in
       ap (λ p. Cut p hs c) f.0 ∙ cut_here n.0 hs c b.0 ∙ (λ i. take (k i) c ∷ lines_in hs (drop (k i) c))
-      ∙ (λ i. take_line l (flat ms) i ∷ lines_in hs (drop_line l (flat ms) i)) ∙ ap (λ r. l ∷ r) (lines_are hs ms f.1 (blocks_back l (flat ms) b) (distinct_back l (flat ms) d))
+      ∙ (λ i. take_past l (flat ms) i ∷ lines_in hs (drop_past l (flat ms) i)) ∙ ap (λ r. l ∷ r) (lines_are hs ms f.1 (blocks_back l (flat ms) b) (distinct_back l (flat ms) d))
 
   -- ---- rows of nodes
   abbrev pub seen : List (List (OwnedNode X)) → List (Nodes X)
@@ -116,7 +116,7 @@ module _ {X : Type 0} where
 
   led : (h t : Ptr) (l : List (OwnedNode X)) → Segment null_ptr h l t null_ptr → FirstAt h (nodes_of l)
   led h t [] f = f.0
-  led h t (n ∷ l) f = f.0
+  led h t (n ∷ l) f = f.0.0
 
   pub leads_from : (hs : List Address) (ls : List (List (OwnedNode X))) → Lead hs ls → Leads hs (seen ls)
   leads_from [] [] f = tt
@@ -126,7 +126,7 @@ module _ {X : Type 0} where
 
   pub in_blocks : (ns : List (OwnedNode X)) → AreNullComparable (box_addresses ns) → InBlocks (nodes_of ns)
   in_blocks [] a = tt
-  in_blocks (n ∷ ns) a = (a.0, in_blocks ns a.2)
+  in_blocks (n ∷ ns) a = (a.0.0, in_blocks ns a.1)
 
   -- what a contract sees of a table with these lines
   pub table_shows : (hs : List Address) (ns : List (OwnedNode X)) (ls : List (List (OwnedNode X))) → ns ≡ flat ls → Lead hs ls → AreNullComparable (box_addresses ns) → AreDistinct (box_addresses ns)
@@ -152,7 +152,7 @@ module _ {X : Type 0} where
   lead_without [] h (l ∷ []) f = ([], l, refl, tt, f.0)
   lead_without [] h (l ∷ m ∷ ls) f = absurd f.1
   lead_without (g ∷ hs) h [] f = absurd f
-  lead_without (g ∷ hs) h (m ∷ ls) f = let on = lead_without hs h ls f.1 in (m ∷ on.0, on.1, ap (λ s. m ∷ s) on.2, (f.0, on.3), on.4)
+  lead_without (g ∷ hs) h (m ∷ ls) f = let (ms, l, parts, led, here) = lead_without hs h ls f.1 in (m ∷ ms, l, ap (λ s. m ∷ s) parts, (f.0, led), here)
 
   -- ---- line k, and another in its place
   -- all that is known of line k, which h leads to

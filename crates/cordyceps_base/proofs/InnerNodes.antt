@@ -61,4 +61,4 @@ module _ {X : Type 0} (h t : Ptr) (ns : List (OwnedNode X)) (k : ℕ) (at : Ptr)
   linked_with pos new a w o p back on e f =
       let later = relinked_first (prev_of b) at (drop k ns) t null_ptr new p parts.1 f in
       segment_join null_ptr h (set_value (take k ns) (k - 1) (with_next o new)) (prev_of b) new.ptr ((new.ptr, a, w) ∷ set_value (drop k ns) 0 (with_prev p new)) t null_ptr
-      (front_leads pos o new e) (refl, back, segment_join new.ptr (next_of w) [] new.ptr at (set_value (drop k ns) 0 (with_prev p new)) t null_ptr (on, refl) later)
+      (front_leads pos o new e) ((refl, back), segment_join new.ptr (next_of w) [] new.ptr at (set_value (drop k ns) 0 (with_prev p new)) t null_ptr (on, refl) later)

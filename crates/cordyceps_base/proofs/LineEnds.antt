@@ -9,7 +9,7 @@ use Rattle.cordyceps_base.specs.Boxes.{box_addresses, box_values, set_value}
 use Rattle.cordyceps_base.specs.DoubleChain.{Segment, next_of}
 use Rattle.cordyceps_base.specs.DoubleLines.{IsDoubleLine}
 use Rattle.cordyceps_base.specs.Element.{Element}
-use Rattle.cordyceps_base.specs.Nodes.{Nodes, OwnedNode, block_element, nodes_of}
+use Rattle.cordyceps_base.specs.Nodes.{Nodes, OwnedNode, block_of, block_element, nodes_of}
 use Rattle.cordyceps_base.specs.Spots.{AreNullComparable}
 use Rattle.cordyceps_base.proofs.DoubleChain.{with_next, with_prev, first_on, relinked_first}
 use Rattle.cordyceps_base.proofs.Nodes.{nodes_of-set, length_is}
@@ -32,7 +32,7 @@ module _ {X : Type 0} where
   line_empty h [] c true seen l m = absurd (subst InBlock l.linked.0 m)
   line_empty h (n ∷ ns) c true seen l m = subst (λ (s : Nodes X). not true ≡ (length s == 0)) seen (sym (not_zero (length (nodes_of ns))))
   line_empty h [] c false seen l m = subst (λ (s : Nodes X). not false ≡ (length s == 0)) seen refl
-  line_empty h (n ∷ ns) c false seen l m = absurd (subst InBlock (sym l.linked.0 ∙ m) l.comparable.0)
+  line_empty h (n ∷ ns) c false seen l m = absurd (subst InBlock (sym l.linked.0.0 ∙ m) l.comparable.0.0)
 
   pub line_first : (h : Ptr) (ns : Row X) (c : Nodes X) → nodes_of ns ≡ c → IsDoubleLine h ns → 0 < length c → slice_get (box_addresses ns) 0 ≡ Some h
   line_first h ns c seen l some = let long = length_is ns c seen in first_on l.prev h ns l.last null_ptr l.linked (omega (arith, some, long))
@@ -40,14 +40,14 @@ module _ {X : Type 0} where
   -- ---- the first of a line that is at the front of a row leads back to another
   pub led_there : (p h : Ptr) (l more : Row X) (t : Ptr) → Segment p h l t null_ptr → InBlock h → slice_get (box_addresses (l ++ more)) 0 ≡ Some h
   led_there p h [] more t f b = absurd (subst InBlock f.0 b)
-  led_there p h (n ∷ l) more t f b = ap Some (sym f.0)
+  led_there p h (n ∷ l) more t f b = ap Some (sym f.0.0)
 
   abbrev pub LedBack : Row X → Row X → Row X → Ptr → Ptr → Type 0
   LedBack r l more h pr = (m : Row X) × (r ≡ m ++ more) × (nodes_of m ≡ nodes_of l) × ((t : Ptr) × Segment pr h m t null_ptr)
 
   pub led_none : (p h pr : Ptr) (r ns l more : Row X) (t : Ptr) → Segment p h l t null_ptr → AreNullComparable (box_addresses ns) → ns ≡ l ++ more → r ≡ ns → h ≡ null_ptr → LedBack r l more h pr
   led_none p h pr r ns [] more t f a is same none = ([], same ∙ is, refl, (pr, (none, refl)))
-  led_none p h pr r ns (n ∷ l) more t f a is same none = let b : InBlock n.0 = (subst (λ ls. AreNullComparable (box_addresses ls)) is a).0 in absurd (subst InBlock (sym f.0 ∙ none) b)
+  led_none p h pr r ns (n ∷ l) more t f a is same none = let b : InBlock n.0 = (subst (λ ls. AreNullComparable (box_addresses ls)) is a).0.0 in absurd (subst InBlock (sym f.0.0 ∙ none) b)
 
   set_first : (l more : Row X) (w : Block X) → 0 < length l → set_value (l ++ more) 0 w ≡ set_value l 0 w ++ more
   set_first [] more w some = absurd (omega (arith, some))
@@ -110,8 +110,8 @@ module _ {X : Type 0} where
   pub rest_led : (h : Ptr) (ns rest : Row X) (b : Block X) → IsDoubleLine h ns → 0 < length ns → slice_get (box_values ns) 0 ≡ Some b → rest ≡ drop 1 ns → (t : Ptr) × Segment h (next_of b) rest t null_ptr
   rest_led h [] rest b l some e is = absurd (omega (arith, some))
   rest_led h (n ∷ ns) rest b l some e is =
-      let same : n.2 ≡ b = cc in
-      (l.last, subst (λ (s : Ptr × Block X × Row X). Segment s.0 (next_of s.1) s.2 l.last null_ptr) (λ i. (sym l.linked.0 i, same i, sym is i)) l.linked.2)
+      let same : block_of n ≡ b = cc in
+      (l.last, subst (λ (s : (Ptr × Block X) × Row X). Segment s.0.0 (next_of s.0.1) s.1 l.last null_ptr) (λ i. ((sym l.linked.0.0 i, same i), sym is i)) l.linked.1)
 
   pub rest_line : (h : Ptr) (ns rest : Row X) (b : Block X) → IsDoubleLine h ns → 0 < length ns → slice_get (box_values ns) 0 ≡ Some b → rest ≡ drop 1 ns → AreNullComparable (box_addresses rest) → IsDoubleLine (next_of b) rest
   rest_line h ns rest b l some e is a = let on = rest_led h ns rest b l some e is in record { comparable = a; prev = h; last = on.0; linked = on.1 }
@@ -122,7 +122,7 @@ module _ {X : Type 0} where
   -- the first node, which is cut off and leads back to another
   first_led : (h : Ptr) (ns : Row X) (b : Block X) → IsDoubleLine h ns → 0 < length ns → slice_get (box_values ns) 0 ≡ Some b → (p : Ptr) × Segment p h (take 1 ns) h (next_of b)
   first_led h [] b l some e = absurd (omega (arith, some))
-  first_led h (n ∷ ns) b l some e = let same : n.2 ≡ b = cc in (l.prev, (l.linked.0, l.linked.1, (ap (λ (x : Block X). next_of x) same, l.linked.0)))
+  first_led h (n ∷ ns) b l some e = let same : block_of n ≡ b = cc in (l.prev, (l.linked.0, (ap (λ (x : Block X). next_of x) same, l.linked.0.0)))
 
   pub first_relinked : (h : Ptr) (ns one : Row X) (b c : Block X) (pr : Address) → IsDoubleLine h ns → 0 < length ns → slice_get (box_values ns) 0 ≡ Some b → one ≡ take 1 ns → slice_get (box_values one) 0 ≡ Some c
       → Segment pr.ptr h (set_value one 0 (with_prev c pr)) h (next_of b)
@@ -133,13 +133,13 @@ module _ {X : Type 0} where
   pub cut_shown : (h : Ptr) (ns one rest : Row X) (c d : Nodes X) → nodes_of ns ≡ c → IsDoubleLine h ns → 0 < length ns → one ≡ take 1 ns → rest ≡ drop 1 ns → nodes_of rest ≡ d → (e : Element X) × (nodes_of one ≡ (h, e) ∷ []) × (c ≡ (h, e) ∷ d)
   cut_shown h [] one rest c d seen l some f g left = absurd (omega (arith, some))
   cut_shown h (n ∷ ns) one rest c d seen l some f g left =
-      let e = block_element n.2 in let at : n.0 ≡ h = sym l.linked.0 in
+      let e = block_element (block_of n) in let at : n.0 ≡ h = sym l.linked.0.0 in
       (e, ap nodes_of f ∙ (λ i. (at i, e) ∷ []), sym seen ∙ (λ i. (at i, e) ∷ nodes_of ns) ∙ ap (λ s. (h, e) ∷ s) (ap nodes_of (sym g) ∙ left))
 
   -- the only node of a line
   pub one_alone : (h : Ptr) (ns : Row X) (c : Nodes X) → nodes_of ns ≡ c → IsDoubleLine h ns → length c ≡ 1 → (a : Global) × (x : Block X) × (ns ≡ (h, a, x) ∷ [])
   one_alone h [] c seen l one = let long = length_is [] c seen in absurd (omega (arith, one, long))
-  one_alone h (n ∷ []) c seen l one = (n.1, n.2, λ i. (sym l.linked.0 i, n.1, n.2) ∷ [])
+  one_alone h (n ∷ []) c seen l one = (n.1, block_of n, λ i. (sym l.linked.0.0 i, n.1, block_of n) ∷ [])
   one_alone h (n ∷ m ∷ ns) c seen l one = let long = length_is (n ∷ m ∷ ns) c seen in absurd (omega (arith, one, long))
 
   -- a node that leads to nothing is a line

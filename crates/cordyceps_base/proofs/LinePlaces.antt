@@ -3,10 +3,10 @@ use Rattle.std.proofs.Common.{◌≡◌, ℕ, zero, suc, Bool, false, if◌then�
 use denote.RawPtr.{Ptr}
 use Rattle.cordyceps_base.specs.declared.boxes.Address.{Address}
 use Rattle.cordyceps_base.specs.Boxes.{box_addresses}
-use Rattle.cordyceps_base.specs.DoubleLines.{flat, Lead, IsTakenOut}
-use Rattle.cordyceps_base.specs.Nodes.{Nodes, OwnedNode, block_element, nodes_of}
+use Rattle.cordyceps_base.specs.DoubleLines.{flat, Lead, NodeAt, IsTakenOut}
+use Rattle.cordyceps_base.specs.Nodes.{Nodes, OwnedNode, block_of, block_element, nodes_of}
 use Rattle.cordyceps_base.specs.Spots.{same_ptr, index_of, IsNew, AreDistinct}
-use Rattle.cordyceps_base.proofs.DoubleLines.{other_way, flat-append, seen, LineAt}
+use Rattle.cordyceps_base.proofs.DoubleLines.{other_way, flat-append, take_past, drop_past, seen, LineAt}
 use Rattle.cordyceps_base.proofs.Nodes.{nodes_of-append}
 use Rattle.cordyceps_base.proofs.SpotsMemory.{same_ptr_refl}
 
@@ -20,13 +20,11 @@ place_past [] qs p d = ap (λ (b : Bool). if b then zero else suc (index_of p qs
 place_past (q ∷ ps) qs p d =
     ap (λ (b : Bool). if b then zero else suc (index_of p (ps ++ p ∷ qs))) (other_way q p (new_in ps qs p q d.0)) ∙ ap suc (place_past ps qs p d.1)
 
-pub take_past : {A : Type 0} (xs ys : List A) → take (length xs) (xs ++ ys) ≡ xs
-take_past [] ys = refl
-take_past (x ∷ xs) ys = ap (λ s. x ∷ s) (take_past xs ys)
-
-pub drop_past : {A : Type 0} (xs ys : List A) → drop (length xs) (xs ++ ys) ≡ ys
-drop_past [] ys = refl
-drop_past (x ∷ xs) ys = drop_past xs ys
+pub item_past : {A : Type 0} (front back : List A) (x : A) (k : ℕ) → length front ≡ k → slice_get (front ++ x ∷ back) k ≡ Some x
+item_past [] back x zero e = refl
+item_past [] back x (suc k) e = absurd cc
+item_past (y ∷ front) back x zero e = absurd cc
+item_past (y ∷ front) back x (suc k) e = let on : length front ≡ k = cc in item_past front back x k on
 
 abbrev pub Row : Type 0 → Type 0
 Row X = List (OwnedNode X)
@@ -63,15 +61,12 @@ module _ {X : Type 0} where
     pub lines : ls ≡ before ++ (front ++ node ∷ back) ∷ after
     pub at : node.0 ≡ p
 
-  abbrev InLine : Row X → Ptr → Type 0
-  InLine l p = (xs : Row X) × (n : OwnedNode X) × (ys : Row X) × (l ≡ xs ++ n ∷ ys) × (n.0 ≡ p)
-
-  in_line : (l c : Row X) (p : Ptr) (j : ℕ) → slice_get (box_addresses (l ++ c)) j ≡ Some p → InLine l p ⊎ ((i : ℕ) × (slice_get (box_addresses c) i ≡ Some p))
+  in_line : (l c : Row X) (p : Ptr) (j : ℕ) → slice_get (box_addresses (l ++ c)) j ≡ Some p → NodeAt p l ⊎ ((i : ℕ) × (slice_get (box_addresses c) i ≡ Some p))
   in_line [] c p j e = inr (j, e)
-  in_line (n ∷ l) c p zero e = inl ([], n, l, refl, cc)
+  in_line (n ∷ l) c p zero e = inl (record { front = []; node = n; back = l; parts = refl; at = cc })
   in_line (n ∷ l) c p (suc j) e =
       elim (in_line l c p j e) [
-        | inl o ↦ inl (n ∷ o.0, o.1, o.2, ap (λ s. n ∷ s) o.3, o.4)
+        | inl o ↦ inl (record { front = n ∷ o.front; node = o.node; back = o.back; parts = ap (λ s. n ∷ s) o.parts; at = o.at })
         | inr o ↦ inr o
       ]
 
@@ -79,7 +74,7 @@ module _ {X : Type 0} where
   place_in [] p j e = absurd cc
   place_in (l ∷ ls) p j e =
       elim (in_line l (flat ls) p j e) [
-        | inl o ↦ record { before = []; front = o.0; node = o.1; back = o.2; after = ls; lines = ap (λ s. s ∷ ls) o.3; at = o.4 }
+        | inl o ↦ record { before = []; front = o.front; node = o.node; back = o.back; after = ls; lines = ap (λ s. s ∷ ls) o.parts; at = o.at }
         | inr o ↦ let on = place_in ls p o.0 o.1 in
             record { before = l ∷ on.before; front = on.front; node = on.node; back = on.back; after = on.after; lines = ap (λ s. l ∷ s) on.lines; at = on.at }
       ]
@@ -117,12 +112,12 @@ module _ {X : Type 0} where
   seen_around (m ∷ before) after l = ap (λ s. nodes_of m ∷ s) (seen_around before after l)
 
   pub seen_taken : (before after : List (Row X)) (xs ys : Row X) (n : OwnedNode X) (c d : List (Nodes X)) (p : Ptr) → n.0 ≡ p → c ≡ seen (before ++ (xs ++ n ∷ ys) ∷ after)
-      → (l : Row X) → nodes_of l ≡ nodes_of xs ++ nodes_of ys → d ≡ seen (before ++ l ∷ after) → IsTakenOut c p (block_element n.2) d
+      → (l : Row X) → nodes_of l ≡ nodes_of xs ++ nodes_of ys → d ≡ seen (before ++ l ∷ after) → IsTakenOut c p (block_element (block_of n)) d
   seen_taken before after xs ys n c d p at was l left is = (
     seen before,
     seen after,
     nodes_of xs,
     nodes_of ys,
-    was ∙ seen_around before after (xs ++ n ∷ ys) ∙ (λ i. seen before ++ (nodes_of-append xs (n ∷ ys) i) ∷ seen after) ∙ (λ i. seen before ++ (nodes_of xs ++ (at i, block_element n.2) ∷ nodes_of ys) ∷ seen after),
+    was ∙ seen_around before after (xs ++ n ∷ ys) ∙ (λ i. seen before ++ (nodes_of-append xs (n ∷ ys) i) ∷ seen after) ∙ (λ i. seen before ++ (nodes_of xs ++ (at i, block_element (block_of n)) ∷ nodes_of ys) ∷ seen after),
     is ∙ seen_around before after l ∙ ap (λ s. seen before ++ s ∷ seen after) left,
   )

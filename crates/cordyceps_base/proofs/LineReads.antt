@@ -8,11 +8,11 @@ use Rattle.cordyceps_base.specs.Boxes.{box_addresses, box_values}
 use Rattle.cordyceps_base.specs.DoubleChain.{Segment, next_of}
 use Rattle.cordyceps_base.specs.DoubleLines.{flat, lines_in, Lead, AreLines, IsFirstOut}
 use Rattle.cordyceps_base.specs.Element.{Element, values}
-use Rattle.cordyceps_base.specs.Nodes.{Nodes, elements, OwnedNode, block_element, nodes_of}
+use Rattle.cordyceps_base.specs.Nodes.{Nodes, elements, OwnedNode, block_of, block_element, nodes_of}
 use Rattle.cordyceps_base.specs.Spots.{index_of, AreDistinct, AreNullComparable}
 use Rattle.cordyceps_base.proofs.DoubleLines.{seen, LineAt, line_k, lead_between, table_shows}
-use Rattle.cordyceps_base.proofs.LinePlaces.{cut_parts, flat_between, seen_around}
-use Rattle.cordyceps_base.proofs.Segments.{first_testable, comparable_front, comparable_back}
+use Rattle.cordyceps_base.proofs.LinePlaces.{cut_parts, flat_between, item_past, seen_around}
+use Rattle.cordyceps_base.proofs.Segments.{first_testable, none_led, comparable_front, comparable_back}
 
 -- an item of an array, of which a part is used
 abbrev pub none : Address
@@ -42,11 +42,9 @@ abbrev pub Row : Type 0 → Type 0
 Row X = List (OwnedNode X)
 
 module _ {X : Type 0} where
-  get_seen : (before after : List (Row X)) (l : Row X) (k : ℕ) → length before ≡ k → slice_get (seen (before ++ l ∷ after)) k ≡ Some (nodes_of l)
-  get_seen [] after l zero n = refl
-  get_seen [] after l (suc k) n = absurd cc
-  get_seen (m ∷ before) after l zero n = absurd cc
-  get_seen (m ∷ before) after l (suc k) n = let on : length before ≡ k = cc in get_seen before after l k on
+  seen_long : (ls : List (Row X)) → length (seen ls) ≡ length ls
+  seen_long [] = refl
+  seen_long (l ∷ ls) = ap suc (seen_long ls)
 
   -- all that is known of line k
   pub record AtLine (hs : List Address) (ns : Row X) (k : ℕ) (h : Address) : Type 0 where
@@ -66,9 +64,9 @@ module _ {X : Type 0} where
     pub comparable : AreNullComparable (box_addresses line)
 
   pub at_line : (hs : List Address) (ns : Row X) (k : ℕ) (h : Address) → AreLines hs ns → slice_get hs k ≡ Some h → AtLine hs ns k h
-  at_line hs ns k h (a, d, (ls, is, f)) e =
-      let u = line_k hs ls k h f e in
-      let whole : ns ≡ flat u.before ++ (u.line ++ flat u.after) = is ∙ ap flat u.lines ∙ flat_between u.before u.after u.line in
+  at_line hs ns k h w e =
+      let u = line_k hs w.lines k h w.led e in
+      let whole : ns ≡ flat u.before ++ (u.line ++ flat u.after) = w.parts ∙ ap flat u.lines ∙ flat_between u.before u.after u.line in
       record {
         front = u.front;
         back = u.back;
@@ -82,8 +80,8 @@ module _ {X : Type 0} where
         here = u.here;
         led_back = u.last;
         whole = whole;
-        shows = table_shows hs ns ls is f a d ∙ ap seen u.lines;
-        comparable = comparable_front u.line (flat u.after) (comparable_back (flat u.before) (u.line ++ flat u.after) (subst (λ ls. AreNullComparable (box_addresses ls)) whole a));
+        shows = table_shows hs ns w.lines w.parts w.led w.comparable w.distinct ∙ ap seen u.lines;
+        comparable = comparable_front u.line (flat u.after) (comparable_back (flat u.before) (u.line ++ flat u.after) (subst (λ ls. AreNullComparable (box_addresses ls)) whole w.comparable));
       }
 
   module _ {hs : List Address} {ns : Row X} {k : ℕ} {h : Address} (u : AtLine hs ns k h) where
@@ -91,60 +89,60 @@ module _ {X : Type 0} where
     at_testable = first_testable null_ptr h.ptr u.line u.here.0 u.here.1 u.comparable
 
     pub at_shown : (c : List (Nodes X)) → lines_in hs (nodes_of ns) ≡ c → slice_get c k ≡ Some (nodes_of u.line)
-    at_shown c e = ap (λ s. slice_get s k) (sym e ∙ u.shows) ∙ get_seen u.before u.after u.line k u.count
+    at_shown c e = ap (λ s. slice_get s k) (sym e ∙ u.shows) ∙ ap (λ s. slice_get s k) (seen_around u.before u.after u.line) ∙ item_past (seen u.before) (seen u.after) (nodes_of u.line) k (seen_long u.before ∙ u.count)
 
     pub at_none : h.ptr ≡ null_ptr → nodes_of u.line ≡ []
-    at_none e = none u.line u.here u.comparable where
-      none : (l : Row X) → LineAt h.ptr l → AreNullComparable (box_addresses l) → nodes_of l ≡ []
-      none [] f a = refl
-      none (n ∷ l) f a = absurd (subst InBlock (sym f.1.0 ∙ e) a.0)
+    at_none e = ap nodes_of (none_led null_ptr h.ptr u.line u.here.0 u.here.1 u.comparable e)
 
     -- its first node, where there is one
-    abbrev pub FirstOf : Type 0
-    FirstOf = (n : OwnedNode X) × (m : Row X) × (u.line ≡ n ∷ m) × (n.0 ≡ h.ptr)
+    pub record FirstOf : Type 0 where
+      pub node : OwnedNode X
+      pub rest : Row X
+      pub parts : u.line ≡ node ∷ rest
+      pub at : node.0 ≡ h.ptr
 
     pub at_some : InBlock h.ptr → FirstOf
-    at_some i = some u.line u.here where
-      some : (l : Row X) → LineAt h.ptr l → (n : OwnedNode X) × (m : Row X) × (l ≡ n ∷ m) × (n.0 ≡ h.ptr)
-      some [] f = absurd (subst InBlock f.1.0 i)
-      some (n ∷ m) f = (n, m, refl, sym f.1.0)
+    at_some i = some u.line u.here refl where
+      some : (l : Row X) → LineAt h.ptr l → u.line ≡ l → FirstOf
+      some [] f e = absurd (subst InBlock f.1.0 i)
+      some (n ∷ m) f e = record { node = n; rest = m; parts = e; at = sym f.1.0.0 }
 
     pub at_node : (c : List (Nodes X)) (x : Ptr × Element X) (l : Nodes X) → lines_in hs (nodes_of ns) ≡ c → slice_get c k ≡ Some (x ∷ l) → FirstOf
-    at_node c x l e there = some u.line u.here (sym (at_shown c e) ∙ there) where
-      some : (r : Row X) → LineAt h.ptr r → Some (nodes_of r) ≡ Some (x ∷ l) → (n : OwnedNode X) × (m : Row X) × (r ≡ n ∷ m) × (n.0 ≡ h.ptr)
-      some [] f same = absurd cc
-      some (n ∷ m) f same = (n, m, refl, sym f.1.0)
+    at_node c x l e there = some u.line u.here refl where
+      some : (r : Row X) → LineAt h.ptr r → u.line ≡ r → FirstOf
+      some [] f is = let empty : Some (nodes_of []) ≡ Some (x ∷ l) = ap (λ r. Some (nodes_of r)) (sym is) ∙ sym (at_shown c e) ∙ there in absurd cc
+      some (n ∷ m) f is = record { node = n; rest = m; parts = is; at = sym f.1.0.0 }
 
     module _ (f : FirstOf) where
-      pub at_whole : ns ≡ flat u.before ++ f.0 ∷ (f.1 ++ flat u.after)
-      at_whole = u.whole ∙ ap (λ l. flat u.before ++ (l ++ flat u.after)) f.2
+      pub at_whole : ns ≡ flat u.before ++ f.node ∷ (f.rest ++ flat u.after)
+      at_whole = u.whole ∙ ap (λ l. flat u.before ++ (l ++ flat u.after)) f.parts
 
-      pub at_cut : (fr bk : Row X) → AreDistinct (box_addresses ns) → (fr ≡ take (index_of h.ptr (box_addresses ns)) ns) × (bk ≡ drop (index_of h.ptr (box_addresses ns)) ns) → (fr ≡ flat u.before) × (bk ≡ f.0 ∷ (f.1 ++ flat u.after))
-      at_cut fr bk d cut = cut_parts ns (flat u.before) (f.1 ++ flat u.after) fr bk f.0 h.ptr at_whole f.3 d cut
+      pub at_cut : (fr bk : Row X) → AreDistinct (box_addresses ns) → (fr ≡ take (index_of h.ptr (box_addresses ns)) ns) × (bk ≡ drop (index_of h.ptr (box_addresses ns)) ns) → (fr ≡ flat u.before) × (bk ≡ f.node ∷ (f.rest ++ flat u.after))
+      at_cut fr bk d cut = cut_parts ns (flat u.before) (f.rest ++ flat u.after) fr bk f.node h.ptr at_whole f.at d cut
 
       pub at_there : (bk : Row X) → AreDistinct (box_addresses ns) → bk ≡ drop (index_of h.ptr (box_addresses ns)) ns → slice_get (box_addresses bk) 0 ≡ Some h.ptr
-      at_there bk d e = ap (λ ls. slice_get (box_addresses ls) 0) (at_cut (take (index_of h.ptr (box_addresses ns)) ns) bk d (refl, e)).1 ∙ ap Some f.3
+      at_there bk d e = ap (λ ls. slice_get (box_addresses ls) 0) (at_cut (take (index_of h.ptr (box_addresses ns)) ns) bk d (refl, e)).1 ∙ ap Some f.at
 
-      pub at_read : (bk : Row X) (b : Block X) → AreDistinct (box_addresses ns) → bk ≡ drop (index_of h.ptr (box_addresses ns)) ns → slice_get (box_values bk) 0 ≡ Some b → f.0.2 ≡ b
+      pub at_read : (bk : Row X) (b : Block X) → AreDistinct (box_addresses ns) → bk ≡ drop (index_of h.ptr (box_addresses ns)) ns → slice_get (box_values bk) 0 ≡ Some b → block_of f.node ≡ b
       at_read bk b d e r =
-          let r' : slice_get (box_values (f.0 ∷ (f.1 ++ flat u.after))) 0 ≡ Some b = subst (λ ls. slice_get (box_values ls) 0 ≡ Some b) (at_cut (take (index_of h.ptr (box_addresses ns)) ns) bk d (refl, e)).1 r in cc
+          let r' : slice_get (box_values (f.node ∷ (f.rest ++ flat u.after))) 0 ≡ Some b = subst (λ ls. slice_get (box_values ls) 0 ≡ Some b) (at_cut (take (index_of h.ptr (box_addresses ns)) ns) bk d (refl, e)).1 r in cc
 
       pub at_value : (bk : Row X) (b : Block X) → AreDistinct (box_addresses ns) → bk ≡ drop (index_of h.ptr (box_addresses ns)) ns → slice_get (box_values bk) 0 ≡ Some b → slice_get (values (elements (nodes_of u.line))) 0 ≡ Some b.value
-      at_value bk b d e r = ap (λ l. slice_get (values (elements (nodes_of l))) 0) f.2 ∙ ap (λ (x : Block X). Some x.value) (at_read bk b d e r)
+      at_value bk b d e r = ap (λ l. slice_get (values (elements (nodes_of l))) 0) f.parts ∙ ap (λ (x : Block X). Some x.value) (at_read bk b d e r)
 
-      pub at_rest : (t : Ptr) × Segment h.ptr (next_of f.0.2) f.1 t null_ptr
-      at_rest = let g : LineAt h.ptr (f.0 ∷ f.1) = subst (LineAt h.ptr) f.2 u.here in (g.0, subst (λ p. Segment p (next_of f.0.2) f.1 g.0 null_ptr) f.3 g.1.2)
+      pub at_rest : (t : Ptr) × Segment h.ptr (next_of (block_of f.node)) f.rest t null_ptr
+      at_rest = let g : LineAt h.ptr (f.node ∷ f.rest) = subst (LineAt h.ptr) f.parts u.here in (g.0, subst (λ p. Segment p (next_of (block_of f.node)) f.rest g.0 null_ptr) f.at g.1.1)
 
 -- ---- a table whose line k lost its first node
 module _ {X : Type 0} (xs : List Address) (n : ℕ) {ns : List (OwnedNode X)} {k : ℕ} {h : Address} (u : AtLine (take n xs) ns k h) (f : FirstOf u) where
-  pub out_rest : (bk rest : List (OwnedNode X)) → bk ≡ f.0 ∷ (f.1 ++ flat u.after) → rest ≡ drop 1 bk → rest ≡ f.1 ++ flat u.after
+  pub out_rest : (bk rest : List (OwnedNode X)) → bk ≡ f.node ∷ (f.rest ++ flat u.after) → rest ≡ drop 1 bk → rest ≡ f.rest ++ flat u.after
   out_rest bk rest is e = e ∙ ap (drop 1) is
 
-  pub out_one : (bk one : List (OwnedNode X)) → bk ≡ f.0 ∷ (f.1 ++ flat u.after) → one ≡ take 1 bk → one ≡ (h.ptr, f.0.1, f.0.2) ∷ []
-  out_one bk one is e = e ∙ ap (take 1) is ∙ (λ i. (f.3 i, f.0.1, f.0.2) ∷ [])
+  pub out_one : (bk one : List (OwnedNode X)) → bk ≡ f.node ∷ (f.rest ++ flat u.after) → one ≡ take 1 bk → one ≡ (h.ptr, f.node.1, block_of f.node) ∷ []
+  out_one bk one is e = e ∙ ap (take 1) is ∙ (λ i. (f.at i, f.node.1, block_of f.node) ∷ [])
 
-  pub out_led : (b : Block X) → f.0.2 ≡ b → (p : Ptr) × (t : Ptr) × Segment p b.links.next.ptr f.1 t null_ptr
-  out_led b same = let g = at_rest u f in (h.ptr, g.0, subst (λ (x : Block X). Segment h.ptr (next_of x) f.1 g.0 null_ptr) same g.1)
+  pub out_led : (b : Block X) → block_of f.node ≡ b → (p : Ptr) × (t : Ptr) × Segment p b.links.next.ptr f.rest t null_ptr
+  out_led b same = let g = at_rest u f in (h.ptr, g.0, subst (λ (x : Block X). Segment h.ptr (next_of x) f.rest g.0 null_ptr) same g.1)
 
   module _ (next : Address) (m row : List (OwnedNode X)) (led : LineAt next.ptr m) (is : row ≡ flat u.before ++ (m ++ flat u.after)) (a : AreNullComparable (box_addresses row)) (d : AreDistinct (box_addresses row)) where
     out_lead : Lead (take n (set xs k next)) (u.before ++ m ∷ u.after)
@@ -154,17 +152,14 @@ module _ {X : Type 0} (xs : List Address) (n : ℕ) {ns : List (OwnedNode X)} {k
     out_whole = is ∙ sym (flat_between u.before u.after m)
 
     pub out_lines : AreLines (take n (set xs k next)) row
-    out_lines = (a, d, (u.before ++ m ∷ u.after, out_whole, out_lead))
+    out_lines = record { comparable = a; distinct = d; lines = u.before ++ m ∷ u.after; parts = out_whole; led = out_lead }
 
-    pub out_shown : (c : List (Nodes X)) → lines_in (take n xs) (nodes_of ns) ≡ c → nodes_of m ≡ nodes_of f.1 → IsFirstOut c k h.ptr (block_element f.0.2) (lines_in (take n (set xs k next)) (nodes_of row))
+    pub out_shown : (c : List (Nodes X)) → lines_in (take n xs) (nodes_of ns) ≡ c → nodes_of m ≡ nodes_of f.rest → IsFirstOut c k h.ptr (block_element (block_of f.node)) (lines_in (take n (set xs k next)) (nodes_of row))
     out_shown c view same = (
       seen u.before,
       seen u.after,
-      nodes_of f.1,
-      long u.before ∙ u.count,
-      sym view ∙ u.shows ∙ seen_around u.before u.after u.line ∙ (λ i. seen u.before ++ nodes_of (f.2 i) ∷ seen u.after) ∙ (λ i. seen u.before ++ ((f.3 i, block_element f.0.2) ∷ nodes_of f.1) ∷ seen u.after),
+      nodes_of f.rest,
+      seen_long u.before ∙ u.count,
+      sym view ∙ u.shows ∙ seen_around u.before u.after u.line ∙ (λ i. seen u.before ++ nodes_of (f.parts i) ∷ seen u.after) ∙ (λ i. seen u.before ++ ((f.at i, block_element (block_of f.node)) ∷ nodes_of f.rest) ∷ seen u.after),
       table_shows (take n (set xs k next)) row (u.before ++ m ∷ u.after) out_whole out_lead a d ∙ seen_around u.before u.after m ∙ (λ i. seen u.before ++ same i ∷ seen u.after),
-    ) where
-      long : (ls : List (List (OwnedNode X))) → length (seen ls) ≡ length ls
-      long [] = refl
-      long (l ∷ ls) = ap suc (long ls)
+    )

@@ -23,8 +23,10 @@ module _ {X : Type 0} where
     by_ptr null_ptr on = ap suc (on c)
 
   pub no_lines : (hs : List Address) (ns : Row X) → AreLines hs ns → lines_in hs (nodes_of ns) ≡ [] → ns ≡ []
-  no_lines [] ns (a, d, ([], is, f)) e = is
-  no_lines [] ns (a, d, (l ∷ ls, is, f)) e = absurd f
+  no_lines [] ns w e = none w.lines w.parts w.led where
+    none : (ls : List (Row X)) → ns ≡ flat ls → Lead [] ls → ns ≡ []
+    none [] is f = is
+    none (l ∷ ls) is f = absurd f
   no_lines (h ∷ hs) ns w e = let long = lines_long (h ∷ hs) (nodes_of ns) in let none = ap length e in absurd (omega (arith, long, none))
 
   pub seen_with : (ls : List (Row X)) (l : Row X) → seen (ls ++ l ∷ []) ≡ seen ls ++ nodes_of l ∷ []
@@ -33,19 +35,21 @@ module _ {X : Type 0} where
 
   -- ---- a line more
   pub lines_with : (hs : List Address) (ns more row : Row X) (h : Address) → AreLines hs ns → LineAt h.ptr more → row ≡ ns ++ more → AreNullComparable (box_addresses row) → AreDistinct (box_addresses row) → AreLines (hs ++ h ∷ []) row
-  lines_with hs ns more row h (a, d, (ls, is, f)) l whole b e =
-      (b, e, (ls ++ more ∷ [], whole ∙ ap (λ s. s ++ more) is ∙ sym (flat_with ls more), lead_with hs ls h more f l))
+  lines_with hs ns more row h w l whole b e =
+      record { comparable = b; distinct = e; lines = w.lines ++ more ∷ []; parts = whole ∙ ap (λ s. s ++ more) w.parts ∙ sym (flat_with w.lines more); led = lead_with hs w.lines h more w.led l }
 
   pub with_shown : (hs : List Address) (ns more row : Row X) (h : Address) (c : List (Nodes X)) (l : Nodes X) → AreLines hs ns → LineAt h.ptr more → row ≡ ns ++ more → AreNullComparable (box_addresses row) → AreDistinct (box_addresses row)
       → lines_in hs (nodes_of ns) ≡ c → nodes_of more ≡ l → lines_in (hs ++ h ∷ []) (nodes_of row) ≡ c ++ l ∷ []
-  with_shown hs ns more row h c l (a, d, (ls, is, f)) w whole b e seen_c seen_l =
-      table_shows (hs ++ h ∷ []) row (ls ++ more ∷ []) (whole ∙ ap (λ s. s ++ more) is ∙ sym (flat_with ls more)) (lead_with hs ls h more f w) b e
-      ∙ seen_with ls more ∙ (λ i. (sym (table_shows hs ns ls is f a d) ∙ seen_c) i ++ seen_l i ∷ [])
+  unfolding lines_with
+  with_shown hs ns more row h c l w at whole b e seen_c seen_l =
+      let all = lines_with hs ns more row h w at whole b e in
+      table_shows (hs ++ h ∷ []) row all.lines all.parts all.led b e
+      ∙ seen_with w.lines more ∙ (λ i. (sym (table_shows hs ns w.lines w.parts w.led w.comparable w.distinct) ∙ seen_c) i ++ seen_l i ∷ [])
 
   -- ---- a line less
   past_all : (ns : Row X) → AreNullComparable (box_addresses ns) → index_of null_ptr (box_addresses ns) ≡ length ns
   past_all [] a = refl
-  past_all (n ∷ ns) a = here n.0 a.0 (past_all ns a.2) where
+  past_all (n ∷ ns) a = here n.0 a.0.0 (past_all ns a.1) where
     here : (p : Ptr) → InBlock p → index_of null_ptr (box_addresses ns) ≡ length ns → (if same_ptr null_ptr p then zero else suc (index_of null_ptr (box_addresses ns))) ≡ suc (length ns)
     here (block_ptr b o) i on = ap suc on
     here null_ptr i on = absurd i
@@ -63,7 +67,7 @@ module _ {X : Type 0} where
   line_cut ns xs [] front back h is f a d (g, k) =
       let n : index_of h (box_addresses ns) ≡ length ns = ap (λ p. index_of p (box_addresses ns)) f.1.0 ∙ past_all ns a in
       (g ∙ ap (λ j. take j ns) n ∙ take_whole ns ∙ is ∙ append-nil xs, k ∙ ap (λ j. drop j ns) n ∙ drop_whole ns)
-  line_cut ns xs (n ∷ l) front back h is f a d cut = cut_parts ns xs l front back n h is (sym f.1.0) d cut
+  line_cut ns xs (n ∷ l) front back h is f a d cut = cut_parts ns xs l front back n h is (sym f.1.0.0) d cut
 
   -- a row that is taken out of a table, and cut
   abbrev pub IsCut : Ptr → Row X → Row X → Row X → Type 0
@@ -84,16 +88,16 @@ module _ {X : Type 0} where
     pub all : Lead (hs ++ h ∷ []) (lines ++ line ∷ [])
 
   pub less : (hs : List Address) (h : Address) (ns front back : Row X) → AreLines (hs ++ h ∷ []) ns → (front ≡ take (index_of h.ptr (box_addresses ns)) ns) × (back ≡ drop (index_of h.ptr (box_addresses ns)) ns) → Less hs h ns front back
-  less hs h ns front back (a, d, (ls, is, f)) cut =
-      let (ms, l, parts, led, here) = lead_without hs h ls f in
-      let whole : ns ≡ flat (ms ++ l ∷ []) = is ∙ ap flat parts in
-      let on = line_cut ns (flat ms) l front back h.ptr (whole ∙ flat_with ms l) here a d cut in
-      record { lines = ms; line = l; first = on.0; second = on.1; led = led; here = here; whole = whole; all = subst (Lead (hs ++ h ∷ [])) parts f }
+  less hs h ns front back w cut =
+      let (ms, l, parts, led, here) = lead_without hs h w.lines w.led in
+      let whole : ns ≡ flat (ms ++ l ∷ []) = w.parts ∙ ap flat parts in
+      let on = line_cut ns (flat ms) l front back h.ptr (whole ∙ flat_with ms l) here w.comparable w.distinct cut in
+      record { lines = ms; line = l; first = on.0; second = on.1; led = led; here = here; whole = whole; all = subst (Lead (hs ++ h ∷ [])) parts w.led }
 
   pub less_shown : (hs : List Address) (h : Address) (ns front back row : Row X) (c : List (Nodes X)) → AreLines (hs ++ h ∷ []) ns → (u : Less hs h ns front back) → lines_in (hs ++ h ∷ []) (nodes_of ns) ≡ c
       → row ≡ front → AreNullComparable (box_addresses row) → AreDistinct (box_addresses row) → c ≡ lines_in hs (nodes_of row) ++ nodes_of back ∷ []
-  less_shown hs h ns front back row c (a, d, _) u view is b e =
-      sym view ∙ table_shows (hs ++ h ∷ []) ns (u.lines ++ u.line ∷ []) u.whole u.all a d ∙ seen_with u.lines u.line
+  less_shown hs h ns front back row c w u view is b e =
+      sym view ∙ table_shows (hs ++ h ∷ []) ns (u.lines ++ u.line ∷ []) u.whole u.all w.comparable w.distinct ∙ seen_with u.lines u.line
       ∙ (λ i. sym (table_shows hs row u.lines (is ∙ u.first) u.led b e) i ++ nodes_of (sym u.second i) ∷ [])
 
 -- ---- the part of an array that is used
@@ -121,37 +125,37 @@ take_last xs n x p q e = let on : n ≡ suc (n - 1) = omega (arith, p) in ap (λ
 module _ {X : Type 0} where
   pub table_count : (xs : List Address) (n : ℕ) (ns : List (OwnedNode X)) (c : List (Nodes X)) → IsTable xs n ns → lines_in (take n xs) (nodes_of ns) ≡ c → n ≡ length c
   table_count xs n ns c w e =
-      let long = w.0 in let most = w.1 in
+      let long = w.long in let most = w.within in
       sym (took xs n (omega (arith, long, most))) ∙ sym (lines_long (take n xs) (nodes_of ns)) ∙ ap length e
 
   pub table_with : (xs : List Address) (n : ℕ) (ns more row : List (OwnedNode X)) (h : Address) → IsTable xs n ns → LineAt h.ptr more → n < 64 → row ≡ ns ++ more → AreNullComparable (box_addresses row) → AreDistinct (box_addresses row) → IsTable (set xs n h) (n + 1) row
   table_with xs n ns more row h w l less is a d =
-      let long = w.0 in (
-        set_long xs n h ∙ long,
-        omega (arith, less),
-        subst (λ hs. AreLines hs row) (sym (take_more_set xs n h (omega (arith, long, less)))) (lines_with (take n xs) ns more row h w.2 l is a d),
-      )
+      let long = w.long in record {
+        long = set_long xs n h ∙ long;
+        within = omega (arith, less);
+        lines = subst (λ hs. AreLines hs row) (sym (take_more_set xs n h (omega (arith, long, less)))) (lines_with (take n xs) ns more row h w.lines l is a d);
+      }
 
   pub table_with_shown : (xs : List Address) (n : ℕ) (ns more row : List (OwnedNode X)) (h : Address) (c : List (Nodes X)) (l : Nodes X) → IsTable xs n ns → LineAt h.ptr more → n < 64 → row ≡ ns ++ more → AreNullComparable (box_addresses row) → AreDistinct (box_addresses row)
       → lines_in (take n xs) (nodes_of ns) ≡ c → nodes_of more ≡ l → lines_in (take (n + 1) (set xs n h)) (nodes_of row) ≡ c ++ l ∷ []
   table_with_shown xs n ns more row h c l w m less is a d seen_c seen_l =
-      let long = w.0 in
-      ap (λ hs. lines_in hs (nodes_of row)) (take_more_set xs n h (omega (arith, long, less))) ∙ with_shown (take n xs) ns more row h c l w.2 m is a d seen_c seen_l
+      let long = w.long in
+      ap (λ hs. lines_in hs (nodes_of row)) (take_more_set xs n h (omega (arith, long, less))) ∙ with_shown (take n xs) ns more row h c l w.lines m is a d seen_c seen_l
 
   pub table_less : (xs : List Address) (n : ℕ) (h : Address) (ns front back : List (OwnedNode X)) → IsTable xs n ns → 0 < n → h ≡ get_or xs (n - 1) nowhere
       → (front ≡ take (index_of h.ptr (box_addresses ns)) ns) × (back ≡ drop (index_of h.ptr (box_addresses ns)) ns) → Less (take (n - 1) xs) h ns front back
   table_less xs n h ns front back w some e cut =
-      let long = w.0 in let most = w.1 in
-      less (take (n - 1) xs) h ns front back (subst (λ hs. AreLines hs ns) (take_last xs n h some (omega (arith, long, most)) e) w.2) cut
+      let long = w.long in let most = w.within in
+      less (take (n - 1) xs) h ns front back (subst (λ hs. AreLines hs ns) (take_last xs n h some (omega (arith, long, most)) e) w.lines) cut
 
   pub table_less_shown : (xs : List Address) (n : ℕ) (h : Address) (ns front back row : List (OwnedNode X)) (c : List (Nodes X)) → IsTable xs n ns → 0 < n → h ≡ get_or xs (n - 1) nowhere
       → (u : Less (take (n - 1) xs) h ns front back) → lines_in (take n xs) (nodes_of ns) ≡ c → row ≡ front → AreNullComparable (box_addresses row) → AreDistinct (box_addresses row) → c ≡ lines_in (take (n - 1) xs) (nodes_of row) ++ nodes_of back ∷ []
   table_less_shown xs n h ns front back row c w some e u view is a d =
-      let long = w.0 in let most = w.1 in let on = take_last xs n h some (omega (arith, long, most)) e in
-      less_shown (take (n - 1) xs) h ns front back row c (subst (λ hs. AreLines hs ns) on w.2) u (ap (λ hs. lines_in hs (nodes_of ns)) (sym on) ∙ view) is a d
+      let long = w.long in let most = w.within in let on = take_last xs n h some (omega (arith, long, most)) e in
+      less_shown (take (n - 1) xs) h ns front back row c (subst (λ hs. AreLines hs ns) on w.lines) u (ap (λ hs. lines_in hs (nodes_of ns)) (sym on) ∙ view) is a d
 
   pub less_table : (xs : List Address) (n : ℕ) (h : Address) (ns front back row : List (OwnedNode X)) → IsTable xs n ns → Less (take (n - 1) xs) h ns front back → row ≡ front → AreNullComparable (box_addresses row) → AreDistinct (box_addresses row) → IsTable xs (n - 1) row
-  less_table xs n h ns front back row w u is a d = let most = w.1 in (w.0, omega (arith, most), (a, d, (u.lines, is ∙ u.first, u.led)))
+  less_table xs n h ns front back row w u is a d = let most = w.within in record { long = w.long; within = omega (arith, most); lines = record { comparable = a; distinct = d; lines = u.lines; parts = is ∙ u.first; led = u.led } }
 
   pub less_line : (xs : List Address) (n : ℕ) (h : Address) (ns front back row : List (OwnedNode X)) → Less (take (n - 1) xs) h ns front back → row ≡ back → AreNullComparable (box_addresses row) → IsDoubleLine h.ptr row
   less_line xs n h ns front back row u is a =

@@ -6,12 +6,12 @@ use Rattle.cordyceps_base.specs.declared.node.Block.{Block}
 use Rattle.cordyceps_base.specs.Boxes.{box_addresses, box_values}
 use Rattle.cordyceps_base.specs.DoubleChain.{Segment, next_of}
 use Rattle.cordyceps_base.specs.DoubleLines.{flat, lines_in, Lead, IsLeft, IsTable}
-use Rattle.cordyceps_base.specs.Nodes.{Nodes, OwnedNode, entries, nodes_of}
+use Rattle.cordyceps_base.specs.Nodes.{Nodes, OwnedNode, block_of, entries, nodes_of}
 use Rattle.cordyceps_base.specs.Spots.{AreNullComparable}
 use Rattle.cordyceps_base.proofs.DoubleLines.{LineAt}
 use Rattle.cordyceps_base.proofs.LineReads.{none}
 use Rattle.cordyceps_base.proofs.LineSpots.{flat_lines}
-use Rattle.cordyceps_base.proofs.Segments.{first_testable, comparable_front}
+use Rattle.cordyceps_base.proofs.Segments.{first_testable, none_led, comparable_front}
 
 abbrev Row : Type 0 → Type 0
 Row X = List (OwnedNode X)
@@ -42,31 +42,25 @@ module _ {X : Type 0} where
   no_line [] (suc n) (l ∷ ls) f = absurd f
   no_line (x ∷ xs) (suc n) ls f = no_line xs n ls f
 
-  -- a part that a null address leads to has no node
-  none_here : (p h t : Ptr) (l more : Row X) → Segment p h l t null_ptr → h ≡ null_ptr
-      → AreNullComparable (box_addresses (l ++ more)) → l ≡ []
-  none_here p h t [] more f e a = refl
-  none_here p h t (n ∷ l) more f e a = absurd (subst InBlock (sym f.0 ∙ e) a.0)
-
   -- ---- the start
   pub all_left : (xs : List Address) (n : ℕ) (ns : Row X) → IsTable xs n ns → IsLeft xs n 0 null_ptr ns
-  all_left xs n ns (long, within, (a, d, (ls, is, f))) = record {
-    long = long;
+  all_left xs n ns w = record {
+    long = w.long;
     passed = omega arith;
-    within = within;
-    comparable = a;
+    within = w.within;
+    comparable = w.lines.comparable;
     here = [];
-    others = ls;
-    parts = is;
+    others = w.lines.lines;
+    parts = w.lines.parts;
     prev = null_ptr;
     last = null_ptr;
     linked = (refl, refl);
-    led = f;
+    led = w.lines.led;
   }
 
   pub entries_flat : (xs : List Address) (n : ℕ) (ns : Row X) (c : List (Nodes X)) → IsTable xs n ns
       → lines_in (take n xs) (nodes_of ns) ≡ c → entries (nodes_of ns) ≡ entries (flat c)
-  entries_flat xs n ns c w e = ap entries (flat_lines (take n xs) ns c w.2 e)
+  entries_flat xs n ns c w e = ap entries (flat_lines (take n xs) ns c w.lines e)
 
   abbrev AreComparable : Row X → Type 0
   AreComparable ns = AreNullComparable (box_addresses ns)
@@ -80,7 +74,8 @@ module _ {X : Type 0} where
         first_testable u.prev at u.here u.last u.linked (comparable_front u.here (flat u.others) parts_comparable)
 
     passes : at ≡ null_ptr → u.here ≡ []
-    passes e = none_here u.prev at u.last u.here (flat u.others) u.linked e parts_comparable
+    passes e =
+        none_led u.prev at u.here u.last u.linked (comparable_front u.here (flat u.others) parts_comparable) e
 
     -- ---- past a line
     pub line_left : at ≡ null_ptr → line < count → IsLeft xs count (line + 1) (get_or xs line none).ptr ns
@@ -119,7 +114,7 @@ module _ {X : Type 0} where
     first_node i = there u.here u.linked refl where
       there : (l : Row X) → Segment u.prev at l u.last null_ptr → u.here ≡ l → FirstNode
       there [] f e = absurd (subst InBlock f.0 i)
-      there (n ∷ m) f e = record { node = n; rest = m; parts = e; lies = sym f.0 }
+      there (n ∷ m) f e = record { node = n; rest = m; parts = e; lies = sym f.0.0 }
 
     whole : (f : FirstNode) → ns ≡ f.node ∷ (f.rest ++ flat u.others)
     whole f = u.parts ∙ ap (λ l. l ++ flat u.others) f.parts
@@ -128,7 +123,7 @@ module _ {X : Type 0} where
     node_there i = let f = first_node i in ap (λ ls. slice_get (box_addresses ls) 0) (whole f) ∙ ap Some f.lies
 
     module _ (i : InBlock at) (b : Block X) (read : slice_get (box_values ns) 0 ≡ Some b) where
-      node_is : (first_node i).node.2 ≡ b
+      node_is : block_of (first_node i).node ≡ b
       node_is =
           let f = first_node i in
           let there : slice_get (box_values (f.node ∷ (f.rest ++ flat u.others))) 0 ≡ Some b =
@@ -145,13 +140,13 @@ module _ {X : Type 0} where
               long = u.long;
               passed = u.passed;
               within = u.within;
-              comparable = subst AreComparable (sym is) all.2;
+              comparable = subst AreComparable (sym is) all.1;
               here = f.rest;
               others = u.others;
               parts = is;
               prev = f.node.0;
               last = u.last;
-              linked = subst (λ x. Segment f.node.0 (next_of x) f.rest u.last null_ptr) node_is linked.2;
+              linked = subst (λ x. Segment f.node.0 (next_of x) f.rest u.last null_ptr) node_is linked.1;
               led = u.led;
             }
 

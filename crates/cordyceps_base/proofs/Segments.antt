@@ -10,7 +10,7 @@ use Rattle.cordyceps_base.specs.Boxes.{box_addresses, box_values, set_value}
 use Rattle.cordyceps_base.specs.Spots.{same_ptr, index_of, AreNullComparable}
 use Rattle.cordyceps_base.specs.BySpot.{HasSpot, IsFirst, IsLast, AreNext}
 use Rattle.cordyceps_base.specs.DoubleChain.{Segment, IsLinked, next_of, prev_of}
-use Rattle.cordyceps_base.specs.Nodes.{Nodes, spots, block_element, OwnedNode, nodes_of}
+use Rattle.cordyceps_base.specs.Nodes.{Nodes, spots, block_of, block_element, OwnedNode, nodes_of}
 use Rattle.cordyceps_base.proofs.SpotsMemory.{same_ptr_eq, same_ptr_refl}
 use Rattle.cordyceps_base.proofs.Memory.{take-drop}
 use Rattle.cordyceps_base.proofs.DoubleChain.{with_next}
@@ -21,56 +21,59 @@ null_Testable = lit< tt
 
 module _ {Z B : Type 0} where
   -- the box that lies at an address, where the row is cut
-  abbrev pub Found : Ptr → List (Ptr × Z × B) → Type 0
-  Found p ns = (n : Ptr × Z × B) × (ys : List (Ptr × Z × B)) × (drop (index_of p (box_addresses ns)) ns ≡ n ∷ ys) × (n.0 ≡ p)
+  record Found (p : Ptr) (ns : List (Ptr × Z × B)) : Type 0 where
+    box : Ptr × Z × B
+    after : List (Ptr × Z × B)
+    back : drop (index_of p (box_addresses ns)) ns ≡ box ∷ after
+    lies : box.0 ≡ p
 
-  pub found : (ns : List (Ptr × Z × B)) (p : Ptr) (k : ℕ) → slice_get (box_addresses ns) k ≡ Some p → Found p ns
+  found : (ns : List (Ptr × Z × B)) (p : Ptr) (k : ℕ) → slice_get (box_addresses ns) k ≡ Some p → Found p ns
   found [] p k e = cc
   found (n ∷ ns) p zero e =
       let here : n.0 ≡ p = cc in
       let same : same_ptr p n.0 ≡ true = subst (λ q. same_ptr p q ≡ true) (sym here) (same_ptr_refl p) in
-      (n, ns, ap (λ (b : Bool). drop (if b then zero else suc (index_of p (box_addresses ns))) (n ∷ ns)) same, here)
+      record { box = n; after = ns; back = ap (λ (b : Bool). drop (if b then zero else suc (index_of p (box_addresses ns))) (n ∷ ns)) same; lies = here }
   found (n ∷ ns) p (suc k) e = (elim (same_ptr p n.0) as (λ z. same_ptr p n.0 ≡ z → Found p (n ∷ ns)) [
-    | true ↦ λ same. (n, ns, ap (λ (b : Bool). drop (if b then zero else suc (index_of p (box_addresses ns))) (n ∷ ns)) same, sym (same_ptr_eq p n.0 same))
-    | false ↦ λ other. let on = found ns p k e in (on.0, on.1, ap (λ (b : Bool). drop (if b then zero else suc (index_of p (box_addresses ns))) (n ∷ ns)) other ∙ on.2, on.3)
+    | true ↦ λ same. record { box = n; after = ns; back = ap (λ (b : Bool). drop (if b then zero else suc (index_of p (box_addresses ns))) (n ∷ ns)) same; lies = sym (same_ptr_eq p n.0 same) }
+    | false ↦ λ other. let on = found ns p k e in record { box = on.box; after = on.after; back = ap (λ (b : Bool). drop (if b then zero else suc (index_of p (box_addresses ns))) (n ∷ ns)) other ∙ on.back; lies = on.lies }
   ]) refl
 
   pub comparable_front : (xs ys : List (Ptr × Z × B)) → AreNullComparable (box_addresses (xs ++ ys)) → AreNullComparable (box_addresses xs)
   comparable_front [] ys a = tt
-  comparable_front (x ∷ xs) ys a = (a.0, a.1, comparable_front xs ys a.2)
+  comparable_front (x ∷ xs) ys a = (a.0, comparable_front xs ys a.1)
 
   pub comparable_upto : (xs : List (Ptr × Z × B)) (n : Ptr × Z × B) (ys : List (Ptr × Z × B)) → AreNullComparable (box_addresses (xs ++ n ∷ ys)) → AreNullComparable (box_addresses (xs ++ n ∷ []))
-  comparable_upto [] n ys a = (a.0, a.1, tt)
-  comparable_upto (x ∷ xs) n ys a = (a.0, a.1, comparable_upto xs n ys a.2)
+  comparable_upto [] n ys a = (a.0, tt)
+  comparable_upto (x ∷ xs) n ys a = (a.0, comparable_upto xs n ys a.1)
 
   pub comparable_back : (xs ys : List (Ptr × Z × B)) → AreNullComparable (box_addresses (xs ++ ys)) → AreNullComparable (box_addresses ys)
   comparable_back [] ys a = a
-  comparable_back (x ∷ xs) ys a = comparable_back xs ys a.2
+  comparable_back (x ∷ xs) ys a = comparable_back xs ys a.1
 
 abbrev pub Row : Type 0 → Type 0
 Row X = List (OwnedNode X)
 
 module _ {X : Type 0} where
-  pub segment_front : (p h : Ptr) (xs : Row X) (n : OwnedNode X) (ys : Row X) (t q : Ptr) → Segment p h (xs ++ n ∷ ys) t q → Segment p h xs (prev_of n.2) n.0
-  segment_front p h [] n ys t q f = (f.0, f.1)
-  segment_front p h (x ∷ xs) n ys t q f = (f.0, f.1, segment_front x.0 (next_of x.2) xs n ys t q f.2)
+  pub segment_front : (p h : Ptr) (xs : Row X) (n : OwnedNode X) (ys : Row X) (t q : Ptr) → Segment p h (xs ++ n ∷ ys) t q → Segment p h xs (prev_of (block_of n)) n.0
+  segment_front p h [] n ys t q f = f.0
+  segment_front p h (x ∷ xs) n ys t q f = (f.0, segment_front x.0 (next_of (block_of x)) xs n ys t q f.1)
 
-  pub segment_back : (p h : Ptr) (xs : Row X) (n : OwnedNode X) (ys : Row X) (t q : Ptr) → Segment p h (xs ++ n ∷ ys) t q → Segment n.0 (next_of n.2) ys t q
-  segment_back p h [] n ys t q f = f.2
-  segment_back p h (x ∷ xs) n ys t q f = segment_back x.0 (next_of x.2) xs n ys t q f.2
+  pub segment_back : (p h : Ptr) (xs : Row X) (n : OwnedNode X) (ys : Row X) (t q : Ptr) → Segment p h (xs ++ n ∷ ys) t q → Segment n.0 (next_of (block_of n)) ys t q
+  segment_back p h [] n ys t q f = f.1
+  segment_back p h (x ∷ xs) n ys t q f = segment_back x.0 (next_of (block_of x)) xs n ys t q f.1
 
-  pub segment_upto : (p h : Ptr) (xs : Row X) (n : OwnedNode X) (ys : Row X) (t q : Ptr) → Segment p h (xs ++ n ∷ ys) t q → Segment p h (xs ++ n ∷ []) n.0 (next_of n.2)
-  segment_upto p h [] n ys t q f = (f.0, f.1, (refl, refl))
-  segment_upto p h (x ∷ xs) n ys t q f = (f.0, f.1, segment_upto x.0 (next_of x.2) xs n ys t q f.2)
+  pub segment_upto : (p h : Ptr) (xs : Row X) (n : OwnedNode X) (ys : Row X) (t q : Ptr) → Segment p h (xs ++ n ∷ ys) t q → Segment p h (xs ++ n ∷ []) n.0 (next_of (block_of n))
+  segment_upto p h [] n ys t q f = (f.0, (refl, refl))
+  segment_upto p h (x ∷ xs) n ys t q f = (f.0, segment_upto x.0 (next_of (block_of x)) xs n ys t q f.1)
 
   -- ---- the last node
   pub last_testable : (p h : Ptr) (ns : Row X) (t q : Ptr) → Segment p h ns t q → AreNullComparable (box_addresses ns) → Testable p → Testable t
   last_testable p h [] t q f a z = subst Testable (sym f.1) z
-  last_testable p h (n ∷ ns) t q f a z = last_testable n.0 (next_of n.2) ns t q f.2 a.2 a.1
+  last_testable p h (n ∷ ns) t q f a z = last_testable n.0 (next_of (block_of n)) ns t q f.1 a.1 a.0.1
 
   last_block : (p h : Ptr) (n : OwnedNode X) (ns : Row X) (t q : Ptr) → Segment p h (n ∷ ns) t q → AreNullComparable (box_addresses (n ∷ ns)) → InBlock t
-  last_block p h n [] t q f a = subst InBlock (sym f.2.1) a.0
-  last_block p h n (m ∷ ns) t q f a = last_block n.0 (next_of n.2) m ns t q f.2 a.2
+  last_block p h n [] t q f a = subst InBlock (sym f.1.1) a.0.0
+  last_block p h n (m ∷ ns) t q f a = last_block n.0 (next_of (block_of n)) m ns t q f.1 a.1
 
   pub some_last : (h : Ptr) (ns : Row X) (t q : Ptr) → Segment null_ptr h ns t q → InBlock t → 0 < length ns
   some_last h [] t q f b = absurd (subst InBlock f.1 b)
@@ -82,18 +85,18 @@ module _ {X : Type 0} where
 
   pub last_there : (p h : Ptr) (ns : Row X) (t q : Ptr) (j : ℕ) → suc j ≡ length ns → Segment p h ns t q → slice_get (box_addresses (drop j ns)) 0 ≡ Some t
   last_there p h [] t q j e f = absurd (omega (arith, e))
-  last_there p h (n ∷ []) t q zero e f = ap Some (sym f.2.1)
+  last_there p h (n ∷ []) t q zero e f = ap Some (sym f.1.1)
   last_there p h (n ∷ []) t q (suc j) e f = absurd (omega (arith, e))
   last_there p h (n ∷ m ∷ ns) t q zero e f = absurd (omega (arith, e))
-  last_there p h (n ∷ m ∷ ns) t q (suc j) e f = last_there n.0 (next_of n.2) (m ∷ ns) t q j (omega (arith, e)) f.2
+  last_there p h (n ∷ m ∷ ns) t q (suc j) e f = last_there n.0 (next_of (block_of n)) (m ∷ ns) t q j (omega (arith, e)) f.1
 
   pub last_relinked : (p h : Ptr) (ns : Row X) (t q : Ptr) (nx : Address) (b : Block X) (j : ℕ) → suc j ≡ length ns → Segment p h ns t q → slice_get (box_values (drop j ns)) 0 ≡ Some b
       → Segment p h (take j ns ++ set_value (drop j ns) 0 (with_next b nx)) t nx.ptr
   last_relinked p h [] t q nx b j e f r = absurd (omega (arith, e))
-  last_relinked p h (n ∷ []) t q nx b zero e f r = let same : n.2 ≡ b = cc in (f.0, ap (λ (x : Block X). prev_of x) (sym same) ∙ f.1, (refl, f.2.1))
+  last_relinked p h (n ∷ []) t q nx b zero e f r = let same : block_of n ≡ b = cc in ((f.0.0, ap (λ (x : Block X). prev_of x) (sym same) ∙ f.0.1), (refl, f.1.1))
   last_relinked p h (n ∷ []) t q nx b (suc j) e f r = absurd (omega (arith, e))
   last_relinked p h (n ∷ m ∷ ns) t q nx b zero e f r = absurd (omega (arith, e))
-  last_relinked p h (n ∷ m ∷ ns) t q nx b (suc j) e f r = (f.0, f.1, last_relinked n.0 (next_of n.2) (m ∷ ns) t q nx b j (omega (arith, e)) f.2 r)
+  last_relinked p h (n ∷ m ∷ ns) t q nx b (suc j) e f r = (f.0, last_relinked n.0 (next_of (block_of n)) (m ∷ ns) t q nx b j (omega (arith, e)) f.1 r)
 
   pub shown_relinked : (ns : Row X) (k : ℕ) (b : Block X) (nx : Address) → slice_get (box_values (drop k ns)) 0 ≡ Some b → nodes_of (take k ns ++ set_value (drop k ns) 0 (with_next b nx)) ≡ nodes_of ns
   shown_relinked ns k b nx e =
@@ -102,27 +105,27 @@ module _ {X : Type 0} where
 
   pub last_one : (p h : Ptr) (ns : Row X) (t q : Ptr) (j : ℕ) → suc j ≡ length ns → Segment p h ns t q → (a : Global) × (x : Block X) × (drop j ns ≡ (t, a, x) ∷ [])
   last_one p h [] t q j e f = absurd (omega (arith, e))
-  last_one p h (n ∷ []) t q zero e f = (n.1, n.2, λ i. (sym f.2.1 i, n.1, n.2) ∷ [])
+  last_one p h (n ∷ []) t q zero e f = (n.1, block_of n, λ i. (sym f.1.1 i, n.1, block_of n) ∷ [])
   last_one p h (n ∷ []) t q (suc j) e f = absurd (omega (arith, e))
   last_one p h (n ∷ m ∷ ns) t q zero e f = absurd (omega (arith, e))
-  last_one p h (n ∷ m ∷ ns) t q (suc j) e f = last_one n.0 (next_of n.2) (m ∷ ns) t q j (omega (arith, e)) f.2
+  last_one p h (n ∷ m ∷ ns) t q (suc j) e f = last_one n.0 (next_of (block_of n)) (m ∷ ns) t q j (omega (arith, e)) f.1
 
   -- ---- the first node
   pub first_one : (p h : Ptr) (ns : Row X) (t q : Ptr) → 0 < length ns → Segment p h ns t q → (a : Global) × (x : Block X) × (take 1 ns ≡ (h, a, x) ∷ [])
   first_one p h [] t q some f = absurd (omega (arith, some))
-  first_one p h (n ∷ ns) t q some f = (n.1, n.2, λ i. (sym f.0 i, n.1, n.2) ∷ [])
+  first_one p h (n ∷ ns) t q some f = (n.1, block_of n, λ i. (sym f.0.0 i, n.1, block_of n) ∷ [])
 
   pub first_testable : (p f : Ptr) (ns : Row X) (t : Ptr) → Segment p f ns t null_ptr → AreNullComparable (box_addresses ns) → Testable f
   first_testable p f [] t s a = subst Testable (sym s.0) null_Testable
-  first_testable p f (n ∷ ns) t s a = subst Testable (sym s.0) a.1
+  first_testable p f (n ∷ ns) t s a = subst Testable (sym s.0.0) a.0.1
 
   pub first_there : (p f : Ptr) (ns : Row X) (t : Ptr) → Segment p f ns t null_ptr → InBlock f → slice_get (box_addresses ns) 0 ≡ Some f
   first_there p f [] t s b = absurd (subst InBlock s.0 b)
-  first_there p f (n ∷ ns) t s b = ap Some (sym s.0)
+  first_there p f (n ∷ ns) t s b = ap Some (sym s.0.0)
 
   pub no_first : (p f pr : Ptr) (ns : Row X) (t : Ptr) → Segment p f ns t null_ptr → AreNullComparable (box_addresses ns) → f ≡ null_ptr → Segment pr f ns pr null_ptr
   no_first p f pr [] t s a e = (e, refl)
-  no_first p f pr (n ∷ ns) t s a e = absurd (subst InBlock (sym s.0 ∙ e) a.0)
+  no_first p f pr (n ∷ ns) t s a e = absurd (subst InBlock (sym s.0.0 ∙ e) a.0.0)
 
 module _ {X : Type 0} where
   -- all that a cut at an address shows of a chain
@@ -133,36 +136,36 @@ module _ {X : Type 0} where
     pub whole : ns ≡ front ++ node ∷ after
     pub lies : node.0 ≡ p
     pub there : slice_get (box_addresses back) 0 ≡ Some p
-    pub first : Segment null_ptr h front (prev_of node.2) node.0
-    pub second : Segment node.0 (next_of node.2) after t null_ptr
+    pub first : Segment null_ptr h front (prev_of (block_of node)) node.0
+    pub second : Segment node.0 (next_of (block_of node)) after t null_ptr
 
   pub cut : {h t : Ptr} {len : ℕ} {ns front back : Row X} {v : Nodes X} {p : Ptr} → nodes_of ns ≡ v → HasSpot v p → IsLinked h t len ns
       → (front ≡ take (index_of p (box_addresses ns)) ns) × (back ≡ drop (index_of p (box_addresses ns)) ns) → Cut h t ns front back p
   cut {h = h} {t = t} {ns = ns} {front = front} {v = v} {p = p} seen at linked (f, g) =
       let i = index_of p (box_addresses ns) in
-      let on : Found p ns = found ns p at.0 (at_place ns v seen at.0 p at.1) in let n = on.0 in let ys = on.1 in
-      let whole : ns ≡ front ++ n ∷ ys = take-drop i ns ∙ (λ j. sym f j ++ on.2 j) in
-      let linked' : Segment null_ptr h (front ++ n ∷ ys) t null_ptr = subst (λ ls. Segment null_ptr h ls t null_ptr) whole linked.2 in
+      let on : Found p ns = found ns p at.0 (at_place ns v seen at.0 p at.1) in let n = on.box in let ys = on.after in
+      let whole : ns ≡ front ++ n ∷ ys = take-drop i ns ∙ (λ j. sym f j ++ on.back j) in
+      let linked' : Segment null_ptr h (front ++ n ∷ ys) t null_ptr = subst (λ ls. Segment null_ptr h ls t null_ptr) whole linked.segment in
       record {
         node = n;
         after = ys;
-        here = g ∙ on.2;
+        here = g ∙ on.back;
         whole = whole;
-        lies = on.3;
-        there = ap (λ ls. slice_get (box_addresses ls) 0) (g ∙ on.2) ∙ ap Some on.3;
+        lies = on.lies;
+        there = ap (λ ls. slice_get (box_addresses ls) 0) (g ∙ on.back) ∙ ap Some on.lies;
         first = segment_front null_ptr h front n ys t null_ptr linked';
         second = segment_back null_ptr h front n ys t null_ptr linked';
       }
 
   module _ {h t : Ptr} {ns front back : Row X} {p : Ptr} (u : Cut h t ns front back p) where
-    pub node_is : (b : Block X) → slice_get (box_values back) 0 ≡ Some b → u.node.2 ≡ b
+    pub node_is : (b : Block X) → slice_get (box_values back) 0 ≡ Some b → block_of u.node ≡ b
     node_is b e = let at : slice_get (box_values (u.node ∷ u.after)) 0 ≡ Some b = subst (λ ls. slice_get (box_values ls) 0 ≡ Some b) u.here e in cc
 
     pub rest_is : (rest : Row X) → rest ≡ drop 1 back → rest ≡ u.after
     rest_is rest e = e ∙ ap (drop 1) u.here
 
-    pub one_is : (one : Row X) (a : Global) → one ≡ take 1 back → one ≡ (p, a, u.node.2) ∷ []
-    one_is one a e = e ∙ ap (take 1) u.here ∙ (λ i. (u.lies i, a, u.node.2) ∷ [])
+    pub one_is : (one : Row X) (a : Global) → one ≡ take 1 back → one ≡ (p, a, block_of u.node) ∷ []
+    one_is one a e = e ∙ ap (take 1) u.here ∙ (λ i. (u.lies i, a, block_of u.node) ∷ [])
 
     pub front_linked : (b : Block X) → slice_get (box_values back) 0 ≡ Some b → (q : Ptr) × Segment null_ptr h front (prev_of b) q
     front_linked b e = (u.node.0, subst (λ x. Segment null_ptr h front (prev_of x) u.node.0) (node_is b e) u.first)
@@ -176,7 +179,7 @@ module _ {X : Type 0} where
     pub rest_comparable : (rest : Row X) → rest ≡ drop 1 back → AreNullComparable (box_addresses ns) → AreNullComparable (box_addresses rest)
     rest_comparable rest f a =
         let all : AreNullComparable (box_addresses (u.node ∷ u.after)) = comparable_back front (u.node ∷ u.after) (subst (λ ls. AreNullComparable (box_addresses ls)) u.whole a) in
-        subst (λ ls. AreNullComparable (box_addresses ls)) (sym (rest_is rest f)) all.2
+        subst (λ ls. AreNullComparable (box_addresses ls)) (sym (rest_is rest f)) all.1
 
     lengths : length ns ≡ length front + suc (length u.after)
     lengths = ap length u.whole ∙ length-append front (u.node ∷ u.after)
@@ -192,7 +195,7 @@ module _ {X : Type 0} where
         let c : length js ≡ length f + length r = ap length is ∙ length-append f r in
         omega (arith, l, a, b, c)
 
-    pub taken_is : (v : Nodes X) (x : Block X) → nodes_of ns ≡ v → u.node.2 ≡ x → v ≡ nodes_of front ++ (p, block_element x) ∷ nodes_of u.after
+    pub taken_is : (v : Nodes X) (x : Block X) → nodes_of ns ≡ v → block_of u.node ≡ x → v ≡ nodes_of front ++ (p, block_element x) ∷ nodes_of u.after
     taken_is v x seen same = sym seen ∙ ap nodes_of u.whole ∙ nodes_of-append front (u.node ∷ u.after) ∙ (λ i. nodes_of front ++ (u.lies i, block_element (same i)) ∷ nodes_of u.after)
 
     pub left_is : (rest f r js : Row X) → rest ≡ drop 1 back → nodes_of f ≡ nodes_of front → nodes_of r ≡ nodes_of rest → js ≡ f ++ r → nodes_of js ≡ nodes_of front ++ nodes_of u.after
@@ -203,23 +206,23 @@ module _ {X : Type 0} where
     on = found ns p at.0 (at_place ns v seen at.0 p at.1)
 
     pub place_there : slice_get (box_addresses back) 0 ≡ Some p
-    place_there = ap (λ ls. slice_get (box_addresses ls) 0) (e ∙ on.2) ∙ ap Some on.3
+    place_there = ap (λ ls. slice_get (box_addresses ls) 0) (e ∙ on.back) ∙ ap Some on.lies
 
     pub value_there : (b : Block X) → slice_get (box_values back) 0 ≡ Some b → (before : Nodes X) × (id : ℕ) × (after : Nodes X) × (v ≡ before ++ (p, record { id = id; value = b.value }) ∷ after)
     value_there b r =
         let front : Row X = take (index_of p (box_addresses ns)) ns in
-        let r' : slice_get (box_values (on.0 ∷ on.1)) 0 ≡ Some b = subst (λ ls. slice_get (box_values ls) 0 ≡ Some b) (e ∙ on.2) r in let same : on.0.2 ≡ b = cc in
-        (nodes_of front, b.id, nodes_of on.1, sym seen ∙ ap nodes_of (take-drop (index_of p (box_addresses ns)) ns ∙ (λ i. front ++ on.2 i)) ∙ nodes_of-append front (on.0 ∷ on.1) ∙ (λ i. nodes_of front ++ (on.3 i, block_element (same i)) ∷ nodes_of on.1))
+        let r' : slice_get (box_values (on.box ∷ on.after)) 0 ≡ Some b = subst (λ ls. slice_get (box_values ls) 0 ≡ Some b) (e ∙ on.back) r in let same : block_of on.box ≡ b = cc in
+        (nodes_of front, b.id, nodes_of on.after, sym seen ∙ ap nodes_of (take-drop (index_of p (box_addresses ns)) ns ∙ (λ i. front ++ on.back i)) ∙ nodes_of-append front (on.box ∷ on.after) ∙ (λ i. nodes_of front ++ (on.lies i, block_element (same i)) ∷ nodes_of on.after))
 
   module _ {h t : Ptr} {ns front back : Row X} {p : Ptr} (u : Cut h t ns front back p) where
     pub back_linked : (q : Ptr) × Segment q p back t null_ptr
-    back_linked = (prev_of u.node.2, subst (λ ls. Segment (prev_of u.node.2) p ls t null_ptr) (sym u.here) (sym u.lies, refl, u.second))
+    back_linked = (prev_of (block_of u.node), subst (λ ls. Segment (prev_of (block_of u.node)) p ls t null_ptr) (sym u.here) ((sym u.lies, refl), u.second))
 
     pub all_comparable : AreNullComparable (box_addresses ns) → AreNullComparable (box_addresses back)
     all_comparable a = subst (λ ls. AreNullComparable (box_addresses ls)) (sym u.here) (comparable_back front (u.node ∷ u.after) (subst (λ ls. AreNullComparable (box_addresses ls)) u.whole a))
 
-    pub back_shown : (s : Nodes X) (n : Ptr × Element X) → s ≡ nodes_of front ++ n ∷ nodes_of back → s ≡ nodes_of front ++ n ∷ (p, block_element u.node.2) ∷ nodes_of u.after
-    back_shown s n e = e ∙ (λ i. nodes_of front ++ n ∷ nodes_of (u.here i)) ∙ (λ i. nodes_of front ++ n ∷ (u.lies i, block_element u.node.2) ∷ nodes_of u.after)
+    pub back_shown : (s : Nodes X) (n : Ptr × Element X) → s ≡ nodes_of front ++ n ∷ nodes_of back → s ≡ nodes_of front ++ n ∷ (p, block_element (block_of u.node)) ∷ nodes_of u.after
+    back_shown s n e = e ∙ (λ i. nodes_of front ++ n ∷ nodes_of (u.here i)) ∙ (λ i. nodes_of front ++ n ∷ (u.lies i, block_element (block_of u.node)) ∷ nodes_of u.after)
 
     pub both_lengths : length ns ≡ length front + length back
     both_lengths = let l = lengths u in let b : length back ≡ suc (length u.after) = ap length u.here in omega (arith, l, b)
@@ -231,18 +234,18 @@ module _ {X : Type 0} where
 
       pub upto_linked : Segment null_ptr h ns t null_ptr → (q : Ptr) × Segment null_ptr h f p q
       upto_linked g = (
-        next_of u.node.2,
-        subst (λ (s : Row X × Ptr). Segment null_ptr h s.0 s.1 (next_of u.node.2)) (λ i. (sym upto_is i, u.lies i))
+        next_of (block_of u.node),
+        subst (λ (s : Row X × Ptr). Segment null_ptr h s.0 s.1 (next_of (block_of u.node))) (λ i. (sym upto_is i, u.lies i))
             (segment_upto null_ptr h front u.node u.after t null_ptr (subst (λ ls. Segment null_ptr h ls t null_ptr) u.whole g)),
       )
 
       pub upto_tested : AreNullComparable (box_addresses ns) → AreNullComparable (box_addresses f)
       upto_tested a = subst (λ ls. AreNullComparable (box_addresses ls)) (sym upto_is) (comparable_upto front u.node u.after (subst (λ ls. AreNullComparable (box_addresses ls)) u.whole a))
 
-      pub upto_shown : (s : Nodes X) (n : Ptr × Element X) → s ≡ nodes_of f ++ n ∷ nodes_of r → s ≡ nodes_of front ++ (p, block_element u.node.2) ∷ n ∷ nodes_of u.after
+      pub upto_shown : (s : Nodes X) (n : Ptr × Element X) → s ≡ nodes_of f ++ n ∷ nodes_of r → s ≡ nodes_of front ++ (p, block_element (block_of u.node)) ∷ n ∷ nodes_of u.after
       upto_shown s n e =
-          e ∙ (λ i. nodes_of (upto_is i) ++ n ∷ nodes_of (rest_is u r is_r i)) ∙ (λ i. nodes_of-append front (u.node ∷ []) i ++ n ∷ nodes_of u.after) ∙ append_assoc (nodes_of front) ((u.node.0, block_element u.node.2) ∷ []) (n ∷ nodes_of u.after)
-          ∙ (λ i. nodes_of front ++ (u.lies i, block_element u.node.2) ∷ n ∷ nodes_of u.after)
+          e ∙ (λ i. nodes_of (upto_is i) ++ n ∷ nodes_of (rest_is u r is_r i)) ∙ (λ i. nodes_of-append front (u.node ∷ []) i ++ n ∷ nodes_of u.after) ∙ append_assoc (nodes_of front) ((u.node.0, block_element (block_of u.node)) ∷ []) (n ∷ nodes_of u.after)
+          ∙ (λ i. nodes_of front ++ (u.lies i, block_element (block_of u.node)) ∷ n ∷ nodes_of u.after)
 
       pub upto_lengths : length ns ≡ length f + length r
       upto_lengths =
@@ -258,66 +261,74 @@ module _ {X : Type 0} where
       omega (arith, a)
 
   -- ---- neighbours
-  last_split : (p h : Ptr) (ns : Row X) (t q : Ptr) → Segment p h ns t q → 0 < length ns → (xs : Row X) × (x : OwnedNode X) × (ns ≡ xs ++ x ∷ []) × (x.0 ≡ t)
+  -- a row as its last node and those before
+  record LastNode (ns : Row X) (t : Ptr) : Type 0 where
+    front : Row X
+    node : OwnedNode X
+    parts : ns ≡ front ++ node ∷ []
+    lies : node.0 ≡ t
+
+  last_split : (p h : Ptr) (ns : Row X) (t q : Ptr) → Segment p h ns t q → 0 < length ns → LastNode ns t
   last_split p h [] t q f some = absurd (omega (arith, some))
-  last_split p h (n ∷ []) t q f some = ([], n, refl, sym f.2.1)
-  last_split p h (n ∷ m ∷ ns) t q f some = let on = last_split n.0 (next_of n.2) (m ∷ ns) t q f.2 (omega arith) in (n ∷ on.0, on.1, ap (λ l. n ∷ l) on.2, on.3)
+  last_split p h (n ∷ []) t q f some = record { front = []; node = n; parts = refl; lies = sym f.1.1 }
+  last_split p h (n ∷ m ∷ ns) t q f some = let on = last_split n.0 (next_of (block_of n)) (m ∷ ns) t q f.1 (omega arith) in record { front = n ∷ on.front; node = on.node; parts = ap (λ l. n ∷ l) on.parts; lies = on.lies }
 
   first_shown : (a f : Ptr) (ns : Row X) (t : Ptr) → Segment a f ns t null_ptr → InBlock f → (o : Element X) × (rest : Nodes X) × (nodes_of ns ≡ (f, o) ∷ rest)
   first_shown a f [] t s b = absurd (subst InBlock s.0 b)
-  first_shown a f (n ∷ ns) t s b = (block_element n.2, nodes_of ns, λ i. (sym s.0 i, block_element n.2) ∷ nodes_of ns)
+  first_shown a f (n ∷ ns) t s b = (block_element (block_of n), nodes_of ns, λ i. (sym s.0.0 i, block_element (block_of n)) ∷ nodes_of ns)
 
-  none_first : (a f : Ptr) (ns : Row X) (t : Ptr) → Segment a f ns t null_ptr → AreNullComparable (box_addresses ns) → f ≡ null_ptr → nodes_of ns ≡ []
-  none_first a f [] t s z e = refl
-  none_first a f (n ∷ ns) t s z e = absurd (subst InBlock (sym s.0 ∙ e) z.0)
+  -- what a null address leads to, and what it ends
+  pub none_led : (p h : Ptr) (ns : Row X) (t : Ptr) → Segment p h ns t null_ptr → AreNullComparable (box_addresses ns) → h ≡ null_ptr → ns ≡ []
+  none_led p h [] t s z e = refl
+  none_led p h (n ∷ ns) t s z e = absurd (subst InBlock (sym s.0.0 ∙ e) z.0.0)
 
-  none_last : (h : Ptr) (ns : Row X) (t q : Ptr) → Segment null_ptr h ns t q → AreNullComparable (box_addresses ns) → t ≡ null_ptr → nodes_of ns ≡ []
-  none_last h [] t q f z e = refl
-  none_last h (n ∷ ns) t q f z e = absurd (subst InBlock e (last_block null_ptr h n ns t q f z))
+  pub none_ended : (p h : Ptr) (ns : Row X) (t q : Ptr) → Segment p h ns t q → AreNullComparable (box_addresses ns) → t ≡ null_ptr → ns ≡ []
+  none_ended p h [] t q f z e = refl
+  none_ended p h (n ∷ ns) t q f z e = absurd (subst InBlock e (last_block p h n ns t q f z))
 
   module _ {h t : Ptr} {ns front back : Row X} {p : Ptr} (u : Cut h t ns front back p) (v : Nodes X) (seen : nodes_of ns ≡ v) (z : AreNullComparable (box_addresses ns)) (b : Block X) (e : slice_get (box_values back) 0 ≡ Some b) where
-    here_is : v ≡ nodes_of front ++ (p, block_element u.node.2) ∷ nodes_of u.after
-    here_is = taken_is u v u.node.2 seen refl
+    here_is : v ≡ nodes_of front ++ (p, block_element (block_of u.node)) ∷ nodes_of u.after
+    here_is = taken_is u v (block_of u.node) seen refl
 
-    same : u.node.2 ≡ b
+    same : block_of u.node ≡ b
     same = node_is u b e
 
     after_comparable : AreNullComparable (box_addresses u.after)
     after_comparable = rest_comparable u u.after (sym (ap (drop 1) u.here)) z
 
     pub next_testable : Testable (next_of b)
-    next_testable = subst (λ (x : Block X). Testable (next_of x)) same (first_testable u.node.0 (next_of u.node.2) u.after t u.second after_comparable)
+    next_testable = subst (λ (x : Block X). Testable (next_of x)) same (first_testable u.node.0 (next_of (block_of u.node)) u.after t u.second after_comparable)
 
     pub prev_testable : Testable (prev_of b)
-    prev_testable = subst (λ (x : Block X). Testable (prev_of x)) same (last_testable null_ptr h front (prev_of u.node.2) u.node.0 u.first (front_comparable u z) null_Testable)
+    prev_testable = subst (λ (x : Block X). Testable (prev_of x)) same (last_testable null_ptr h front (prev_of (block_of u.node)) u.node.0 u.first (front_comparable u z) null_Testable)
 
     pub next_there : InBlock (next_of b) → AreNext v p (next_of b)
     next_there i =
-        let on = first_shown u.node.0 (next_of u.node.2) u.after t u.second (subst (λ (x : Block X). InBlock (next_of x)) (sym same) i) in
-        (nodes_of front, block_element u.node.2, on.0, on.1, here_is ∙ (λ j. nodes_of front ++ (p, block_element u.node.2) ∷ on.2 j) ∙ (λ j. nodes_of front ++ (p, block_element u.node.2) ∷ (next_of (same j), on.0) ∷ on.1))
+        let (o, rest, shown) = first_shown u.node.0 (next_of (block_of u.node)) u.after t u.second (subst (λ (x : Block X). InBlock (next_of x)) (sym same) i) in
+        (nodes_of front, block_element (block_of u.node), o, rest, here_is ∙ (λ j. nodes_of front ++ (p, block_element (block_of u.node)) ∷ shown j) ∙ (λ j. nodes_of front ++ (p, block_element (block_of u.node)) ∷ (next_of (same j), o) ∷ rest))
 
     pub next_none : next_of b ≡ null_ptr → IsLast v p
     next_none i =
-        let none = none_first u.node.0 (next_of u.node.2) u.after t u.second after_comparable (ap (λ (x : Block X). next_of x) same ∙ i) in
-        (nodes_of front, block_element u.node.2, here_is ∙ (λ j. nodes_of front ++ (p, block_element u.node.2) ∷ none j))
+        let none = none_led u.node.0 (next_of (block_of u.node)) u.after t u.second after_comparable (ap (λ (x : Block X). next_of x) same ∙ i) in
+        (nodes_of front, block_element (block_of u.node), here_is ∙ (λ j. nodes_of front ++ (p, block_element (block_of u.node)) ∷ nodes_of (none j)))
 
     pub prev_there : InBlock (prev_of b) → AreNext v (prev_of b) p
     prev_there i =
-        let some = some_last h front (prev_of u.node.2) u.node.0 u.first (subst (λ (x : Block X). InBlock (prev_of x)) (sym same) i) in
-        let on = last_split null_ptr h front (prev_of u.node.2) u.node.0 u.first some in let o = block_element on.1.2 in
-        let lies : on.1.0 ≡ prev_of b = on.3 ∙ ap (λ (x : Block X). prev_of x) same in (
-          nodes_of on.0,
+        let some = some_last h front (prev_of (block_of u.node)) u.node.0 u.first (subst (λ (x : Block X). InBlock (prev_of x)) (sym same) i) in
+        let on = last_split null_ptr h front (prev_of (block_of u.node)) u.node.0 u.first some in let o = block_element (block_of on.node) in
+        let lies : on.node.0 ≡ prev_of b = on.lies ∙ ap (λ (x : Block X). prev_of x) same in (
+          nodes_of on.front,
           o,
-          block_element u.node.2,
+          block_element (block_of u.node),
           nodes_of u.after,
-          here_is ∙ (λ j. (ap nodes_of on.2 ∙ nodes_of-append on.0 (on.1 ∷ [])) j ++ (p, block_element u.node.2) ∷ nodes_of u.after) ∙ append_assoc (nodes_of on.0) ((on.1.0, o) ∷ []) ((p, block_element u.node.2) ∷ nodes_of u.after)
-              ∙ (λ j. nodes_of on.0 ++ (lies j, o) ∷ (p, block_element u.node.2) ∷ nodes_of u.after),
+          here_is ∙ (λ j. (ap nodes_of on.parts ∙ nodes_of-append on.front (on.node ∷ [])) j ++ (p, block_element (block_of u.node)) ∷ nodes_of u.after) ∙ append_assoc (nodes_of on.front) ((on.node.0, o) ∷ []) ((p, block_element (block_of u.node)) ∷ nodes_of u.after)
+              ∙ (λ j. nodes_of on.front ++ (lies j, o) ∷ (p, block_element (block_of u.node)) ∷ nodes_of u.after),
         )
 
     pub prev_none : prev_of b ≡ null_ptr → IsFirst v p
     prev_none i =
-        let none = none_last h front (prev_of u.node.2) u.node.0 u.first (front_comparable u z) (ap (λ (x : Block X). prev_of x) same ∙ i) in
-        (block_element u.node.2, nodes_of u.after, here_is ∙ (λ j. none j ++ (p, block_element u.node.2) ∷ nodes_of u.after))
+        let none = none_ended null_ptr h front (prev_of (block_of u.node)) u.node.0 u.first (front_comparable u z) (ap (λ (x : Block X). prev_of x) same ∙ i) in
+        (block_element (block_of u.node), nodes_of u.after, here_is ∙ (λ j. nodes_of (none j) ++ (p, block_element (block_of u.node)) ∷ nodes_of u.after))
 
 -- a chain of one node, whose address is known
 pub sole_place : {X : Type 0} (c : Nodes X) (q p : Ptr) (e : Element X) → c ≡ (q, e) ∷ [] → slice_get (spots c) 0 ≡ Some p → c ≡ (p, e) ∷ []

@@ -31,7 +31,7 @@ use Rattle.cordyceps_base.proofs.Memory.{mark}
 use lib.Dec.{eqb_refl}
 use Rattle.std.proofs.Common.{◌==◌, ◌&&◌, eqb→eq, T, if◌then◌else◌, slice_get, Some}
 use Rattle.core.specs.Ptr.{points_to}
-use Rattle.cordyceps_base.specs.Boxes.{boxes_own, box_addresses}
+use Rattle.cordyceps_base.specs.Boxes.{boxes_own, box_addresses, box_value}
 use Rattle.cordyceps_base.specs.Spots.{same_ptr, index_of, IsNew, AreDistinct, AreNullComparable}
 
 both : (x y : Bool) → (x && y) ≡ true → T x × T y
@@ -112,13 +112,13 @@ module _ {M : Type 1} {𝓤 : Ura M} (𝓛 : Logic 𝓤) (𝓜 : Model 𝓤 𝓛
         new_in : (p : Ptr) (x : Y.Denot) (ns : List (Ptr × Z × Y.Denot)) → ent 𝓤 (sep 𝓤 (sem 𝓛 (points_to Y p x)) (sem 𝓛 (Own ns))) (fact 𝓤 (IsNew p (box_addresses ns)))
         new_in p x [] = fact_i 𝓤 (IsNew p []) _ tt
         new_in p x (n ∷ ns) = qed 𝓛 (‵ (points_to Y p x) ∷ ‵ (Own (n ∷ ns)) ∷ []) ∵ move ! (1 ∷ []) $ fsplit ! $ fsplit ! $ move ! (3 ∷ 0 ∷ []) $
-            knows ! (same_ptr p n.0 ≡ false) (differ p n.0 x n.2) (λ here. move ! (0 ∷ 3 ∷ []) $ knows ! (IsNew p (box_addresses ns)) (new_in p x ns) (λ rest.
+            knows ! (same_ptr p n.0 ≡ false) (differ p n.0 x (box_value n)) (λ here. move ! (0 ∷ 3 ∷ []) $ knows ! (IsNew p (box_addresses ns)) (new_in p x ns) (λ rest.
             by ! (fact_i 𝓤 (IsNew p (box_addresses (n ∷ ns))) _ (here, rest))))
 
         row_distinct : (ns : List (Ptr × Z × Y.Denot)) → ent 𝓤 (sem 𝓛 (Own ns)) (fact 𝓤 (AreDistinct (box_addresses ns)))
         row_distinct [] = fact_i 𝓤 (AreDistinct []) _ tt
         row_distinct (n ∷ ns) = qed 𝓛 (‵ (Own (n ∷ ns)) ∷ []) ∵ fsplit ! $ fsplit ! $ move ! (0 ∷ 2 ∷ []) $
-            knows ! (IsNew n.0 (box_addresses ns)) (new_in n.0 n.2 ns) (λ here. move ! (1 ∷ []) $ learns ! (AreDistinct (box_addresses ns)) (row_distinct ns) (λ rest.
+            knows ! (IsNew n.0 (box_addresses ns)) (new_in n.0 (box_value n) ns) (λ here. move ! (1 ∷ []) $ learns ! (AreDistinct (box_addresses ns)) (row_distinct ns) (λ rest.
             by ! (fact_i 𝓤 (AreDistinct (box_addresses (n ∷ ns))) _ (here, rest))))
 
     sized : {Z : Type 0} (holds : Z → Ty → Ptr → Fml) (ns : List (Ptr × Z × Y.Denot)) (s : ℕ) → s ≡ size (lone Y.mir) → ent 𝓤 (sem 𝓛 (boxes_own holds Y ns)) (fact 𝓤 (0 < s → AreDistinct (box_addresses ns)))
@@ -136,11 +136,11 @@ module _ {M : Type 1} {𝓤 : Ura M} (𝓛 : Logic 𝓤) (R : RattleType) where
   pub row_comparable : (ns : List (Ptr × Global × R.Denot)) → ent 𝓤 (sem 𝓛 (HeapRow ns)) (fact 𝓤 (AreNullComparable (box_addresses ns)))
   row_comparable [] = fact_i 𝓤 (AreNullComparable []) _ tt
   row_comparable (n ∷ ns) =
-      let own : Fml = points_to R n.0 n.2 in let may : Fml = heap_ghosts.dealloc_token n.1 (bare (lone R.mir)) n.0 in
+      let own : Fml = points_to R n.0 (box_value n) in let may : Fml = heap_ghosts.dealloc_token n.1 (bare (lone R.mir)) n.0 in
       qed 𝓛 (‵ (HeapRow (n ∷ ns)) ∷ []) ∵ fsplit ! $
-      learns ! (InBlock n.0) (via 𝓤 (sem 𝓛 own) (fst∗ 𝓤 (sem 𝓛 own) (sem 𝓛 may)) (lies_in_block 𝓛 R full_share n.0 n.2)) (λ block.
+      learns ! (InBlock n.0) (via 𝓤 (sem 𝓛 own) (fst∗ 𝓤 (sem 𝓛 own) (sem 𝓛 may)) (lies_in_block 𝓛 R full_share n.0 (box_value n))) (λ block.
       learns ! (Testable n.0) (via 𝓤 (sem 𝓛 may) (snd∗ 𝓤 (sem 𝓛 own) (sem 𝓛 may)) (dealloc_token-Testable 𝓛 n.1 (bare (lone R.mir)) n.0)) (λ test.
-      move ! (1 ∷ []) $ learns ! (AreNullComparable (box_addresses ns)) (row_comparable ns) (λ rest. by ! (fact_i 𝓤 (AreNullComparable (box_addresses (n ∷ ns))) _ (block, test, rest)))))
+      move ! (1 ∷ []) $ learns ! (AreNullComparable (box_addresses ns)) (row_comparable ns) (λ rest. by ! (fact_i 𝓤 (AreNullComparable (box_addresses (n ∷ ns))) _ ((block, test), rest)))))
 
   abbrev pub HeapBoxes : RattleType
   HeapBoxes = boxes.the_row R heap.the_row heap_ghosts

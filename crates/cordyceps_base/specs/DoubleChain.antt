@@ -3,7 +3,7 @@ use Rattle.std.specs.Prelude.{◌≡◌, ℕ, List, [], ◌∷◌, length}
 use denote.RawPtr.{Ptr, null_ptr}
 use Rattle.cordyceps_base.specs.declared.node.Block.{Block}
 use Rattle.cordyceps_base.specs.Boxes.{box_addresses}
-use Rattle.cordyceps_base.specs.Nodes.{OwnedNode}
+use Rattle.cordyceps_base.specs.Nodes.{OwnedNode, block_of}
 use Rattle.cordyceps_base.specs.Spots.{AreNullComparable}
 
 module _ {X : Type 0} where
@@ -13,13 +13,18 @@ module _ {X : Type 0} where
   abbrev pub prev_of : Block X → Ptr
   prev_of b = b.links.prev.ptr
 
+  -- h leads to the node, which leads back to p
+  abbrev pub Follows : Ptr → Ptr → OwnedNode X → Type 0
+  Follows p h n = (h ≡ n.0) × (prev_of (block_of n) ≡ p)
+
   -- the nodes are linked both ways: h leads to the first and t to the last, the first `prev` is p and the last `next` q
   abbrev pub Segment : Ptr → Ptr → List (OwnedNode X) → Ptr → Ptr → Type 0
   Segment p h [] t q = (h ≡ q) × (t ≡ p)
-  Segment p h (n ∷ ns) t q = (h ≡ n.0) × (prev_of n.2 ≡ p) × Segment n.0 (next_of n.2) ns t q
+  Segment p h (n ∷ ns) t q = Follows p h n × Segment n.0 (next_of (block_of n)) ns t q
 
   -- the nodes are linked both ways from head to tail, both ends lead to nothing, and each address may be compared with
   -- null
-  abbrev pub IsLinked : Ptr → Ptr → ℕ → List (OwnedNode X) → Type 0
-  IsLinked head tail len ns =
-      (len ≡ length ns) × AreNullComparable (box_addresses ns) × Segment null_ptr head ns tail null_ptr
+  pub record IsLinked (head tail : Ptr) (len : ℕ) (ns : List (OwnedNode X)) : Type 0 where
+    pub long : len ≡ length ns
+    pub comparable : AreNullComparable (box_addresses ns)
+    pub segment : Segment null_ptr head ns tail null_ptr

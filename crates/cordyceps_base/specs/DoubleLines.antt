@@ -3,10 +3,10 @@ use Rattle.std.specs.Prelude.{◌≡◌, ◌≤◌, ◌⊎◌, Bool, true, false
 use denote.RawPtr.{Ptr, block_ptr, null_ptr, Testable, InBlock}
 use Rattle.cordyceps_base.specs.declared.boxes.Address.{Address}
 use Rattle.cordyceps_base.specs.Boxes.{box_addresses}
-use Rattle.cordyceps_base.specs.DoubleChain.{Segment, prev_of}
+use Rattle.cordyceps_base.specs.DoubleChain.{Segment, Follows, prev_of}
 use Rattle.cordyceps_base.specs.Element.{Element}
-use Rattle.cordyceps_base.specs.Nodes.{Nodes, OwnedNode, spots}
-use Rattle.cordyceps_base.specs.Spots.{index_of, AreDistinct, AreNullComparable}
+use Rattle.cordyceps_base.specs.Nodes.{Nodes, OwnedNode, block_of, spots}
+use Rattle.cordyceps_base.specs.Spots.{index_of, AreDistinct, IsNullComparable, AreNullComparable}
 
 -- the items of all lists, in order
 abbrev pub flat : {A : Type 0} → List (List A) → List A
@@ -49,41 +49,63 @@ module _ {X : Type 0} where
   Lead (h ∷ hs) (l ∷ ls) = ((t : Ptr) × Segment null_ptr h.ptr l t null_ptr) × Lead hs ls
 
   -- the nodes are lines, one after the other, with these first nodes
-  abbrev pub AreLines : List Address → List (OwnedNode X) → Type 0
-  AreLines hs ns =
-      AreNullComparable (box_addresses ns) × AreDistinct (box_addresses ns)
-      × ((ls : List (List (OwnedNode X))) × (ns ≡ flat ls) × Lead hs ls)
+  pub record AreLines (hs : List Address) (ns : List (OwnedNode X)) : Type 0 where
+    pub comparable : AreNullComparable (box_addresses ns)
+    pub distinct : AreDistinct (box_addresses ns)
+    pub lines : List (List (OwnedNode X))
+    pub parts : ns ≡ flat lines
+    pub led : Lead hs lines
 
   -- line k begins with a node whose `prev` is not null, and those before it with one whose `prev` is null, or have none
   abbrev pub IsMarkedAt : List Address → List (List (OwnedNode X)) → ℕ → Type 0
   IsMarkedAt [] ls k = ⊥
   IsMarkedAt (h ∷ hs) [] k = ⊥
   IsMarkedAt (h ∷ hs) ([] ∷ ls) zero = ⊥
-  IsMarkedAt (h ∷ hs) ((n ∷ l) ∷ ls) zero = (h.ptr ≡ n.0) × InBlock (prev_of n.2) × Testable (prev_of n.2)
+  IsMarkedAt (h ∷ hs) ((n ∷ l) ∷ ls) zero = (h.ptr ≡ n.0) × IsNullComparable (prev_of (block_of n))
   IsMarkedAt (h ∷ hs) ([] ∷ ls) (suc k) = (h.ptr ≡ null_ptr) × IsMarkedAt hs ls k
-  IsMarkedAt (h ∷ hs) ((n ∷ l) ∷ ls) (suc k) = (h.ptr ≡ n.0) × (prev_of n.2 ≡ null_ptr) × IsMarkedAt hs ls k
+  IsMarkedAt (h ∷ hs) ((n ∷ l) ∷ ls) (suc k) = Follows null_ptr h.ptr n × IsMarkedAt hs ls k
+
+  -- the nodes are such lines, and that at p begins one
+  pub record BeginsLine (hs : List Address) (ns : List (OwnedNode X)) (p : Ptr) : Type 0 where
+    pub before : List (List (OwnedNode X))
+    pub node : OwnedNode X
+    pub back : List (OwnedNode X)
+    pub after : List (List (OwnedNode X))
+    pub parts : ns ≡ flat (before ++ (node ∷ back) ∷ after)
+    pub led : Lead hs (before ++ (node ∷ back) ∷ after)
+    pub at : node.0 ≡ p
+
+  -- a node of the row is at p
+  pub record NodeAt (p : Ptr) (ns : List (OwnedNode X)) : Type 0 where
+    pub front : List (OwnedNode X)
+    pub node : OwnedNode X
+    pub back : List (OwnedNode X)
+    pub parts : ns ≡ front ++ node ∷ back
+    pub at : node.0 ≡ p
+
+  -- so is one at h, whose `prev` may be compared with null
+  pub record HeadNode (h : Address) (ns : List (OwnedNode X)) : Type 0 where
+    pub place : NodeAt h.ptr ns
+    pub in_block : InBlock place.node.0
+    pub prev_testable : Testable (prev_of (block_of place.node))
 
   -- h is null, or a node of the row is at h, whose `prev` may be compared with null
-  abbrev pub IsHead : Address → List (OwnedNode X) → Type 0
-  IsHead h ns =
-      AreDistinct (box_addresses ns) × Testable h.ptr
-      × ((h.ptr ≡ null_ptr)
-      ⊎ ((xs : List (OwnedNode X)) × (n : OwnedNode X) × (ys : List (OwnedNode X)) × (ns ≡ xs ++ n ∷ ys)
-      × (n.0 ≡ h.ptr) × InBlock n.0 × Testable (prev_of n.2)))
+  pub record IsHead (h : Address) (ns : List (OwnedNode X)) : Type 0 where
+    pub distinct : AreDistinct (box_addresses ns)
+    pub testable : Testable h.ptr
+    pub node : (h.ptr ≡ null_ptr) ⊎ HeadNode h ns
 
   -- what tells whether that node is marked
   abbrev pub IsHeadMarked : Bool → Address → List (OwnedNode X) → Type 0
-  IsHeadMarked true h ns =
-      (xs : List (OwnedNode X)) × (n : OwnedNode X) × (ys : List (OwnedNode X)) × (ns ≡ xs ++ n ∷ ys)
-      × (n.0 ≡ h.ptr) × InBlock (prev_of n.2)
+  IsHeadMarked true h ns = (u : NodeAt h.ptr ns) × InBlock (prev_of (block_of u.node))
   IsHeadMarked false h ns =
-      (h.ptr ≡ null_ptr)
-      ⊎ ((xs : List (OwnedNode X)) × (n : OwnedNode X) × (ys : List (OwnedNode X)) × (ns ≡ xs ++ n ∷ ys)
-      × (n.0 ≡ h.ptr) × (prev_of n.2 ≡ null_ptr))
+      (h.ptr ≡ null_ptr) ⊎ ((u : NodeAt h.ptr ns) × (prev_of (block_of u.node) ≡ null_ptr))
 
   -- the same for the part of an array that is used
-  abbrev pub IsTable : List Address → ℕ → List (OwnedNode X) → Type 0
-  IsTable xs n ns = (length xs ≡ 64) × (n ≤ 64) × AreLines (take n xs) ns
+  pub record IsTable (xs : List Address) (n : ℕ) (ns : List (OwnedNode X)) : Type 0 where
+    pub long : length xs ≡ 64
+    pub within : n ≤ 64
+    pub lines : AreLines (take n xs) ns
 
   -- what a walk over a table has left: the address leads to what is left of a line, which the lines from `line` on
   -- follow

@@ -4,6 +4,7 @@ use denote.RawPtr.{Ptr}
 use Rattle.std.specs.declared.alloc.Global.{Global}
 use Rattle.cordyceps_base.specs.declared.boxes.Address.{Address}
 use Rattle.cordyceps_base.specs.declared.node.Block.{Block}
+use Rattle.cordyceps_base.specs.Boxes.{box_value}
 use Rattle.cordyceps_base.specs.Element.{Element, Elements}
 
 -- nodes in order, each as the address where it is and its element
@@ -38,9 +39,13 @@ abbrev pub OwnedNode : Type 0 → Type 0
 OwnedNode X = Ptr × Global × Block X
 
 module _ {X : Type 0} where
+  -- the block of a node
+  abbrev pub block_of : OwnedNode X → Block X
+  block_of n = box_value n
+
   -- the element in a block
   abbrev pub block_element : Block X → Element X
   block_element b = record { id = b.id; value = b.value }
 
   abbrev pub nodes_of : List (OwnedNode X) → Nodes X
-  nodes_of = map (λ n. (n.0, block_element n.2))
+  nodes_of = map (λ n. (n.0, block_element (block_of n)))

@@ -5,7 +5,7 @@ use Rattle.cordyceps_base.specs.declared.boxes.Address.{Address}
 use Rattle.cordyceps_base.specs.declared.node.Block.{Block}
 use Rattle.cordyceps_base.specs.Boxes.{box_addresses}
 use Rattle.cordyceps_base.specs.Element.{values}
-use Rattle.cordyceps_base.specs.Nodes.{Nodes, OwnedNode, elements, nodes_of}
+use Rattle.cordyceps_base.specs.Nodes.{Nodes, OwnedNode, block_of, elements, nodes_of}
 use Rattle.cordyceps_base.specs.Spots.{AreNullComparable}
 
 -- an address, unless it is that of nothing
@@ -29,13 +29,13 @@ module _ {X : Type 0} where
   -- the nodes with another `next` in the last
   abbrev pub with_next_of_last : List (OwnedNode X) → Address → List (OwnedNode X)
   with_next_of_last [] p = []
-  with_next_of_last (n ∷ []) p = (n.0, n.1, with_next n.2 p) ∷ []
+  with_next_of_last (n ∷ []) p = (n.0, n.1, with_next (block_of n) p) ∷ []
   with_next_of_last (n ∷ m ∷ ns) p = n ∷ with_next_of_last (m ∷ ns) p
 
   -- h leads to the first node, each `next` to the node after, and the last `next` is z
   abbrev pub Leads : Option Address → List (OwnedNode X) → Option Address → Type 0
   Leads h [] z = h ≡ z
-  Leads h (n ∷ ns) z = (h ≡ Some (record { ptr = n.0 })) × Leads (next_of n.2) ns z
+  Leads h (n ∷ ns) z = (h ≡ Some (record { ptr = n.0 })) × Leads (next_of (block_of n)) ns z
 
   -- of the address a and those of the nodes after it, t is the last
   abbrev pub EndsAfter : Ptr → List (OwnedNode X) → Ptr → Type 0
@@ -56,8 +56,10 @@ module _ {X : Type 0} where
   AreLed h ns = IsLed h ns × AreNullComparable (box_addresses ns)
 
   -- the nodes are linked, from head to tail, and each address may be compared with null
-  abbrev pub IsLine : Option Address → Ptr → List (OwnedNode X) → Type 0
-  IsLine head tail ns = IsLed head ns × EndsAt ns tail × AreNullComparable (box_addresses ns)
+  pub record IsLine (head : Option Address) (tail : Ptr) (ns : List (OwnedNode X)) : Type 0 where
+    pub led : IsLed head ns
+    pub ends : EndsAt ns tail
+    pub comparable : AreNullComparable (box_addresses ns)
 
   -- the same with no head where there is no node, up to z
   abbrev pub IsFront : Option Address → List (OwnedNode X) → Option Address → Type 0
@@ -65,9 +67,12 @@ module _ {X : Type 0} where
   IsFront head (n ∷ ns) z = Leads head (n ∷ ns) z
 
   -- the nodes are linked, and at leads to the rest
-  abbrev pub IsParted : Option Address → Ptr → Option Address → Ptr → List (OwnedNode X) → List (OwnedNode X) → Type 0
-  IsParted head before at tail front rest =
-      IsFront head front at × EndsAt front before × IsLed at rest × EndsAt (front ++ rest) tail
+  pub record IsParted (head : Option Address) (before : Ptr) (at : Option Address) (tail : Ptr)
+      (front rest : List (OwnedNode X)) : Type 0 where
+    pub front_led : IsFront head front at
+    pub front_ends : EndsAt front before
+    pub rest_led : IsLed at rest
+    pub ends : EndsAt (front ++ rest) tail
 
   -- the values in the nodes
   abbrev pub values_in : List (OwnedNode X) → List X

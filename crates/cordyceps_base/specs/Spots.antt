@@ -24,7 +24,11 @@ abbrev pub AreDistinct : List Ptr → Type 0
 AreDistinct [] = Unit {0}
 AreDistinct (p ∷ ps) = IsNew p ps × AreDistinct ps
 
--- each is the address of a block, and may be compared with null
+-- p is the address of a block, and may be compared with null
+abbrev pub IsNullComparable : Ptr → Type 0
+IsNullComparable p = InBlock p × Testable p
+
+-- so is each of the list
 abbrev pub AreNullComparable : List Ptr → Type 0
 AreNullComparable [] = Unit {0}
-AreNullComparable (p ∷ ps) = InBlock p × Testable p × AreNullComparable ps
+AreNullComparable (p ∷ ps) = IsNullComparable p × AreNullComparable ps

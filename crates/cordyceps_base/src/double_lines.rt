@@ -7,7 +7,7 @@ ghost use Rattle.cordyceps_base.specs.Boxes.{box_addresses};
 ghost use Rattle.cordyceps_base.specs.DoubleChain.{Segment};
 ghost use Rattle.cordyceps_base.specs.Spots.{AreDistinct, AreNullComparable};
 ghost use Rattle.cordyceps_base.specs.BySpot.{HasSpot, HoldsAt};
-ghost use Rattle.cordyceps_base.specs.DoubleLines.{flat, Lead, IsTable, IsMarkedAt, IsHead, IsHeadMarked, IsTakenOut, IsFirstOut};
+ghost use Rattle.cordyceps_base.specs.DoubleLines.{flat, IsTable, BeginsLine, IsMarkedAt, IsHead, IsHeadMarked, IsTakenOut, IsFirstOut};
 ghost use Rattle.cordyceps_base.specs.Element.{Element, values};
 ghost use Rattle.cordyceps_base.specs.Nodes.{Nodes, OwnedNode, elements, nodes_of, spots};
 
@@ -465,9 +465,7 @@ fn led_on<T>(row: Row<T>, last: Address, next: Address) -> Row<T>
 /// that is not null, and looks for the mark: two addresses cannot be compared.
 fn number_of<T>(firsts: &[Address; 64], count: usize, row: Row<T>, at: Address) -> (usize, Row<T>)
     requires table { IsTable firsts.now count row.blocks }
-    requires first { (before after : List (List (OwnedNode T))) × (n : OwnedNode T) × (back : List (OwnedNode T))
-        × (row.blocks ≡ flat (before ++ (n ∷ back) ∷ after))
-        × Lead (take count firsts.now) (before ++ (n ∷ back) ∷ after) × (n.0 ≡ at.ptr) }
+    requires first { BeginsLine (take count firsts.now) row.blocks at.ptr }
     ensures same { result.1.blocks ≡ row.blocks }
     ensures number { (h : Address) × (slice_get (take count firsts.now) result.0 ≡ Some h) × (h.ptr ≡ at.ptr) }
 {

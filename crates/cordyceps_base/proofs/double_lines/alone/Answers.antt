@@ -20,7 +20,7 @@ invariant_of-result g c =
       comparable = subst (λ ls. AreNullComparable (box_addresses ls)) (sym c.null_comparable.ensures.0) c.null_comparable.ensures.1;
       prev = prev_of x;
       last = p;
-      linked = subst (λ ls. Segment (prev_of x) p ls p null_ptr) (sym is) (refl, refl, (c.null.ensures, refl));
+      linked = subst (λ ls. Segment (prev_of x) p ls p null_ptr) (sym is) ((refl, refl), (c.null.ensures, refl));
     }
 
 pub returns : goal.returns

@@ -19,6 +19,6 @@ returns-clause-linked g c =
     let f = c.followed_by-front.result.1.blocks in let r = c.preceded_by-back.result.1.blocks in let h = c.followed_by-front.result.0.ptr in let t = c.preceded_by-back.result.0.ptr in
     let is = linked_one at a v nx pr c.get_mut.result.now c.get_mut-2.result.now c.args.one.blocks e c.get_mut.ensures.value c.get_mut-2.ensures.value in
     let w = with_prev (with_next v nx) pr in
-    let back : Segment pr.ptr at ((at, a, w) ∷ [] ++ r) t null_ptr = (refl, refl, c.preceded_by-back.ensures.linked) in
+    let back : Segment pr.ptr at ((at, a, w) ∷ [] ++ r) t null_ptr = ((refl, refl), c.preceded_by-back.ensures.linked) in
     subst (λ ls. Segment null_ptr h ls t null_ptr) (sym (c.join-row.ensures ∙ ap (λ ls. f ++ ls) (c.join.ensures ∙ ap (λ ls. ls ++ r) is)))
     (segment_join null_ptr h f pr.ptr at ((at, a, w) ∷ [] ++ r) t null_ptr c.followed_by-front.ensures.linked back)

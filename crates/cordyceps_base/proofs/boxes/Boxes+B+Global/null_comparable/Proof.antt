@@ -35,11 +35,11 @@ null_comparable_spec 𝓤 𝓛 𝓜 𝓡 wired T L =
     let En = ended T in let c = clauses T 𝓛 𝓜.mem 𝓡.returns in let fn = inst_fn inst code.function in
     let hs : Stays En.signature.params En.kept = (stay_dropped (plain (λ _. B)) no, tt) in
     proved_at 𝓛 En hs c 𝓜 𝓡 (Goes-blank 𝓛 1 (plain (λ _. B)) no (λ κs x f. tt), tt) (#self inst) fn (code.unfolded 𝓤 H 𝓜 𝓡 wired (T, tt)) (λ z are.
-    let κs = z.0.0 in let qs = z.0.1 in let x = z.0.3.0 in let Post : Val → SProp 𝓤 = (walk_of 𝓛 En hs c).post z in let Run : List Val → SProp 𝓤 = λ ws. WpFn 𝓤 H 𝓣.C 𝓣.Λ fn ws Post in
-    let toks = ‵ (flft κs.0 qs.0) ⊛ ‵ ftrue in let asked = raw ((c κs z.0.3).requires z.1) in
+    let (κs, qs, unit, given, vals) = z.0 in let x = given.0 in let Post : Val → SProp 𝓤 = (walk_of 𝓛 En hs c).post z in let Run : List Val → SProp 𝓤 = λ ws. WpFn 𝓤 H 𝓣.C 𝓣.Λ fn ws Post in
+    let toks = ‵ (flft κs.0 qs.0) ⊛ ‵ ftrue in let asked = raw ((c κs given).requires z.1) in
     let Tested : Type 0 = AreNullComparable (box_addresses x.blocks) in
     let new : B.Denot = record { mark = x.mark; blocks = x.blocks } in
-    qed 𝓛 ((toks ⊛ ‵ (owns (types_at En.signature.params κs) z.0.3 z.0.4)) ∷ asked ∷ []) ∵ split ! $ move ! (1 ∷ []) $ fsplit ! $ heap_boxes_had ! R x z.0.4.0 (λ e0. learns ! Tested (row_comparable 𝓛 R x.blocks) (λ null_comparable.
+    qed 𝓛 ((toks ⊛ ‵ (owns (types_at En.signature.params κs) given vals)) ∷ asked ∷ []) ∵ split ! $ move ! (1 ∷ []) $ fsplit ! $ heap_boxes_had ! R x vals.0 (λ e0. learns ! Tested (row_comparable 𝓛 R x.blocks) (λ null_comparable.
     -- [the row; nothing; the tokens; what is asked]
     suffices ! (Run (mark ∷ [])) (subst (λ (us : List Val). ent 𝓤 (Run (mark ∷ [])) (Run us)) (sym (λ i. e0 i ++ [])) (id⊢ 𝓤 (Run (mark ∷ [])))) $
     enter ! 𝓣.C 𝓣.Λ fn (mark ∷ []) Post $ alloc_all ! (λ l. pass_all ! refl ((tt, (tt, tt)), tt) $

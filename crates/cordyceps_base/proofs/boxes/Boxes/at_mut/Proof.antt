@@ -41,7 +41,7 @@ use Rattle.core.proofs.alloc.Calls.{token}
 use Rattle.std_alloc.proofs.VecSteps.Shapes.{after}
 use Rattle.std_alloc.proofs.BoxSteps.Form.{Bx, args, X, R}
 use Rattle.std_alloc.proofs.RcSteps.{word}
-use Rattle.cordyceps_base.specs.Boxes.{box_addresses, box_values}
+use Rattle.cordyceps_base.specs.Boxes.{box_addresses, box_value, box_values}
 use Rattle.cordyceps_base.specs.Spots.{index_of}
 use Rattle.cordyceps_base.proofs.SpotsMemory.{first_at}
 use Rattle.cordyceps_base.specs.BoxesLends.{with_box_value}
@@ -93,15 +93,15 @@ module _ (E : Bx) {M : Type 1} {𝓤 : Ura M} (𝓛 : Logic 𝓤) (C : Calls �
   module _ (found : Found d.blocks k at.ptr) (ws : List Val) (b o : ℕ) where
     -- all but the value
     abbrev Rest : Fml
-    Rest = fsep (token E.al found.1.1 (bare (lone (R E).mir)) found.1.0) (fsep (Row E (found.0 ++ found.2)) (fsep ((Mark E).own_val (tt, tt) ws) (cell_at full_share (Br E).mir ws rb ro)))
+    Rest = fsep (token E.al found.box.1 (bare (lone (R E).mir)) found.box.0) (fsep (Row E (found.front ++ found.back)) (fsep ((Mark E).own_val (tt, tt) ws) (cell_at full_share (Br E).mir ws rb ro)))
 
-    back : found.1.0 ≡ block_ptr b o → (w : X E) → ent 𝓤 (sep 𝓤 (sem 𝓛 ((mem (R E)).own_at w b o)) (sem 𝓛 Rest)) (sem 𝓛 ((mem (Br E)).own_at (new w) rb ro))
+    back : found.box.0 ≡ block_ptr b o → (w : X E) → ent 𝓤 (sep 𝓤 (sem 𝓛 ((mem (R E)).own_at w b o)) (sem 𝓛 Rest)) (sem 𝓛 ((mem (Br E)).own_at (new w) rb ro))
     unfolding part_of
     back e w =
-        let n = found.1 in let m : Held E = (n.0, n.1, w) in
+        let n = found.box in let m : Held E = (n.0, n.1, w) in
         qed 𝓛 (‵ (part_at (R E) full_share w b o) ∷ ‵ Rest ∷ []) ∵ rewrite ! 0 (λ (p : Ptr). ‵ (points_to (R E) p w)) (sym e) refl $
         move ! (1 ∷ []) $ fsplit3 ! $ move ! (2 ∷ []) $ fsplit ! $ move ! (4 ∷ 2 ∷ []) $ fjoin ! $ move ! (0 ∷ 3 ∷ []) $
-        use2 𝓛 (‵ (Row E (found.0 ++ m ∷ found.2))) (row_put 𝓛 (token E.al) (R E) found.0 m found.2) $ rewrite ! 0 (λ (ns : List (Held E)). ‵ (Row E ns)) (sym (found.6 w)) refl $
+        use2 𝓛 (‵ (Row E (found.front ++ m ∷ found.back))) (row_put 𝓛 (token E.al) (R E) found.front m found.back) $ rewrite ! 0 (λ (ns : List (Held E)). ‵ (Row E ns)) (sym (found.set w)) refl $
         move ! (1 ∷ 0 ∷ []) $ fjoin ! $ move ! (1 ∷ 0 ∷ []) $ fjoin ! $ fpack ! (List Val) (λ us'. fsep (cell_at full_share (Br E).mir us' rb ro) ((Br E).own_val (new w) us')) ws $ done !
 
   exits : (b o : ℕ) (r : MutBor (X E)) → Gives E d k r
@@ -116,21 +116,21 @@ module _ (E : Bx) {M : Type 1} {𝓤 : Ura M} (𝓛 : Logic 𝓤) (C : Calls �
 
   walk : Asks E d at → ent 𝓤 (⋆ 𝓛 Had) (WpFn 𝓤 H C Λ (function E) (vptr rb ro ∷ word at.ptr ∷ []) Post)
   walk asked =
-      let found : Found d.blocks k at.ptr = at_index d.blocks k at.ptr (first_at (box_addresses d.blocks) at.ptr asked.0 asked.1) in let xs = found.0 in let n = found.1 in let ys = found.2 in
+      let found : Found d.blocks k at.ptr = at_index d.blocks k at.ptr (first_at (box_addresses d.blocks) at.ptr asked.0 asked.1) in let xs = found.front in let n = found.box in let ys = found.back in
       let code = (Br E).coded.code d in
       qed 𝓛 Had ∵ enter ! C Λ (function E) (vptr rb ro ∷ word at.ptr ∷ []) _ $ alloc_all ! (λ l. pass_all ! refl ((tt, tt), (address-Good at.ptr, tt)) $
       let En : Env 𝓤 H = env (function E).locals l in
-      opens ! tt (Br E) {h = d} rb ro (λ ws. move ! (1 ∷ []) $ fsplit ! $ move ! (1 ∷ []) $ rewrite ! 0 (λ (ns : List (Held E)). ‵ (Row E ns)) found.3 refl $
-      use1 𝓛 (‵ (fsep (points_to (R E) n.0 n.2) (token E.al n.1 (bare (lone (R E).mir)) n.0)) ⊛ ‵ (Row E (xs ++ ys))) (row_take 𝓛 (token E.al) (R E) xs n ys) $ split ! $ fsplit ! $
-      in_a_block ! n.0 (λ p. points_to (R E) p n.2) (id⊢ 𝓤 (never 𝓤)) (λ b o e.
-      let ep : at.ptr ≡ block_ptr b o = sym found.4 ∙ e in let way = back found ws b o e in
+      opens ! tt (Br E) {h = d} rb ro (λ ws. move ! (1 ∷ []) $ fsplit ! $ move ! (1 ∷ []) $ rewrite ! 0 (λ (ns : List (Held E)). ‵ (Row E ns)) found.parts refl $
+      use1 𝓛 (‵ (fsep (points_to (R E) n.0 (box_value n)) (token E.al n.1 (bare (lone (R E).mir)) n.0)) ⊛ ‵ (Row E (xs ++ ys))) (row_take 𝓛 (token E.al) (R E) xs n ys) $ split ! $ fsplit ! $
+      in_a_block ! n.0 (λ p. points_to (R E) p (box_value n)) (id⊢ 𝓤 (never 𝓤)) (λ b o e.
+      let ep : at.ptr ≡ block_ptr b o = sym found.lies ∙ e in let way = back found ws b o e in
       -- [the value; its token; the other boxes; the mark; its cell; the open borrow; obs; auth]
       sets ! (is ! (of_opd ! (get_in ! (fld ! refl (stop !)) (sub ! 0 refl (whole !)))) (ap ptr_val ep)) refl (tt, tt) $
       first ! $ blocks ! $ sets_last ! (addr ! (through ! refl (stop !))) refl (tt, tt) $ exec ! C Λ En (after 2 (function E).body) (at_ret En Post) $ sets ! (of_opd ! (get ! refl)) refl (tt, tt) $
       move ! (3 ∷ 4 ∷ []) $ fjoin ! $ move ! (2 ∷ 3 ∷ 0 ∷ []) $ fjoin3 ! $ move ! (2 ∷ 3 ∷ 4 ∷ 1 ∷ 0 ∷ []) $ group ! 5 $
-      use1 𝓛 (later (some (λ (δ : GName). raw (Part 𝓛 (Br E) (R E) new (named 0) κ q rb ro b o γ (sem 𝓛 (Rest found ws b o)) way n.2 δ))))
-      (lends_Part 𝓛 (Br E) (R E) new (named 0) κ q rb ro b o γ (sem 𝓛 (Rest found ws b o)) way code code n.2) $ await ! tt $ pick ! (λ δ.
-      returns ! (look_at ! 0 refl) $ free_all ! refl $ keep ! (0 ∷ []) $ by ! (exits b o (record { ref_ptr = (b, o); ghost_name = δ; now = n.2 }) found.5)))))
+      use1 𝓛 (later (some (λ (δ : GName). raw (Part 𝓛 (Br E) (R E) new (named 0) κ q rb ro b o γ (sem 𝓛 (Rest found ws b o)) way (box_value n) δ))))
+      (lends_Part 𝓛 (Br E) (R E) new (named 0) κ q rb ro b o γ (sem 𝓛 (Rest found ws b o)) way code code (box_value n)) $ await ! tt $ pick ! (λ δ.
+      returns ! (look_at ! 0 refl) $ free_all ! refl $ keep ! (0 ∷ []) $ by ! (exits b o (record { ref_ptr = (b, o); ghost_name = δ; now = box_value n }) found.holds)))))
 
   entry : Asks E d at → ent 𝓤 (on_entry 𝓛 (ended E).signature (κ, tt) (q, tt) (self, (at, tt)) (ps, (us, tt))) (WpFn 𝓤 H C Λ (function E) (ps ++ (us ++ [])) Post)
   entry asked =
@@ -142,7 +142,7 @@ meets : (E : Bx) {M : Type 1} {𝓤 : Ura M} (𝓛 : Logic 𝓤) (𝓣 : Tables 
     → Meets 𝓛 (ended E).signature (WpFn 𝓤 𝓛.H 𝓣.C 𝓣.Λ (function E)) (closing 𝓛 (ended E) (spec E 𝓛))
 meets E {𝓤 = 𝓤} 𝓛 𝓣 =
     walk_Meets 𝓛 (ended E) (stayed E) (Goes-spent_ref 𝓛 1 (0 ∷ []) tt (plain (λ _. Br E)), (Goes-dropped 𝓛 1 (plain (λ _. Pr)) yes (λ κs x f. refl), tt)) (spec E 𝓛) (WpFn 𝓤 𝓛.H 𝓣.C 𝓣.Λ (function E)) (WpFn-mono 𝓤 𝓛.H 𝓛.laws 𝓣 (function E))
-    (λ z. let a = z.0.3 in let vss = z.0.4 in needs 𝓤 (Asks E a.0.now a.1.0) _ (entry E 𝓛 𝓣.C 𝓣.Λ z.0.0.0 z.0.1.0 a.0.ref_ptr.0 a.0.ref_ptr.1 a.0.ghost_name a.0.now a.1.0 vss.0 vss.1.0))
+    (λ z. let (κs, qs, unit, a, vss) = z.0 in needs 𝓤 (Asks E a.0.now a.1.0) _ (entry E 𝓛 𝓣.C 𝓣.Λ κs.0 qs.0 a.0.ref_ptr.0 a.0.ref_ptr.1 a.0.ghost_name a.0.now a.1.0 vss.0 vss.1.0))
 
 pub at_mut_spec : {M : Type 1} → stated.statement M
 unfolding tables_of
@@ -151,4 +151,4 @@ at_mut_spec 𝓤 𝓛 𝓜 𝓡 wired Y Z L LZ g d dd met md y =
     let 𝓣 : Tables 𝓤 𝓛.H = tables_of 𝓤 𝓛.H 𝓜 (tables 𝓤 𝓛.H 𝓜 𝓡 𝓡.env) in
     spared 𝓛 (ended E).signature (𝓡.run (𝓡.env (#self (args E)))) (run_framed 𝓤 𝓛.H 𝓜 𝓡 (𝓡.env (#self (args E)))) 2 (Y.lives, (Z.lives, tt)) (closing 𝓛 (ended E) (spec E 𝓛))
     (entered 𝓤 𝓛.H (triple_of 𝓛 (ended E).signature (closing 𝓛 (ended E) (spec E 𝓛))) 𝓣.C 𝓣.Λ (#self (args E)) (function E) (code.unfolded 𝓤 𝓛.H 𝓜 𝓡 wired (Y, (Z, tt)) d dd) (meets E 𝓛 𝓣))
-    ((y.0.0, y.0.1, tt, y.0.3, y.0.4), y.1)
+    (let (κs, qs, unit, given, vals) = y.0 in ((κs, qs, tt, given, vals), y.1))

@@ -14,26 +14,26 @@ get-requires g c = at_place c.self.inside.boxes.blocks c.args.self c.self.view_i
 pub get_mut-requires : goal.get_mut-requires
 get_mut-requires g c =
     let i = c.self.inside in let k = c.args.k in let at = c.args.at.ptr in let ns = i.boxes.blocks in let b = c.get.result.now in
-    let parts = cut_before null_ptr i.head.ptr k ns i.tail.ptr null_ptr at b c.self.invariant.2 (at_place ns c.args.self c.self.view_is k at c.requires.1) c.get.ensures in
-    let long = c.self.invariant.0 in let within = within_values ns k b c.get.ensures in let less : k < i.len = omega (arith, long, within) in
+    let parts = cut_before null_ptr i.head.ptr k ns i.tail.ptr null_ptr at b c.self.invariant.segment (at_place ns c.args.self c.self.view_is k at c.requires.1) c.get.ensures in
+    let long = c.self.invariant.long in let within = within_values ns k b c.get.ensures in let less : k < i.len = omega (arith, long, within) in
     subst (λ ls. slice_get (box_addresses ls) (k - 1) ≡ Some b.links.prev.ptr) (sym c.cut-front.ensures.0) (front_end k i.len ns i.head.ptr i.tail.ptr b.links.prev.ptr at c.null.result c.null.result c.null.ensures c.null.ensures c.requires.0 less long parts.0)
 
 pub get_mut-requires-2 : goal.get_mut-requires-2
 get_mut-requires-2 g c =
     let i = c.self.inside in let k = c.args.k in let at = c.args.at.ptr in let ns = i.boxes.blocks in let b = c.get.result.now in
-    let parts = cut_before null_ptr i.head.ptr k ns i.tail.ptr null_ptr at b c.self.invariant.2 (at_place ns c.args.self c.self.view_is k at c.requires.1) c.get.ensures in
-    let long = c.self.invariant.0 in let within = within_values ns k b c.get.ensures in let less : k < i.len = omega (arith, long, within) in
+    let parts = cut_before null_ptr i.head.ptr k ns i.tail.ptr null_ptr at b c.self.invariant.segment (at_place ns c.args.self c.self.view_is k at c.requires.1) c.get.ensures in
+    let long = c.self.invariant.long in let within = within_values ns k b c.get.ensures in let less : k < i.len = omega (arith, long, within) in
     subst (λ ls. slice_get (box_addresses ls) 0 ≡ Some at) (sym c.cut-front.ensures.1) (back_end k i.len ns i.head.ptr i.tail.ptr b.links.prev.ptr at c.null.result c.null.result c.null.ensures c.null.ensures c.requires.0 less long parts.1)
 
 pub overflow_sub-rest : goal.overflow_sub-rest
 overflow_sub-rest g c =
-    let i = c.self.inside in let long = c.self.invariant.0 in let within = within_values i.boxes.blocks c.args.k c.get.result.now c.get.ensures in omega (arith, long, within)
+    let i = c.self.inside in let long = c.self.invariant.long in let within = within_values i.boxes.blocks c.args.k c.get.result.now c.get.ensures in omega (arith, long, within)
 
 pub invariant_of-first : goal.invariant_of-first
 invariant_of-first g c =
     let i = c.self.inside in let k = c.args.k in let at = c.args.at.ptr in let ns = i.boxes.blocks in let b = c.get.result.now in
-    let parts = cut_before null_ptr i.head.ptr k ns i.tail.ptr null_ptr at b c.self.invariant.2 (at_place ns c.args.self c.self.view_is k at c.requires.1) c.get.ensures in
-    let long = c.self.invariant.0 in let within = within_values ns k b c.get.ensures in let less : k < i.len = omega (arith, long, within) in
+    let parts = cut_before null_ptr i.head.ptr k ns i.tail.ptr null_ptr at b c.self.invariant.segment (at_place ns c.args.self c.self.view_is k at c.requires.1) c.get.ensures in
+    let long = c.self.invariant.long in let within = within_values ns k b c.get.ensures in let less : k < i.len = omega (arith, long, within) in
     let no = c.null.result in let f = c.cut-front.ensures.0 in let o = c.get_mut.result.now in
     front_cut k i.len ns i.head.ptr i.tail.ptr b.links.prev.ptr at no no c.null.ensures c.null.ensures c.requires.0 less long o c.null_comparable.result.blocks parts.0
     (subst (λ ls. slice_get (box_values ls) (k - 1) ≡ Some o) f c.get_mut.ensures.value)
@@ -43,8 +43,8 @@ invariant_of-first g c =
 pub invariant_of-rest : goal.invariant_of-rest
 invariant_of-rest g c =
     let i = c.self.inside in let k = c.args.k in let at = c.args.at.ptr in let ns = i.boxes.blocks in let b = c.get.result.now in
-    let parts = cut_before null_ptr i.head.ptr k ns i.tail.ptr null_ptr at b c.self.invariant.2 (at_place ns c.args.self c.self.view_is k at c.requires.1) c.get.ensures in
-    let long = c.self.invariant.0 in let within = within_values ns k b c.get.ensures in let less : k < i.len = omega (arith, long, within) in
+    let parts = cut_before null_ptr i.head.ptr k ns i.tail.ptr null_ptr at b c.self.invariant.segment (at_place ns c.args.self c.self.view_is k at c.requires.1) c.get.ensures in
+    let long = c.self.invariant.long in let within = within_values ns k b c.get.ensures in let less : k < i.len = omega (arith, long, within) in
     let no = c.null-2.result in let f = c.cut-front.ensures.1 in let o = c.get_mut-2.result.now in
     back_cut k i.len ns i.head.ptr i.tail.ptr b.links.prev.ptr at no no c.null-2.ensures c.null-2.ensures c.requires.0 less long o c.null_comparable-2.result.blocks parts.1
     (subst (λ ls. slice_get (box_values ls) 0 ≡ Some o) f c.get_mut-2.ensures.value)

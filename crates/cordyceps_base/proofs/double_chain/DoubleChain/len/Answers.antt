@@ -3,4 +3,4 @@ use Rattle.cordyceps_base.proofs.Nodes.{length_is}
 use Rattle.cordyceps_base.proofs.double_chain.DoubleChain.len.Goals as goal
 
 pub returns : goal.returns
-returns g c = c.self.invariant.0 ∙ sym (length_is c.self.inside.boxes.blocks c.args.self.now c.self.view_is)
+returns g c = c.self.invariant.long ∙ sym (length_is c.self.inside.boxes.blocks c.args.self.now c.self.view_is)

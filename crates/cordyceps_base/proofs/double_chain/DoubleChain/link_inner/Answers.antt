@@ -8,18 +8,18 @@ pub put_in-requires-clause-on : goal.put_in-requires-clause-on
 put_in-requires-clause-on g c = rw (c.replace-row.ensures.value) (at_place c.self.inside.boxes.blocks c.args.self.now c.self.view_is c.args.k c.args.at.ptr c.requires.on)
 
 pub put_in-requires-clause-linked : goal.put_in-requires-clause-linked
-put_in-requires-clause-linked g c = (c.self.inside.head.ptr, c.self.inside.tail.ptr, rw (c.replace-row.ensures.value) c.self.invariant.2)
+put_in-requires-clause-linked g c = (c.self.inside.head.ptr, c.self.inside.tail.ptr, rw (c.replace-row.ensures.value) c.self.invariant.segment)
 
 pub invariant_of-self : goal.invariant_of-self
 invariant_of-self g c =
-    let i = c.self.inside in let k = c.args.k in let row = c.replace-row.result.blocks in let v = nodes_of row in let long = c.self.invariant.0 in
+    let i = c.self.inside in let k = c.args.k in let row = c.replace-row.result.blocks in let v = nodes_of row in let long = c.self.invariant.long in
     let (address, holds) = c.put_in.ensures.holds in
     let count = ap length holds ∙ length-append (take k v) ((address, c.args.node) ∷ drop k v) in
-    rw (c.replace-empty.ensures.after, c.null_comparable-whole.ensures.0) (
-      omega (arith, long, count, length-take k v, length-drop k v, ap (λ b. length b.blocks) c.replace-row.ensures.value, length-nodes_of row, length-nodes_of c.put_in.result.blocks),
-      c.null_comparable-whole.ensures.1,
-      c.put_in.ensures.linked i.head.ptr i.tail.ptr (rw (c.replace-row.ensures.value) c.self.invariant.2),
-    )
+    rw (c.replace-empty.ensures.after, c.null_comparable-whole.ensures.0) (record {
+      long = omega (arith, long, count, length-take k v, length-drop k v, ap (λ b. length b.blocks) c.replace-row.ensures.value, length-nodes_of row, length-nodes_of c.put_in.result.blocks);
+      comparable = c.null_comparable-whole.ensures.1;
+      segment = c.put_in.ensures.linked i.head.ptr i.tail.ptr (rw (c.replace-row.ensures.value) c.self.invariant.segment);
+    })
 
 pub returns : goal.returns
 returns g c =

@@ -8,14 +8,14 @@ get-requires g c = place_there c.self.inside.boxes.blocks c.from_address.result.
 pub is_not_null-requires : goal.is_not_null-requires
 is_not_null-requires g c =
     let u = cut c.self.view_is c.requires c.self.invariant (refl, c.from_address.ensures) in
-    next_testable u c.args.self.now c.self.view_is c.self.invariant.1 c.get.result.now c.get.ensures
+    next_testable u c.args.self.now c.self.view_is c.self.invariant.comparable c.get.result.now c.get.ensures
 
 pub returns-then-is_not_null : goal.returns-then-is_not_null
 returns-then-is_not_null g c =
     let u = cut c.self.view_is c.requires c.self.invariant (refl, c.from_address.ensures) in
-    next_there u c.args.self.now c.self.view_is c.self.invariant.1 c.get.result.now c.get.ensures c.if-is_not_null.ensures
+    next_there u c.args.self.now c.self.view_is c.self.invariant.comparable c.get.result.now c.get.ensures c.if-is_not_null.ensures
 
 pub returns-else-is_not_null : goal.returns-else-is_not_null
 returns-else-is_not_null g c =
     let u = cut c.self.view_is c.requires c.self.invariant (refl, c.from_address.ensures) in
-    next_none u c.args.self.now c.self.view_is c.self.invariant.1 c.get.result.now c.get.ensures c.if-is_not_null.ensures
+    next_none u c.args.self.now c.self.view_is c.self.invariant.comparable c.get.result.now c.get.ensures c.if-is_not_null.ensures

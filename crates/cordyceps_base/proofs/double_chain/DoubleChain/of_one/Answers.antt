@@ -19,7 +19,11 @@ pub invariant_of-result : goal.invariant_of-result
 invariant_of-result g c =
     let (a, x, e) = c.requires in let p = c.args.at.ptr in
     let is = c.null_comparable.ensures.0 ∙ linked_one p a x c.null.result c.null-2.result c.get_mut.result.now c.get_mut-2.result.now c.args.row.blocks e c.get_mut.ensures.value c.get_mut-2.ensures.value in
-    (ap length (sym is), subst (λ ls. AreNullComparable (box_addresses ls)) (sym c.null_comparable.ensures.0) c.null_comparable.ensures.1, subst (λ ls. Segment null_ptr p ls p null_ptr) (sym is) (refl, c.null-2.ensures, (c.null.ensures, refl)))
+    record {
+      long = ap length (sym is);
+      comparable = subst (λ ls. AreNullComparable (box_addresses ls)) (sym c.null_comparable.ensures.0) c.null_comparable.ensures.1;
+      segment = subst (λ ls. Segment null_ptr p ls p null_ptr) (sym is) ((refl, c.null-2.ensures), (c.null.ensures, refl));
+    }
 
 pub returns : goal.returns
 returns g c =

@@ -6,7 +6,7 @@ use Rattle.cordyceps_base.proofs.double_chain.DoubleChain.only.Goals as goal
 
 pub get-requires : goal.get-requires
 get-requires g c =
-    let i = c.self.inside in let long = c.self.invariant.0 in let one = c.requires in let same = length_is i.boxes.blocks c.args.self c.self.view_is in
+    let i = c.self.inside in let long = c.self.invariant.long in let one = c.requires in let same = length_is i.boxes.blocks c.args.self c.self.view_is in
     let some : 0 < i.len = omega (arith, long, one, same) in first_here i.head.ptr i.tail.ptr i.len i.boxes.blocks c.self.invariant some
 
 pub only-requires : goal.only-requires

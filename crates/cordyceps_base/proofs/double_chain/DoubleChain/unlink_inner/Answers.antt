@@ -13,18 +13,18 @@ pub cut_out-node-requires-clause-on : goal.cut_out-node-requires-clause-on
 cut_out-node-requires-clause-on g c = rw (c.replace-row.ensures.value) (at_place c.self.inside.boxes.blocks c.args.self.now c.self.view_is c.args.k c.args.at.ptr c.requires.on)
 
 pub cut_out-node-requires-clause-linked : goal.cut_out-node-requires-clause-linked
-cut_out-node-requires-clause-linked g c = (c.self.inside.head.ptr, c.self.inside.tail.ptr, rw (c.replace-row.ensures.value) c.self.invariant.2)
+cut_out-node-requires-clause-linked g c = (c.self.inside.head.ptr, c.self.inside.tail.ptr, rw (c.replace-row.ensures.value) c.self.invariant.segment)
 
 pub invariant_of-self : goal.invariant_of-self
 invariant_of-self g c =
-    let i = c.self.inside in let k = c.args.k in let row = c.replace-row.result.blocks in let v = nodes_of row in let long = c.self.invariant.0 in let more = c.requires.inner.1 in
+    let i = c.self.inside in let k = c.args.k in let row = c.replace-row.result.blocks in let v = nodes_of row in let long = c.self.invariant.long in let more = c.requires.inner.1 in
     let seen = length_is i.boxes.blocks c.args.self.now c.self.view_is in let left = c.cut_out-node.result.1.blocks in
     let count = ap length c.cut_out-node.ensures.others ∙ length-append (take k v) (drop (k + 1) v) in
-    rw (c.replace-empty.ensures.after, c.null_comparable.ensures.0) (
-      omega (arith, long, more, seen, count, length-take k v, length-drop (k + 1) v, ap (λ b. length b.blocks) c.replace-row.ensures.value, length-nodes_of row, length-nodes_of left),
-      c.null_comparable.ensures.1,
-      c.cut_out-node.ensures.linked i.head.ptr i.tail.ptr (rw (c.replace-row.ensures.value) c.self.invariant.2),
-    )
+    rw (c.replace-empty.ensures.after, c.null_comparable.ensures.0) (record {
+      long = omega (arith, long, more, seen, count, length-take k v, length-drop (k + 1) v, ap (λ b. length b.blocks) c.replace-row.ensures.value, length-nodes_of row, length-nodes_of left);
+      comparable = c.null_comparable.ensures.1;
+      segment = c.cut_out-node.ensures.linked i.head.ptr i.tail.ptr (rw (c.replace-row.ensures.value) c.self.invariant.segment);
+    })
 
 pub returns-clause-node : goal.returns-clause-node
 returns-clause-node g c =

@@ -1,17 +1,16 @@
 use Rattle.std.proofs.Common.{◌≡◌, suc, List, ◌-◌, [], ◌∷◌, ◌++◌, length, slice_get, length-append, ap, ◌∙◌, sym, subst, refl, arith}
 use denote.RawPtr.{null_ptr}
 use Rattle.cordyceps_base.specs.Boxes.{box_addresses, set_value}
-use Rattle.cordyceps_base.specs.Nodes.{nodes_of, OwnedNode}
+use Rattle.cordyceps_base.specs.Nodes.{nodes_of, block_element, OwnedNode}
 use Rattle.cordyceps_base.specs.Spots.{AreNullComparable}
 use Rattle.cordyceps_base.specs.DoubleChain.{Segment}
-use Rattle.cordyceps_base.specs.Nodes.{block_element}
 use Rattle.cordyceps_base.proofs.DoubleChain.{last_here, relinked_last, segment_join, with_next, with_prev, linked_one}
 use Rattle.cordyceps_base.proofs.Nodes.{length_is, length-set_value, box_addresses-set, nodes_of-append, nodes_of-set}
 use Rattle.cordyceps_base.proofs.double_chain.DoubleChain.with_last.Goals as goal
 
 pub get_mut-requires : goal.get_mut-requires
 get_mut-requires g c =
-    let i = c.self.inside in let seen = length_is i.boxes.blocks c.args.self c.self.view_is in let asked = c.requires.some in let long = c.self.invariant.0 in
+    let i = c.self.inside in let seen = length_is i.boxes.blocks c.args.self c.self.view_is in let asked = c.requires.some in let long = c.self.invariant.long in
     last_here i.head.ptr i.tail.ptr i.len i.boxes.blocks c.self.invariant (omega (arith, seen, asked, long))
 
 pub get_mut-requires-2 : goal.get_mut-requires-2
@@ -19,29 +18,29 @@ get_mut-requires-2 g c = ap (λ ls. slice_get (box_addresses ls) 0) c.one-new.en
 
 pub get_mut-requires-3 : goal.get_mut-requires-3
 get_mut-requires-3 g c =
-    ap (λ ps. slice_get ps 0) (box_addresses-set c.one-new.result.2.blocks 0 (with_next c.get_mut-2.result.now c.null.result)) ∙ ap (λ ls. slice_get (box_addresses ls) 0) c.one-new.ensures
+    let (at, heap, row) = c.one-new.result in ap (λ ps. slice_get ps 0) (box_addresses-set row.blocks 0 (with_next c.get_mut-2.result.now c.null.result)) ∙ ap (λ ls. slice_get (box_addresses ls) 0) c.one-new.ensures
 
 pub invariant_of-whole : goal.invariant_of-whole
 invariant_of-whole g c =
-    let i = c.self.inside in let ns = i.boxes.blocks in let long = c.self.invariant.0 in let t = i.tail.ptr in let seen = length_is ns c.args.self c.self.view_is in let asked = c.requires.some in
+    let i = c.self.inside in let ns = i.boxes.blocks in let long = c.self.invariant.long in let t = i.tail.ptr in let seen = length_is ns c.args.self c.self.view_is in let asked = c.requires.some in
     let on : suc (i.len - 1) ≡ length ns = omega (arith, seen, asked, long) in
-    let at = c.one-new.result.0 in let o = c.get_mut.result.now in let x = c.from_box.result.value in let front = set_value ns (i.len - 1) (with_next o at) in
+    let (at, heap, row) = c.one-new.result in let o = c.get_mut.result.now in let x = c.from_box.result.value in let front = set_value ns (i.len - 1) (with_next o at) in
     let w = with_prev (with_next x c.null.result) i.tail in
-    let new = linked_one at.ptr c.one-new.result.1 x c.null.result i.tail c.get_mut-2.result.now c.get_mut-3.result.now c.one-new.result.2.blocks c.one-new.ensures c.get_mut-2.ensures.value c.get_mut-3.ensures.value in
+    let new = linked_one at.ptr heap x c.null.result i.tail c.get_mut-2.result.now c.get_mut-3.result.now row.blocks c.one-new.ensures c.get_mut-2.ensures.value c.get_mut-3.ensures.value in
     let all = c.null_comparable.ensures.0 ∙ c.join.ensures ∙ ap (λ l. front ++ l) new in
-    let linked = relinked_last null_ptr i.head.ptr ns t null_ptr at o (i.len - 1) on c.self.invariant.2 c.get_mut.ensures.value in
-    let one : List (OwnedNode _) = (at.ptr, c.one-new.result.1, w) ∷ [] in (
-      omega (arith, long, ap length all, length-append front one, length-set_value ns (i.len - 1) (with_next o at)),
-      subst (λ ls. AreNullComparable (box_addresses ls)) (sym c.null_comparable.ensures.0) c.null_comparable.ensures.1,
-      subst (λ ls. Segment null_ptr i.head.ptr ls at.ptr null_ptr) (sym all) (segment_join null_ptr i.head.ptr front t at.ptr one at.ptr null_ptr linked (refl, refl, (c.null.ensures, refl))),
-    )
+    let linked = relinked_last null_ptr i.head.ptr ns t null_ptr at o (i.len - 1) on c.self.invariant.segment c.get_mut.ensures.value in
+    let one : List (OwnedNode _) = (at.ptr, heap, w) ∷ [] in record {
+      long = omega (arith, long, ap length all, length-append front one, length-set_value ns (i.len - 1) (with_next o at));
+      comparable = subst (λ ls. AreNullComparable (box_addresses ls)) (sym c.null_comparable.ensures.0) c.null_comparable.ensures.1;
+      segment = subst (λ ls. Segment null_ptr i.head.ptr ls at.ptr null_ptr) (sym all) (segment_join null_ptr i.head.ptr front t at.ptr one at.ptr null_ptr linked ((refl, refl), (c.null.ensures, refl)));
+    }
 
 pub returns : goal.returns
 returns g c =
-    let i = c.self.inside in let ns = i.boxes.blocks in let at = c.one-new.result.0 in let o = c.get_mut.result.now in let front = set_value ns (i.len - 1) (with_next o at) in
+    let i = c.self.inside in let ns = i.boxes.blocks in let (at, heap, row) = c.one-new.result in let o = c.get_mut.result.now in let front = set_value ns (i.len - 1) (with_next o at) in
     let x = c.from_box.result.value in let w = with_prev (with_next x c.null.result) i.tail in
-    let new = linked_one at.ptr c.one-new.result.1 x c.null.result i.tail c.get_mut-2.result.now c.get_mut-3.result.now c.one-new.result.2.blocks c.one-new.ensures c.get_mut-2.ensures.value c.get_mut-3.ensures.value in
+    let new = linked_one at.ptr heap x c.null.result i.tail c.get_mut-2.result.now c.get_mut-3.result.now row.blocks c.one-new.ensures c.get_mut-2.ensures.value c.get_mut-3.ensures.value in
     let all = c.null_comparable.ensures.0 ∙ c.join.ensures ∙ ap (λ l. front ++ l) new in
     let node = ap block_element c.from_box.ensures ∙ c.node.view_is in
     let keep = nodes_of-set ns (i.len - 1) o (with_next o at) c.get_mut.ensures.value refl refl ∙ c.self.view_is in
-    ap nodes_of all ∙ nodes_of-append front ((at.ptr, c.one-new.result.1, w) ∷ []) ∙ (λ j. keep j ++ (at.ptr, node j) ∷ [])
+    ap nodes_of all ∙ nodes_of-append front ((at.ptr, heap, w) ∷ []) ∙ (λ j. keep j ++ (at.ptr, node j) ∷ [])

@@ -11,28 +11,28 @@ use Rattle.cordyceps_base.proofs.double_chain.DoubleChain.without_first.Goals as
 
 pub get-requires : goal.get-requires
 get-requires g c =
-    let i = c.self.inside in let seen = length_is i.boxes.blocks c.args.self c.self.view_is in let asked = c.requires in let long = c.self.invariant.0 in
+    let i = c.self.inside in let seen = length_is i.boxes.blocks c.args.self c.self.view_is in let asked = c.requires in let long = c.self.invariant.long in
     first_here i.head.ptr i.tail.ptr i.len i.boxes.blocks c.self.invariant (omega (arith, seen, asked, long))
 
 pub get_mut-requires : goal.get_mut-requires
 get_mut-requires g c =
-    let i = c.self.inside in let ns = i.boxes.blocks in let seen = length_is ns c.args.self c.self.view_is in let asked = c.requires in let long = c.self.invariant.0 in
+    let i = c.self.inside in let ns = i.boxes.blocks in let seen = length_is ns c.args.self c.self.view_is in let asked = c.requires in let long = c.self.invariant.long in
     let some : 0 < i.len = omega (arith, seen, asked, long) in let less : 1 < i.len = omega (arith, seen, asked, long) in
     let b = c.get.result.now in let h = i.head.ptr in let no = c.null.result in
-    let parts = cut_after null_ptr h 0 ns i.tail.ptr null_ptr h b c.self.invariant.2 (first_here h i.tail.ptr i.len ns c.self.invariant some) c.get.ensures in
+    let parts = cut_after null_ptr h 0 ns i.tail.ptr null_ptr h b c.self.invariant.segment (first_here h i.tail.ptr i.len ns c.self.invariant some) c.get.ensures in
     subst (λ ls. slice_get (box_addresses ls) 0 ≡ Some b.links.next.ptr) (sym c.cut-one.ensures.1) (back_end 1 i.len ns h i.tail.ptr h b.links.next.ptr no no c.null.ensures c.null.ensures (omega arith) less long parts.1)
 
 pub node_of-requires : goal.node_of-requires
 node_of-requires g c =
     let i = c.self.inside in let ns = i.boxes.blocks in let seen = length_is ns c.args.self c.self.view_is in let asked = c.requires in
-    let (a, x, is) = first_one null_ptr i.head.ptr ns i.tail.ptr null_ptr (omega (arith, seen, asked)) c.self.invariant.2 in (a, x, c.cut-one.ensures.0 ∙ is)
+    let (a, x, is) = first_one null_ptr i.head.ptr ns i.tail.ptr null_ptr (omega (arith, seen, asked)) c.self.invariant.segment in (a, x, c.cut-one.ensures.0 ∙ is)
 
 pub invariant_of-left : goal.invariant_of-left
 invariant_of-left g c =
-    let i = c.self.inside in let ns = i.boxes.blocks in let seen = length_is ns c.args.self c.self.view_is in let asked = c.requires in let long = c.self.invariant.0 in
+    let i = c.self.inside in let ns = i.boxes.blocks in let seen = length_is ns c.args.self c.self.view_is in let asked = c.requires in let long = c.self.invariant.long in
     let some : 0 < i.len = omega (arith, seen, asked, long) in let less : 1 < i.len = omega (arith, seen, asked, long) in
     let b = c.get.result.now in let h = i.head.ptr in let no = c.null.result in let o = c.get_mut.result.now in let cut = c.cut-one.ensures.1 in
-    let parts = cut_after null_ptr h 0 ns i.tail.ptr null_ptr h b c.self.invariant.2 (first_here h i.tail.ptr i.len ns c.self.invariant some) c.get.ensures in
+    let parts = cut_after null_ptr h 0 ns i.tail.ptr null_ptr h b c.self.invariant.segment (first_here h i.tail.ptr i.len ns c.self.invariant some) c.get.ensures in
     back_cut 1 i.len ns h i.tail.ptr h b.links.next.ptr no no c.null.ensures c.null.ensures (omega arith) less long o c.null_comparable.result.blocks parts.1
     (subst (λ ls. slice_get (box_values ls) 0 ≡ Some o) cut c.get_mut.ensures.value)
     (c.null_comparable.ensures.0 ∙ ap (λ ls. set_value ls 0 (with_prev o no)) cut)

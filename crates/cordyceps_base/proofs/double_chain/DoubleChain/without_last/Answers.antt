@@ -11,33 +11,33 @@ use Rattle.cordyceps_base.proofs.double_chain.DoubleChain.without_last.Goals as 
 
 pub overflow_sub-before : goal.overflow_sub-before
 overflow_sub-before g c =
-    let i = c.self.inside in let seen = length_is i.boxes.blocks c.args.self c.self.view_is in let asked = c.requires in let long = c.self.invariant.0 in omega (arith, seen, asked, long)
+    let i = c.self.inside in let seen = length_is i.boxes.blocks c.args.self c.self.view_is in let asked = c.requires in let long = c.self.invariant.long in omega (arith, seen, asked, long)
 
 pub get-requires : goal.get-requires
 get-requires g c =
-    let i = c.self.inside in let seen = length_is i.boxes.blocks c.args.self c.self.view_is in let asked = c.requires in let long = c.self.invariant.0 in
+    let i = c.self.inside in let seen = length_is i.boxes.blocks c.args.self c.self.view_is in let asked = c.requires in let long = c.self.invariant.long in
     last_here i.head.ptr i.tail.ptr i.len i.boxes.blocks c.self.invariant (omega (arith, seen, asked, long))
 
 pub get_mut-requires : goal.get_mut-requires
 get_mut-requires g c =
-    let i = c.self.inside in let ns = i.boxes.blocks in let seen = length_is ns c.args.self c.self.view_is in let asked = c.requires in let long = c.self.invariant.0 in
+    let i = c.self.inside in let ns = i.boxes.blocks in let seen = length_is ns c.args.self c.self.view_is in let asked = c.requires in let long = c.self.invariant.long in
     let k = i.len - 1 in let pos : 0 < k = omega (arith, seen, asked, long) in let less : k < i.len = omega (arith, seen, asked, long) in let some : 0 < i.len = omega (arith, less) in
     let b = c.get.result.now in let h = i.head.ptr in let t = i.tail.ptr in let no = c.null.result in
-    let parts = cut_before null_ptr h k ns t null_ptr t b c.self.invariant.2 (last_here h t i.len ns c.self.invariant some) c.get.ensures in
+    let parts = cut_before null_ptr h k ns t null_ptr t b c.self.invariant.segment (last_here h t i.len ns c.self.invariant some) c.get.ensures in
     subst (λ ls. slice_get (box_addresses ls) (k - 1) ≡ Some b.links.prev.ptr) (sym c.cut-front.ensures.0) (front_end k i.len ns h t b.links.prev.ptr t no no c.null.ensures c.null.ensures pos less long parts.0)
 
 pub node_of-requires : goal.node_of-requires
 node_of-requires g c =
-    let i = c.self.inside in let ns = i.boxes.blocks in let seen = length_is ns c.args.self c.self.view_is in let asked = c.requires in let long = c.self.invariant.0 in
+    let i = c.self.inside in let ns = i.boxes.blocks in let seen = length_is ns c.args.self c.self.view_is in let asked = c.requires in let long = c.self.invariant.long in
     let on : suc (i.len - 1) ≡ length ns = omega (arith, seen, asked, long) in
-    let (a, x, is) = last_one null_ptr i.head.ptr ns i.tail.ptr null_ptr (i.len - 1) on c.self.invariant.2 in (a, x, c.cut-front.ensures.1 ∙ is)
+    let (a, x, is) = last_one null_ptr i.head.ptr ns i.tail.ptr null_ptr (i.len - 1) on c.self.invariant.segment in (a, x, c.cut-front.ensures.1 ∙ is)
 
 pub invariant_of-left : goal.invariant_of-left
 invariant_of-left g c =
-    let i = c.self.inside in let ns = i.boxes.blocks in let seen = length_is ns c.args.self c.self.view_is in let asked = c.requires in let long = c.self.invariant.0 in
+    let i = c.self.inside in let ns = i.boxes.blocks in let seen = length_is ns c.args.self c.self.view_is in let asked = c.requires in let long = c.self.invariant.long in
     let k = i.len - 1 in let pos : 0 < k = omega (arith, seen, asked, long) in let less : k < i.len = omega (arith, seen, asked, long) in let some : 0 < i.len = omega (arith, less) in
     let b = c.get.result.now in let h = i.head.ptr in let t = i.tail.ptr in let no = c.null.result in let o = c.get_mut.result.now in let cut = c.cut-front.ensures.0 in
-    let parts = cut_before null_ptr h k ns t null_ptr t b c.self.invariant.2 (last_here h t i.len ns c.self.invariant some) c.get.ensures in
+    let parts = cut_before null_ptr h k ns t null_ptr t b c.self.invariant.segment (last_here h t i.len ns c.self.invariant some) c.get.ensures in
     front_cut k i.len ns h t b.links.prev.ptr t no no c.null.ensures c.null.ensures pos less long o c.null_comparable.result.blocks parts.0
     (subst (λ ls. slice_get (box_values ls) (k - 1) ≡ Some o) cut c.get_mut.ensures.value)
     (c.null_comparable.ensures.0 ∙ ap (λ ls. set_value ls (k - 1) (with_next o no)) cut)

@@ -3,4 +3,4 @@ use Rattle.cordyceps_base.proofs.LineTables.{no_lines}
 use Rattle.cordyceps_base.proofs.double_lines.Lines.discard.Goals as goal
 
 pub discard-requires : goal.discard-requires
-discard-requires g c = let i = c.self.inside in no_lines (take i.count i.firsts) i.row.blocks c.self.invariant.2 (c.self.view_is ∙ c.requires)
+discard-requires g c = let i = c.self.inside in no_lines (take i.count i.firsts) i.row.blocks c.self.invariant.lines (c.self.view_is ∙ c.requires)

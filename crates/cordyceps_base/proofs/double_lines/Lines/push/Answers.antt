@@ -18,7 +18,7 @@ led_back-more-requires-clause-null_comparable g c = c.line.invariant.comparable
 pub bounds-self-inside-self-inside : goal.bounds-self-inside-self-inside
 bounds-self-inside-self-inside g c =
     let i = c.self.inside in
-    let n = table_count i.firsts i.count i.row.blocks c.args.self.now c.self.invariant c.self.view_is in let asked = c.requires in let long = c.self.invariant.0 in omega (arith, n, asked, long)
+    let n = table_count i.firsts i.count i.row.blocks c.args.self.now c.self.invariant c.self.view_is in let asked = c.requires in let long = c.self.invariant.long in omega (arith, n, asked, long)
 
 pub invariant_of-self : goal.invariant_of-self
 invariant_of-self g c =

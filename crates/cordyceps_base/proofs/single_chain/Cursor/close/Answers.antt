@@ -16,8 +16,8 @@ or_nowhere-requires g c =
 pub invariant_of-result : goal.invariant_of-result
 invariant_of-result g c =
     let i = c.self.inside in let is = c.null_comparable-boxes.ensures.0 ∙ c.join.ensures in let all = closed i.head i.at i.before.ptr i.tail.ptr i.front.blocks i.rest.blocks c.self.invariant in
-    let led = subst (IsLed (option_or i.head i.at)) (sym is) all.0 in (
-      subst (λ h. IsLed h c.null_comparable-boxes.result.blocks) (sym (c.or_nowhere.ensures ∙ c.or.ensures)) led,
-      subst (λ l. EndsAt l i.tail.ptr) (sym is) all.1,
-      subst (λ l. AreNullComparable (box_addresses l)) (sym c.null_comparable-boxes.ensures.0) c.null_comparable-boxes.ensures.1,
-    )
+    let led = subst (IsLed (option_or i.head i.at)) (sym is) all.0 in record {
+      led = subst (λ h. IsLed h c.null_comparable-boxes.result.blocks) (sym (c.or_nowhere.ensures ∙ c.or.ensures)) led;
+      ends = subst (λ l. EndsAt l i.tail.ptr) (sym is) all.1;
+      comparable = subst (λ l. AreNullComparable (box_addresses l)) (sym c.null_comparable-boxes.ensures.0) c.null_comparable-boxes.ensures.1;
+    }

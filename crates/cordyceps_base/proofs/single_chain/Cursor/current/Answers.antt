@@ -6,10 +6,10 @@ use Rattle.cordyceps_base.proofs.SingleChain.{first_at, no_first}
 use Rattle.cordyceps_base.proofs.single_chain.Cursor.current.Goals as goal
 
 pub get-requires : goal.get-requires
-get-requires g c = first_at c.self.inside.at c.self.inside.rest.blocks c.in-Some.at c.self.invariant.2 c.in-Some.is
+get-requires g c = first_at c.self.inside.at c.self.inside.rest.blocks c.in-Some.at c.self.invariant.rest_led c.in-Some.is
 
 pub returns-in-Some-clause-some : goal.returns-in-Some-clause-some
 returns-in-Some-clause-some g c = subst (λ v. slice_get (values (elements v.rest)) 0 ≡ Some c.get.result.now.value) c.self.view_is (item_on c.self.inside.rest.blocks 0 c.get.result.now c.get.ensures)
 
 pub returns-in-None-clause-none : goal.returns-in-None-clause-none
-returns-in-None-clause-none g c = ap (λ v. v.rest) (sym c.self.view_is) ∙ ap nodes_of (no_first c.self.inside.at c.self.inside.rest.blocks c.self.invariant.2 c.in-None.is)
+returns-in-None-clause-none g c = ap (λ v. v.rest) (sym c.self.view_is) ∙ ap nodes_of (no_first c.self.inside.at c.self.inside.rest.blocks c.self.invariant.rest_led c.in-None.is)

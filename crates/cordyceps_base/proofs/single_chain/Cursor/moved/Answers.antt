@@ -9,12 +9,12 @@ use Rattle.cordyceps_base.proofs.single_chain.Cursor.moved.Goals as goal
 
 pub unwrap-here-requires : goal.unwrap-here-requires
 unwrap-here-requires g c =
-    let i = c.self.inside in let long = ap (λ v. length v.rest) c.self.view_is in some_first i.at i.rest.blocks c.self.invariant.2 (omega (arith, long, length-nodes_of i.rest.blocks))
+    let i = c.self.inside in let long = ap (λ v. length v.rest) c.self.view_is in some_first i.at i.rest.blocks c.self.invariant.rest_led (omega (arith, long, length-nodes_of i.rest.blocks))
 
 pub not_null-next-requires : goal.not_null-next-requires
 not_null-next-requires g c =
     let i = c.self.inside in let b = c.get.result.now in let cut0 = c.cut-first.ensures.0 ∙ ap (λ l. take 1 l) c.null_comparable.ensures.0 in
-    next_testable-cut i.at i.rest.blocks b c.self.invariant.2 c.null_comparable.ensures.1 (subst (λ ns. slice_get (box_values ns) 0 ≡ Some b) cut0 c.get.ensures)
+    next_testable-cut i.at i.rest.blocks b c.self.invariant.rest_led c.null_comparable.ensures.1 (subst (λ ns. slice_get (box_values ns) 0 ≡ Some b) cut0 c.get.ensures)
 
 pub invariant_of-result : goal.invariant_of-result
 invariant_of-result g c =
@@ -28,8 +28,8 @@ invariant_of-result g c =
 
 pub returns : goal.returns
 returns g c =
-    let i = c.self.inside in let same = c.null_comparable.ensures.0 in let cut0 = c.cut-first.ensures.0 ∙ ap (λ l. take 1 l) same in let cut1 = c.cut-first.ensures.1 ∙ ap (λ l. drop 1 l) same in let first = first_shown i.rest.blocks c.get.result.now (subst (λ ns. slice_get (box_values ns) 0 ≡ Some c.get.result.now) cut0 c.get.ensures) in (
-      first.0,
-      ap (λ v. v.rest) (sym c.self.view_is) ∙ first.1 ∙ ap (λ l. first.0 ∷ nodes_of l) (sym cut1),
-      ap nodes_of c.join.ensures ∙ nodes_of-append i.front.blocks c.cut-first.result.0.blocks ∙ ap (λ l. nodes_of i.front.blocks ++ nodes_of l) cut0 ∙ ap (λ l. nodes_of i.front.blocks ++ l) first.2 ∙ ap (λ v. v.before ++ first.0 ∷ []) c.self.view_is,
+    let i = c.self.inside in let same = c.null_comparable.ensures.0 in let cut0 = c.cut-first.ensures.0 ∙ ap (λ l. take 1 l) same in let cut1 = c.cut-first.ensures.1 ∙ ap (λ l. drop 1 l) same in let (x, whole, first) = first_shown i.rest.blocks c.get.result.now (subst (λ ns. slice_get (box_values ns) 0 ≡ Some c.get.result.now) cut0 c.get.ensures) in (
+      x,
+      ap (λ v. v.rest) (sym c.self.view_is) ∙ whole ∙ ap (λ l. x ∷ nodes_of l) (sym cut1),
+      ap nodes_of c.join.ensures ∙ nodes_of-append i.front.blocks c.cut-first.result.0.blocks ∙ ap (λ l. nodes_of i.front.blocks ++ nodes_of l) cut0 ∙ ap (λ l. nodes_of i.front.blocks ++ l) first ∙ ap (λ v. v.before ++ x ∷ []) c.self.view_is,
     )

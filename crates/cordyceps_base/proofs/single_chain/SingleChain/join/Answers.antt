@@ -12,11 +12,11 @@ invariant_of-result-2 g c =
     let a = c.self.inside in let o = c.other.inside in let is = c.null_comparable.ensures.0 ∙ c.join-boxes.ensures ∙ ap (λ l. l ++ o.boxes.blocks) c.with_last_link.ensures in
     let some = some_nodes a.boxes.blocks (λ e. let empty = c.if-is_empty.ensures.1 (sym c.self.view_is ∙ e) in cc) in
     let more = some_nodes o.boxes.blocks (λ e. let empty = c.if-is_empty-2.ensures.1 (sym c.other.view_is ∙ e) in cc) in
-    let line = line_join (unless_null a.head) (unless_null o.head) o.head a.tail.ptr o.tail.ptr a.boxes.blocks o.boxes.blocks refl c.self.invariant c.other.invariant some more in (
-      subst (IsLed (unless_null a.head)) (sym is) line.0,
-      subst (λ l. EndsAt l o.tail.ptr) (sym is) line.1,
-      subst (λ l. AreNullComparable (box_addresses l)) (sym c.null_comparable.ensures.0) c.null_comparable.ensures.1,
-    )
+    let line = line_join (unless_null a.head) (unless_null o.head) o.head a.tail.ptr o.tail.ptr a.boxes.blocks o.boxes.blocks refl c.self.invariant c.other.invariant some more in record {
+      led = subst (IsLed (unless_null a.head)) (sym is) line.0;
+      ends = subst (λ l. EndsAt l o.tail.ptr) (sym is) line.1;
+      comparable = subst (λ l. AreNullComparable (box_addresses l)) (sym c.null_comparable.ensures.0) c.null_comparable.ensures.1;
+    }
 
 pub returns : goal.returns
 returns g c =

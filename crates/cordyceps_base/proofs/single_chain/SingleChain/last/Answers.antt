@@ -9,7 +9,7 @@ use Rattle.cordyceps_base.proofs.single_chain.SingleChain.last.Goals as goal
 pub get-requires : goal.get-requires
 get-requires g c =
     let i = c.self.inside in let ns = i.boxes.blocks in let some : 0 < length ns = some_nodes ns (λ e. let empty = c.if-is_empty.ensures.1 (sym c.self.view_is ∙ e) in cc) in
-    subst (λ ms. slice_get (box_addresses ms) 0 ≡ Some i.tail.ptr) (sym c.only_last-last.ensures) (last_place ns i.tail.ptr c.self.invariant.1 some)
+    subst (λ ms. slice_get (box_addresses ms) 0 ≡ Some i.tail.ptr) (sym c.only_last-last.ensures) (last_place ns i.tail.ptr c.self.invariant.ends some)
 
 pub returns-clause-some : goal.returns-clause-some
 returns-clause-some g c =

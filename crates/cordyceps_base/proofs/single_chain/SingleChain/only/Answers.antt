@@ -4,7 +4,7 @@ use Rattle.cordyceps_base.proofs.SingleChain.{single}
 use Rattle.cordyceps_base.proofs.single_chain.SingleChain.only.Goals as goal
 
 pub only-requires : goal.only-requires
-only-requires g c = let i = c.self.inside in single i.tail.ptr i.boxes.blocks c.get.result.now.alloc c.self.invariant.1 (ap length c.self.view_is ∙ c.requires)
+only-requires g c = let i = c.self.inside in single i.tail.ptr i.boxes.blocks c.get.result.now.alloc c.self.invariant.ends (ap length c.self.view_is ∙ c.requires)
 
 pub returns : goal.returns
 returns g c =

@@ -7,5 +7,5 @@ use Rattle.cordyceps_base.proofs.single_chain.SingleChain.split_first.Goals as g
 pub only-requires : goal.only-requires
 only-requires g c =
     let i = c.self.inside in let long = ap length c.self.view_is in
-    let first = leads_itself i.head i.boxes.blocks c.self.invariant.0 (omega (arith, long, length-nodes_of i.boxes.blocks, c.requires)) in
-    let row = first_row (unless_null i.head) i.boxes.blocks i.head c.get-block.result.now.alloc c.self.invariant.0 first in (row.0, c.cut-front.ensures.0 ∙ row.1)
+    let first = leads_itself i.head i.boxes.blocks c.self.invariant.led (omega (arith, long, length-nodes_of i.boxes.blocks, c.requires)) in
+    let row = first_row (unless_null i.head) i.boxes.blocks i.head c.get-block.result.now.alloc c.self.invariant.led first in (row.0, c.cut-front.ensures.0 ∙ row.1)
