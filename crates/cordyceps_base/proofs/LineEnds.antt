@@ -1,5 +1,5 @@
 -- What a line is read by, and what stays linked where an end of one is written.
-use Rattle.std.proofs.Common.{◌≡◌, ℕ, suc, ◌-◌, ◌<◌, Bool, true, false, not, ◌==◌, T, eqb→eq, List, [], ◌∷◌, ◌++◌, length, take, drop, slice_get, Some, refl, sym, ap, ◌∙◌, subst, arith, length-append, append_assoc}
+use Rattle.std.proofs.Common.{◌≡◌, ℕ, suc, ◌-◌, ◌<◌, Bool, true, false, not, ◌==◌, T, eqb→eq, [], ◌∷◌, ◌++◌, length, take, drop, slice_get, Some, refl, sym, ap, ◌∙◌, subst, arith, length-append, append_assoc}
 use Rattle.std.specs.Bool.{MatchBool}
 use denote.RawPtr.{Ptr, null_ptr, Testable, InBlock}
 use Rattle.std.specs.declared.alloc.Global.{Global}
@@ -9,14 +9,11 @@ use Rattle.cordyceps_base.specs.Boxes.{box_addresses, box_values, set_value}
 use Rattle.cordyceps_base.specs.DoubleChain.{Segment, next_of}
 use Rattle.cordyceps_base.specs.DoubleLines.{IsDoubleLine}
 use Rattle.cordyceps_base.specs.Element.{Element}
-use Rattle.cordyceps_base.specs.Nodes.{Nodes, OwnedNode, block_of, block_element, nodes_of}
+use Rattle.cordyceps_base.specs.Nodes.{Nodes, block_of, block_element, nodes_of}
 use Rattle.cordyceps_base.specs.Spots.{AreNullComparable}
 use Rattle.cordyceps_base.proofs.DoubleChain.{with_next, with_prev, first_on, relinked_first}
-use Rattle.cordyceps_base.proofs.Nodes.{nodes_of-set, length_is}
+use Rattle.cordyceps_base.proofs.Nodes.{Row, nodes_of-set, length_is}
 use Rattle.cordyceps_base.proofs.Segments.{first_testable, first_one, last_there, last_relinked, shown_relinked}
-
-abbrev pub Row : Type 0 → Type 0
-Row X = List (OwnedNode X)
 
 not_zero : (n : ℕ) → (suc n == 0) ≡ false
 not_zero n = (elim (suc n == 0) as (λ z. (suc n == 0) ≡ z → (suc n == 0) ≡ false) [

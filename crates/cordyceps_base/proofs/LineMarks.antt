@@ -10,10 +10,8 @@ use Rattle.cordyceps_base.specs.DoubleLines.{flat, Lead, IsMarkedAt, NodeAt, Hea
 use Rattle.cordyceps_base.specs.Nodes.{OwnedNode, block_of}
 use Rattle.cordyceps_base.specs.Spots.{index_of, AreDistinct, IsNullComparable, AreNullComparable}
 use Rattle.cordyceps_base.proofs.LinePlaces.{cut_parts}
+use Rattle.cordyceps_base.proofs.Nodes.{Row}
 use Rattle.cordyceps_base.proofs.Segments.{null_Testable, comparable_back}
-
-abbrev pub Row : Type 0 → Type 0
-Row X = List (OwnedNode X)
 
 module _ {X : Type 0} where
   -- the first node of line i, seen in all nodes

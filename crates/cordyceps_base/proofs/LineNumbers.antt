@@ -11,10 +11,8 @@ use Rattle.cordyceps_base.specs.Spots.{index_of, AreDistinct, IsNullComparable, 
 use Rattle.cordyceps_base.proofs.DoubleChain.{with_prev}
 use Rattle.cordyceps_base.proofs.LineMarks.{marks}
 use Rattle.cordyceps_base.proofs.LinePlaces.{addresses-append, cut_parts, flat_between, item_past, split_lead}
+use Rattle.cordyceps_base.proofs.Nodes.{Row}
 use Rattle.cordyceps_base.proofs.Segments.{comparable_back}
-
-abbrev pub Row : Type 0 → Type 0
-Row X = List (OwnedNode X)
 
 module _ {X : Type 0} where
   set_at : (bk rest : Row X) (n : OwnedNode X) (b : Block X) (a : Address) → bk ≡ n ∷ rest → slice_get (box_values bk) 0 ≡ Some b → set_value bk 0 (with_prev b a) ≡ (n.0, n.1, with_prev (block_of n) a) ∷ rest

@@ -7,7 +7,7 @@ use Rattle.cordyceps_base.specs.DoubleLines.{flat, Lead, NodeAt, IsTakenOut}
 use Rattle.cordyceps_base.specs.Nodes.{Nodes, OwnedNode, block_of, block_element, nodes_of}
 use Rattle.cordyceps_base.specs.Spots.{same_ptr, index_of, IsNew, AreDistinct}
 use Rattle.cordyceps_base.proofs.DoubleLines.{other_way, flat-append, take_past, drop_past, seen, LineAt}
-use Rattle.cordyceps_base.proofs.Nodes.{nodes_of-append}
+use Rattle.cordyceps_base.proofs.Nodes.{Row, nodes_of-append}
 use Rattle.cordyceps_base.proofs.SpotsMemory.{same_ptr_refl}
 
 -- ---- where a pointer stands in a list without doubles
@@ -25,9 +25,6 @@ item_past [] back x zero e = refl
 item_past [] back x (suc k) e = absurd cc
 item_past (y ∷ front) back x zero e = absurd cc
 item_past (y ∷ front) back x (suc k) e = let on : length front ≡ k = cc in item_past front back x k on
-
-abbrev pub Row : Type 0 → Type 0
-Row X = List (OwnedNode X)
 
 module _ {X : Type 0} where
   length-addresses : (ns : Row X) → length (box_addresses ns) ≡ length ns

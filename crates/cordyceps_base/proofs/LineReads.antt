@@ -12,6 +12,7 @@ use Rattle.cordyceps_base.specs.Nodes.{Nodes, elements, OwnedNode, block_of, blo
 use Rattle.cordyceps_base.specs.Spots.{index_of, AreDistinct, AreNullComparable}
 use Rattle.cordyceps_base.proofs.DoubleLines.{seen, LineAt, line_k, lead_between, table_shows}
 use Rattle.cordyceps_base.proofs.LinePlaces.{cut_parts, flat_between, item_past, seen_around}
+use Rattle.cordyceps_base.proofs.Nodes.{Row}
 use Rattle.cordyceps_base.proofs.Segments.{first_testable, none_led, comparable_front, comparable_back}
 
 -- an item of an array, of which a part is used
@@ -37,9 +38,6 @@ write_at (x ∷ xs) (f ∷ front) back (suc n) zero h w e l = absurd cc
 write_at (x ∷ xs) (f ∷ front) back (suc n) (suc k) h w e l =
     let first : x ≡ f = cc in let rest : take n xs ≡ front ++ h ∷ back = cc in let count : length front ≡ k = cc in
     (λ i. first i ∷ write_at xs front back n k h w rest count i)
-
-abbrev pub Row : Type 0 → Type 0
-Row X = List (OwnedNode X)
 
 module _ {X : Type 0} where
   seen_long : (ls : List (Row X)) → length (seen ls) ≡ length ls

@@ -13,11 +13,8 @@ use Rattle.cordyceps_base.specs.Spots.{index_of, AreDistinct, AreNullComparable}
 use Rattle.cordyceps_base.proofs.DoubleChain.{segment_join}
 use Rattle.cordyceps_base.proofs.DoubleLines.{seen, seen_flat, LineAt, lead_between, table_shows}
 use Rattle.cordyceps_base.proofs.LinePlaces.{cut_parts, item_past, place_in, flat_around, flat_between, Split, split_lead, seen_taken}
-use Rattle.cordyceps_base.proofs.Nodes.{nodes_of-append, spots-nodes_of}
+use Rattle.cordyceps_base.proofs.Nodes.{Row, nodes_of-append, spots-nodes_of}
 use Rattle.cordyceps_base.proofs.Segments.{null_Testable, last_testable, some_last, none_ended, segment_front, segment_back, comparable_front, comparable_back}
-
-abbrev pub Row : Type 0 → Type 0
-Row X = List (OwnedNode X)
 
 module _ {X : Type 0} where
   -- all nodes of a table are those of its lines

@@ -10,9 +10,7 @@ use Rattle.cordyceps_base.specs.Nodes.{Nodes, spots, OwnedNode, nodes_of}
 use Rattle.cordyceps_base.specs.Spots.{same_ptr, index_of, AreDistinct, AreNullComparable}
 use Rattle.cordyceps_base.proofs.DoubleLines.{seen, flat_with, LineAt, lead_with, lead_without, table_shows}
 use Rattle.cordyceps_base.proofs.LinePlaces.{cut_parts}
-
-abbrev pub Row : Type 0 → Type 0
-Row X = List (OwnedNode X)
+use Rattle.cordyceps_base.proofs.Nodes.{Row}
 
 module _ {X : Type 0} where
   pub lines_long : (hs : List Address) (c : Nodes X) → length (lines_in hs c) ≡ length hs

@@ -11,10 +11,8 @@ use Rattle.cordyceps_base.specs.Spots.{AreNullComparable}
 use Rattle.cordyceps_base.proofs.DoubleLines.{LineAt}
 use Rattle.cordyceps_base.proofs.LineReads.{none}
 use Rattle.cordyceps_base.proofs.LineSpots.{flat_lines}
+use Rattle.cordyceps_base.proofs.Nodes.{Row}
 use Rattle.cordyceps_base.proofs.Segments.{first_testable, none_led, comparable_front}
-
-abbrev Row : Type 0 → Type 0
-Row X = List (OwnedNode X)
 
 module _ {X : Type 0} where
   -- the next line of those that an array leads to

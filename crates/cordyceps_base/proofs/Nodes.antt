@@ -10,6 +10,10 @@ use Rattle.cordyceps_base.specs.Nodes.{Nodes, spots, elements, with_item, OwnedN
 abbrev pub with_content : {X : Type 0} → Block X → X → Block X
 with_content b w = record b { value = w }
 
+-- nodes in order, as a chain owns them
+abbrev pub Row : Type 0 → Type 0
+Row X = List (OwnedNode X)
+
 module _ {X : Type 0} where
   -- ---- what is shown
   pub spots-nodes_of : (ns : List (OwnedNode X)) → spots (nodes_of ns) ≡ box_addresses ns

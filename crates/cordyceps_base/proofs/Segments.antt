@@ -14,7 +14,7 @@ use Rattle.cordyceps_base.specs.Nodes.{Nodes, spots, block_of, block_element, Ow
 use Rattle.cordyceps_base.proofs.SpotsMemory.{same_ptr_eq, same_ptr_refl}
 use Rattle.cordyceps_base.proofs.Memory.{take-drop}
 use Rattle.cordyceps_base.proofs.DoubleChain.{with_next}
-use Rattle.cordyceps_base.proofs.Nodes.{nodes_of-append, nodes_of-set, length-nodes_of, at_place}
+use Rattle.cordyceps_base.proofs.Nodes.{Row, nodes_of-append, nodes_of-set, length-nodes_of, at_place}
 
 pub null_Testable : Testable null_ptr
 null_Testable = lit< tt
@@ -49,9 +49,6 @@ module _ {Z B : Type 0} where
   pub comparable_back : (xs ys : List (Ptr × Z × B)) → AreNullComparable (box_addresses (xs ++ ys)) → AreNullComparable (box_addresses ys)
   comparable_back [] ys a = a
   comparable_back (x ∷ xs) ys a = comparable_back xs ys a.1
-
-abbrev pub Row : Type 0 → Type 0
-Row X = List (OwnedNode X)
 
 module _ {X : Type 0} where
   pub segment_front : (p h : Ptr) (xs : Row X) (n : OwnedNode X) (ys : Row X) (t q : Ptr) → Segment p h (xs ++ n ∷ ys) t q → Segment p h xs (prev_of (block_of n)) n.0

@@ -83,7 +83,7 @@ module _ {X : Type 0} where
     pub parts : ns ≡ front ++ node ∷ back
     pub at : node.0 ≡ p
 
-  -- so is one at h, whose `prev` may be compared with null
+  -- such a node, at h, whose `prev` may be compared with null
   pub record HeadNode (h : Address) (ns : List (OwnedNode X)) : Type 0 where
     pub place : NodeAt h.ptr ns
     pub in_block : InBlock place.node.0
@@ -101,7 +101,7 @@ module _ {X : Type 0} where
   IsHeadMarked false h ns =
       (h.ptr ≡ null_ptr) ⊎ ((u : NodeAt h.ptr ns) × (prev_of (block_of u.node) ≡ null_ptr))
 
-  -- the same for the part of an array that is used
+  -- the part of an array that is used leads to such lines
   pub record IsTable (xs : List Address) (n : ℕ) (ns : List (OwnedNode X)) : Type 0 where
     pub long : length xs ≡ 64
     pub within : n ≤ 64
