@@ -10,11 +10,10 @@ use Rattle.cordyceps_base.specs.Element.{Element}
 use Rattle.cordyceps_base.specs.Nodes.{Nodes}
 use Rattle.cordyceps_single.specs.Arrangement.{IsEarliestLeast}
 use Rattle.cordyceps_single.specs.Preorder.{IsPreorder}
-use Rattle.cordyceps_single.proofs.Arrangement.{Ascends, ascends_from_sorted}
+use Rattle.cordyceps_single.proofs.Arrangement.{Ascends, all_back, ascends_from_sorted}
 use Rattle.cordyceps_single.proofs.Preorder.{ranks}
 use Rattle.cordyceps_stable.specs.Arranged.{precedes, Arranges}
 use Rattle.cordyceps_stable.proofs.Arranged.{arranges_first, arranges_itself, arranges_taken, same_nodes}
-use Rattle.cordyceps_stable.proofs.Classes.{all_back}
 
 module _ {X : Type 0} (cmp : X → X → Ordering) where
   -- the nodes s are held as arrivals, and they are the arrangement of any arrivals that are held

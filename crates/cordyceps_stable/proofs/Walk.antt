@@ -1,5 +1,7 @@
 -- For loops of one's own: where a spot stands among those of a list, and that a walk comes to an end.
-use Rattle.std.proofs.Common.{◌≡◌, ℕ, zero, suc, ◌+◌, ◌<◌, Bool, true, false, not, List, [], ◌∷◌, ◌++◌, length, length-append, slice_get, cond, Option, Some, None, MatchOption, refl, ap, sym, ◌∙◌, subst, append_assoc, arith}
+use Rattle.std.proofs.Common.{◌≡◌, ℕ, zero, suc, ◌+◌, ◌<◌, Bool, true, false, not, List, [], ◌∷◌, ◌++◌, length, length-append, slice_get, cond, Option, Some, None, MatchOption, ap, sym, ◌∙◌, subst, append_assoc, arith}
+use Rattle.std.proofs.lemmas.Bool.{not-false}
+use Rattle.std.proofs.lemmas.List.{length-map}
 use Rattle.std.specs.Bool.{Decides}
 use Rattle.std.specs.Option.{is_some}
 use denote.RawPtr.{Ptr}
@@ -7,14 +9,11 @@ use Rattle.cordyceps_base.specs.BySpot.{HasSpot, IsFirst, IsLast, AreNext}
 use Rattle.cordyceps_base.specs.Element.{Element}
 use Rattle.cordyceps_base.specs.Nodes.{Nodes, spots}
 use Rattle.cordyceps_base.specs.Spots.{same_ptr, index_of, IsNew, AreDistinct}
-use Rattle.cordyceps_base.proofs.SpotsMemory.{same_ptr_eq, same_ptr_refl}
+use Rattle.cordyceps_base.proofs.DoubleLines.{other_way}
+use Rattle.cordyceps_base.proofs.SpotsMemory.{same_ptr_refl}
 use Rattle.cordyceps_single.proofs.Preorder.{by_test}
 use Rattle.cordyceps_stable.specs.Walk.{nodes_from}
 use Rattle.cordyceps_stable.proofs.Reached.{next_has}
-
-turned : (p q : Ptr) → same_ptr p q ≡ false → same_ptr q p ≡ false
-turned p q other = by_test (same_ptr q p) (λ t.
-    let same : same_ptr p q ≡ true = subst (λ r. same_ptr p r ≡ true) (sym (same_ptr_eq q p t)) (same_ptr_refl p) in absurd cc) (λ f. f)
 
 at_head : (p q : Ptr) (ps : List Ptr) → same_ptr p q ≡ true → index_of p (q ∷ ps) ≡ 0
 at_head p q ps same = ap (λ b. cond b zero (suc (index_of p ps))) same
@@ -31,25 +30,17 @@ below (q ∷ ps) p (suc k) at = by_test (same_ptr p q)
     (λ t. let first = at_head p q ps t in omega (arith, first))
     (λ f. let later = after_head p q ps f in let rest = below ps p k at in omega (arith, later, rest))
 
-no_other : (b : Bool) → false ≡ not b → b ≡ true
-no_other true tells = refl
-no_other false tells = absurd cc
-
 module _ {X : Type 0} where
-  spots_long : (c : Nodes X) → length (spots c) ≡ length c
-  spots_long [] = refl
-  spots_long (x ∷ c) = ap suc (spots_long c)
-
   -- the index of a spot is below the length, so the length without the index is a measure
   pub index_below : (c : Nodes X) (p : Ptr) → HasSpot c p → index_of p (spots c) < length c
-  index_below c p (k, at) = let low = below (spots c) p k at in let long = spots_long c in omega (arith, low, long)
+  index_below c p (k, at) = let low = below (spots c) p k at in let long : length (spots c) ≡ length c = length-map c (λ n. n.0) in omega (arith, low, long)
 
   -- the first spot has the index 0
   pub first_index : (c : Nodes X) (p : Ptr) → IsFirst c p → index_of p (spots c) ≡ 0
   first_index c p (e, after, is) = ap (λ l. index_of p (spots l)) is ∙ at_head p p (spots after) (same_ptr_refl p)
 
   differs : (q p : Ptr) (before after : Nodes X) (e : Element X) → IsNew q (spots (before ++ (p, e) ∷ after)) → same_ptr p q ≡ false
-  differs q p [] after e new = turned q p new.0
+  differs q p [] after e new = other_way q p new.0
   differs q p (x ∷ before) after e new = differs q p before after e new.1
 
   -- where all spots differ, the index of a spot is the number of nodes before it
@@ -84,14 +75,14 @@ module _ {X : Type 0} where
 
   -- which end is at a spot: the first has none before it, and the last none after it
   pub first_told : {A : Type 0} (at : A → Ptr) (c : Nodes X) (p : Ptr) (o : Option A) (b : Bool) → AreDistinct (spots c) → is_some o ≡ not b → MatchOption o (IsFirst c p) (λ q. AreNext c (at q) p) → Decides b (IsFirst c p)
-  first_told at c p None b distinct tells h = (λ _. h, λ _. no_other b tells)
+  first_told at c p None b distinct tells h = (λ _. h, λ _. not-false b (sym tells))
   first_told at c p (Some q) b distinct tells h = (
     λ yes. let no = tells ∙ ap not yes in absurd cc,
     λ first. let low = prev_nearer c p (at q) distinct h in let zeroth = first_index c p first in absurd (omega (arith, low, zeroth)),
   )
 
   pub last_told : {A : Type 0} (at : A → Ptr) (c : Nodes X) (p : Ptr) (o : Option A) (b : Bool) → AreDistinct (spots c) → is_some o ≡ not b → MatchOption o (IsLast c p) (λ q. AreNext c p (at q)) → Decides b (IsLast c p)
-  last_told at c p None b distinct tells h = (λ _. h, λ _. no_other b tells)
+  last_told at c p None b distinct tells h = (λ _. h, λ _. not-false b (sym tells))
   last_told at c p (Some q) b distinct tells h = (
     λ yes. let no = tells ∙ ap not yes in absurd cc,
     λ last. let end = last_index c p distinct last in let on = next_index c p (at q) distinct h in let low = index_below c (at q) (next_has c p (at q) h) in absurd (omega (arith, end, on, low)),

@@ -1,6 +1,6 @@
-use Rattle.std.proofs.Common.{◌≡◌, sym, ◌∙◌, subst}
+use Rattle.std.proofs.Common.{sym, ◌∙◌, subst}
 use denote.RawPtr.{Ptr}
-use Rattle.cordyceps_base.specs.BySpot.{HasSpot, IsTaken}
+use Rattle.cordyceps_base.specs.BySpot.{HasSpot}
 use Rattle.cordyceps_base.specs.Nodes.{Nodes}
 use Rattle.cordyceps_stable.proofs.Holding.{others_stay}
 use Rattle.cordyceps_stable.proofs.Spots.{moved_after_said}
