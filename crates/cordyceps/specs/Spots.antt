@@ -6,6 +6,7 @@ pub use Rattle.cordyceps_clock.specs.Clock
 pub use Rattle.cordyceps_heap.specs.Heap
 pub use Rattle.cordyceps_stable.specs.Agreeing
 pub use Rattle.cordyceps_stable.specs.Arranged
+pub use Rattle.cordyceps_stable.specs.Changing
 pub use Rattle.cordyceps_stable.specs.Replacing
 pub use Rattle.cordyceps_stable.specs.StableLending
 pub use Rattle.cordyceps_stable.specs.Walk

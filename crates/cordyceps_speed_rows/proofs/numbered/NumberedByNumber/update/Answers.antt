@@ -12,5 +12,5 @@ update-requires-clause-there c =
 
 pub invariant_of-self : goal.invariant_of-self
 invariant_of-self c =
-    let (e, w, rest, gave, was, is, stands) = c.update.ensures.changed in
-    updated_agrees (spot_of c.self.inside.spots.items) c.self.inside.list.nodes c.update.new.self.nodes rest c.in-Some.spot e _ refl c.self.invariant was is c.update.ensures.distinct
+    let changed = c.update.ensures.changed in
+    updated_agrees (spot_of c.self.inside.spots.items) c.self.inside.list.nodes c.update.new.self.nodes changed.others c.in-Some.spot changed.was _ refl c.self.invariant changed.taken changed.put c.update.ensures.distinct
