@@ -70,7 +70,7 @@ module _ {E : Type 0} where
       let at : slice_get m.parties p ≡ Some Rest = at_rest m p two.0 in
       let free = some_from (least_free p m.rooms) two.1 in
       let room = least_is_free p m.rooms free.0 free.1 in
-      pushing_at m p free.0 e room.0 at free.1 room.1
+      pushing_at m p free.0 e room.room at free.1 room.at
 
   -- what one step keeps, at its outcome
   pub step_to : (h : List (Event ℕ E)) (m : Machine E) (p : ℕ) (s : TransferStep E) (out : Outcome E) → after_step m p s ≡ out

@@ -19,7 +19,7 @@ use Rattle.cordyceps_shared.proofs.Choices.{occupied_cons}
 use Rattle.cordyceps_shared.proofs.ListWrites.{slice_get-set_same, set_as_it_was}
 use Rattle.cordyceps_stack.proofs.CoreTheory.Chains.{or_to, all_to, LeadsThrough-passed, LeadsThrough-change, LeadsThrough-none}
 use Rattle.cordyceps_stack.proofs.CoreTheory.EachStep.{keeps_take, keeps_nothing, keeps_walk}
-use Rattle.cordyceps_stack.proofs.CoreTheory.AnyStep.{none_held, first_of_rest}
+use Rattle.cordyceps_stack.proofs.CoreTheory.AnyStep.{HasElement, none_held, first_of_rest}
 use Rattle.cordyceps_stack.proofs.CoreTheory.CoreKeeps.{element_at}
 
 pair_of : {A B : Type 0} {a a' : A} {b b' : B} → a ≡ a' → b ≡ b' → ◌≡◌ {A = A × B} (a, b) (a', b')
@@ -91,22 +91,22 @@ module _ {E : Type 0} where
 
   -- there is an element where the walk is
   pub clear_room : (first : Machine E) (p r : ℕ) (rooms : List (Room E)) (parties : List Stage) (given : List E)
-      → Clearing first p rooms parties (Some r) given → (e : E) × (next : Option ℕ) × (slice_get rooms r ≡ Some (room_in_use e next))
+      → Clearing first p rooms parties (Some r) given → HasElement rooms r
   clear_room first p r rooms parties given c = let hands = (c.law c.sound.0 c.sound.1).1 in first_of_rest rooms hands.own (Some p) r hands.rest hands.links
 
   hands_on : (all given : List E) (rooms : List (Room E)) (p r : ℕ) (e : E) (next : Option ℕ) (own : ℕ → Option ℕ) (rest : List (ℕ × E)) → LeadsThrough rooms own (Some p) (Some r) rest → given ++ room_elements rest ≡ all → slice_get rooms r ≡ Some (room_in_use e next) → Hands all (given ++ e ∷ []) (change (as_free_room p) r rooms) p next
   hands_on all given rooms p r e next own [] l whole got = let no : ⊥ = cc in absurd no
   hands_on all given rooms p r e next own (x ∷ xs) l whole got =
-      let start : x.0 ≡ r = let first = l.1 in cc in
-      let both : Some (room_in_use x.1 l.0) ≡ Some (room_in_use e next) = sym l.2 ∙ (ap (slice_get rooms) start ∙ got) in
-      let room : room_in_use x.1 l.0 ≡ room_in_use e next = cc in
-      let link : l.0 ≡ next = ap (λ (y : Room E). y.next) room in
+      let start : x.0 ≡ r = let first = l.start_is in cc in
+      let both : Some (room_in_use x.1 l.next) ≡ Some (room_in_use e next) = sym l.room ∙ (ap (slice_get rooms) start ∙ got) in
+      let room : room_in_use x.1 l.next ≡ room_in_use e next = cc in
+      let link : l.next ≡ next = ap (λ (y : Room E). y.next) room in
       let some_element : Some x.1 ≡ Some e = ap (λ (y : Room E). y.element) room in
       let element : x.1 ≡ e = cc in
       record {
         own = own;
         rest = xs;
-        links = LeadsThrough-change (as_free_room p) rooms own (Some p) next xs r (subst (λ s. NotAmong s xs) start l.4) (subst (λ top. LeadsThrough rooms own (Some p) top xs) link l.5);
+        links = LeadsThrough-change (as_free_room p) rooms own (Some p) next xs r (subst (λ s. NotAmong s xs) start l.apart) (subst (λ top. LeadsThrough rooms own (Some p) top xs) link l.rest);
         whole = append_assoc given (e ∷ []) (room_elements xs) ∙ (ap (λ (y : E). given ++ y ∷ room_elements xs) (sym element) ∙ whole);
       }
 
@@ -147,25 +147,30 @@ module _ {E : Type 0} where
       → Clearing first p rooms' parties at' (given ++ x ∷ [])
   clear_next first p r rooms parties given rooms' at' x c freed follows gave =
       let there = clear_room first p r rooms parties given c in
-      let same : Some there.0 ≡ Some x = sym (ap element_in there.2) ∙ gave in
-      let element : there.0 ≡ x = cc in
-      let next : at' ≡ there.1 = follows ∙ ap next_in there.2 in
-      rw (freed, next, ← element) (clear_more first p r rooms parties given there.0 there.1 c there.2)
+      let same : Some there.element ≡ Some x = sym (ap element_in there.at) ∙ gave in
+      let element : there.element ≡ x = cc in
+      let next : at' ≡ there.next = follows ∙ ap next_in there.at in
+      rw (freed, next, ← element) (clear_more first p r rooms parties given there.element there.next c there.at)
 
   pub clear_counts : (first : Machine E) (p r : ℕ) (rooms : List (Room E)) (parties : List Stage) (given : List E) (rooms' : List (Room E)) → Clearing first p rooms parties (Some r) given → rooms' ≡ change (as_free_room p) r rooms → occupied rooms' + 1 ≡ occupied rooms
   clear_counts first p r rooms parties given rooms' c freed =
       let there = clear_room first p r rooms parties given c in
-      ap (λ (rs : List (Room E)). occupied rs + 1) freed ∙ occupied_freed p r rooms there.0 there.1 there.2
+      ap (λ (rs : List (Room E)). occupied rs + 1) freed ∙ occupied_freed p r rooms there.element there.next there.at
+
+  -- the room r is there, and has an element
+  pub record IsWithin (rooms : List (Room E)) (r : ℕ) : Type 0 where
+    pub within : r < length rooms
+    pub full : IsSome (element_in (slice_get rooms r))
+    pub some_used : 0 < occupied rooms
 
   pub clear_within : (first : Machine E) (p r : ℕ) (rooms : List (Room E)) (parties : List Stage) (given : List E)
-      → Clearing first p rooms parties (Some r) given
-      → (r < length rooms) × IsSome (element_in (slice_get rooms r)) × (0 < occupied rooms)
+      → Clearing first p rooms parties (Some r) given → IsWithin rooms r
   clear_within first p r rooms parties given c =
       let there = clear_room first p r rooms parties given c in
       let m : Machine E = record { head = None; rooms = rooms; parties = parties } in
       let both = element_at m r there in
-      let count : occupied (change (as_free_room p) r rooms) + 1 ≡ occupied rooms = occupied_freed p r rooms there.0 there.1 there.2 in
-      (both.0, both.1, omega (arith, count))
+      let count : occupied (change (as_free_room p) r rooms) + 1 ≡ occupied rooms = occupied_freed p r rooms there.element there.next there.at in
+      record { within = both.0; full = both.1; some_used = omega (arith, count) }
 
   pub clear_machine : (first : Machine E) (p : ℕ) (rooms : List (Room E)) (parties : List Stage) (given : List E) → Clearing first p rooms parties None given → record { head = None; rooms = rooms; parties = parties } ≡ after core_step first (take_steps p (length given))
   clear_machine first p rooms parties given c = ap (λ (ps : List Stage). let n : Machine E = record { head = None; rooms = rooms; parties = ps } in n) (sym (set_as_it_was parties p Rest c.at_rest)) ∙ c.steps
@@ -180,16 +185,16 @@ module _ {E : Type 0} where
   elements_there zero rooms own w start (x ∷ xs) l within = absurd (omega arith)
   elements_there (suc n) rooms own w start (x ∷ xs) l within =
       let shorter : length xs ≤ n = omega arith in
-      let more : elements_from n rooms l.0 ≡ room_elements xs = elements_there n rooms own w l.0 xs l.5 shorter in
-      rw (l.1, l.2) (ap (λ es. x.1 ∷ es) more)
+      let more : elements_from n rooms l.next ≡ room_elements xs = elements_there n rooms own w l.next xs l.rest shorter in
+      rw (l.start_is, l.room) (ap (λ es. x.1 ∷ es) more)
 
   -- each room that the links lead through has an element
   chain_within : (rooms : List (Room E)) (own : ℕ → Option ℕ) (w start : Option ℕ) (xs : List (ℕ × E)) → LeadsThrough rooms own w start xs → length xs ≤ occupied rooms
   chain_within rooms own w start [] l = omega arith
   chain_within rooms own w start (x ∷ xs) l =
       let freed = change (as_free_room 0) x.0 rooms in
-      let more : length xs ≤ occupied freed = chain_within freed own w l.0 xs (LeadsThrough-change (as_free_room 0) rooms own w l.0 xs x.0 l.4 l.5) in
-      let count : occupied freed + 1 ≡ occupied rooms = occupied_freed 0 x.0 rooms x.1 l.0 l.2 in
+      let more : length xs ≤ occupied freed = chain_within freed own w l.next xs (LeadsThrough-change (as_free_room 0) rooms own w l.next xs x.0 l.apart l.rest) in
+      let count : occupied freed + 1 ≡ occupied rooms = occupied_freed 0 x.0 rooms x.1 l.next l.room in
       omega (arith, more, count)
 
   -- what a machine holds is what its history does

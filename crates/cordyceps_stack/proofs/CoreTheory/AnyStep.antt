@@ -24,18 +24,34 @@ none_from_reversed : {A : Type 0} (xs : List A) → reverse xs ≡ [] → xs ≡
 none_from_reversed xs e = sym (reverse-reverse xs) ∙ ap reverse e
 
 module _ {E : Type 0} where
+  -- the room r is there, and is p's free one
+  pub record IsFree (p : ℕ) (rooms : List (Room E)) (r : ℕ) : Type 0 where
+    pub room : Room E
+    pub at : slice_get rooms r ≡ Some room
+    pub owner : room.owner ≡ Some p
+
   -- the least free room is a free one
-  pub least_is_free : (p : ℕ) (rooms : List (Room E)) (r : ℕ) → least_free p rooms ≡ Some r
-      → (room : Room E) × (slice_get rooms r ≡ Some room) × (room.owner ≡ Some p)
+  pub least_is_free : (p : ℕ) (rooms : List (Room E)) (r : ℕ) → least_free p rooms ≡ Some r → IsFree p rooms r
   least_is_free p [] r e = let no : ⊥ = cc in absurd no
   least_is_free p (x ∷ xs) r e =
       let found = position-Some (is_free_for p) (x ∷ xs) r x e in
-      (get_or (x ∷ xs) r x, slice_get-get_or (x ∷ xs) r x found.0, option_same (get_or (x ∷ xs) r x).owner (Some p) found.1)
+      record {
+        room = get_or (x ∷ xs) r x;
+        at = slice_get-get_or (x ∷ xs) r x found.0;
+        owner = option_same (get_or (x ∷ xs) r x).owner (Some p) found.1;
+      }
+
+  -- there is an element in the room r
+  pub record HasElement (rooms : List (Room E)) (r : ℕ) : Type 0 where
+    pub element : E
+    pub next : Option ℕ
+    pub at : slice_get rooms r ≡ Some (room_in_use element next)
 
   pub first_of_rest : (rooms : List (Room E)) (own : ℕ → Option ℕ) (w : Option ℕ) (r : ℕ) (rest : List (ℕ × E))
-      → LeadsThrough rooms own w (Some r) rest → (e : E) × (next : Option ℕ) × (slice_get rooms r ≡ Some (room_in_use e next))
+      → LeadsThrough rooms own w (Some r) rest → HasElement rooms r
   first_of_rest rooms own w r [] l = let no : ⊥ = cc in absurd no
-  first_of_rest rooms own w r (x ∷ xs) l = let start : r ≡ x.0 = let e = l.1 in cc in (x.1, l.0, ap (slice_get rooms) start ∙ l.2)
+  first_of_rest rooms own w r (x ∷ xs) l =
+      let start : r ≡ x.0 = let e = l.start_is in cc in record { element = x.1; next = l.next; at = ap (slice_get rooms) start ∙ l.room }
 
   pub none_held : (h : List (Event ℕ E)) (m : Machine E) → CoreMeets h m → m.head ≡ None → held h ≡ []
   none_held h m was top =
@@ -63,19 +79,20 @@ module _ {E : Type 0} where
   on_load h m p e None was at free = (unchanged h m was, tt)
   on_load h m p e (Some r) was at free =
       let room = least_is_free p m.rooms r free in
-      (keeps_load h m p r p e room.0 was at room.1 room.2, tt)
+      (keeps_load h m p r p e room.room was at room.at room.owner, tt)
 
   on_exchange : (h : List (Event ℕ E)) (m : Machine E) (p : ℕ) (a : Attempt) (b : Bool) → CoreMeets h m
       → slice_get m.parties p ≡ Some (Set a) → option_eq nat_eq m.head a.read ≡ b
       → Goes_on h p (element_in (slice_get m.rooms a.room)) step.Exchange (exchange m p a b)
   on_exchange h m p a true was at test =
-      let hand = (was.parties p (Set a) at).0 in
+      let hand = (was.parties p (Set a) at).hand in
       let same = option_same m.head a.read test in
       (rw hand.room (keeps_push h m p a hand.element hand.next was at same hand.room), head_tells h m a.read was same)
   on_exchange h m p a false was at test =
       let there = was.parties p (Set a) at in
-      let hand = there.0 in
-      rw hand.room (unchanged h _ (keeps_fail h m p a was at), record { since = there.2.since; loaded = there.2.loaded; moved = there.2.moved (option_differ m.head a.read test) })
+      let hand = there.hand in
+      let read = there.read in
+      rw hand.room (unchanged h _ (keeps_fail h m p a was at), record { since = read.since; loaded = read.loaded; moved = read.moved (option_differ m.head a.read test) })
 
   on_take : (h : List (Event ℕ E)) (m : Machine E) (p : ℕ) (top : Option ℕ) → CoreMeets h m
       → slice_get m.parties p ≡ Some Rest → m.head ≡ top → Goes_on h p None step.Take (take m p top)
@@ -84,7 +101,7 @@ module _ {E : Type 0} where
 
   -- where a party walks there is a room with an element
   pub walking_at : (h : List (Event ℕ E)) (m : Machine E) (p r : ℕ) → CoreMeets h m
-      → slice_get m.parties p ≡ Some (Walking r) → (e : E) × (next : Option ℕ) × (slice_get m.rooms r ≡ Some (room_in_use e next))
+      → slice_get m.parties p ≡ Some (Walking r) → HasElement m.rooms r
   walking_at h m p r was at = let w = was.parties p (Walking r) at in first_of_rest m.rooms was.own (Some p) r w.rest w.links
 
   walked_on : (h : List (Event ℕ E)) (m : Machine E) (p r : ℕ) (e : E) (next : Option ℕ) → CoreMeets h m
@@ -98,7 +115,7 @@ module _ {E : Type 0} where
       → Goes_on h p None step.Walk (walk m p r (next_in (slice_get m.rooms r)) (element_in (slice_get m.rooms r)))
   on_walk h m p r was at =
       let there = walking_at h m p r was at in
-      rw there.2 (walked_on h m p r there.0 there.1 was at there.2)
+      rw there.at (walked_on h m p r there.element there.next was at there.at)
 
   goes_at : (h : List (Event ℕ E)) (m : Machine E) (p : ℕ) (s : TransferStep E) (o : Option Stage)
       → CoreMeets h m → slice_get m.parties p ≡ o → Goes_on h p (in_hand_at m.rooms o) s (after_step_at m p s o)

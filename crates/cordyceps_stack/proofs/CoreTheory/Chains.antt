@@ -36,20 +36,34 @@ module _ {E : Type 0} where
   pub LeadsThrough-passed : (rooms : List (Room E)) (own : ℕ → Option ℕ) (rooms' : List (Room E)) (own' : ℕ → Option ℕ) (w v start : Option ℕ) (xs : List (ℕ × E)) → Passes rooms own rooms' own' w v → LeadsThrough rooms own w start xs → LeadsThrough rooms' own' v start xs
   LeadsThrough-passed rooms own rooms' own' w v start [] k l = l
   LeadsThrough-passed rooms own rooms' own' w v start (x ∷ xs) k l =
-      let here = k x.0 x.1 l.0 l.2 l.3 in
-      (l.0, l.1, here.0, here.1, l.4, LeadsThrough-passed rooms own rooms' own' w v l.0 xs k l.5)
+      let here = k x.0 x.1 l.next l.room l.mine in
+      record {
+        next = l.next;
+        start_is = l.start_is;
+        room = here.0;
+        mine = here.1;
+        apart = l.apart;
+        rest = LeadsThrough-passed rooms own rooms' own' w v l.next xs k l.rest;
+      }
 
   -- a room of another is not among these
   pub NoneOf-label : (rooms : List (Room E)) (own : ℕ → Option ℕ) (w start : Option ℕ) (xs : List (ℕ × E)) (r : ℕ)
       → own r ≢ w → LeadsThrough rooms own w start xs → NotAmong r xs
   NoneOf-label rooms own w start [] r n l = tt
-  NoneOf-label rooms own w start (x ∷ xs) r n l = (λ e. n (ap own e ∙ l.3), NoneOf-label rooms own w l.0 xs r n l.5)
+  NoneOf-label rooms own w start (x ∷ xs) r n l = (λ e. n (ap own e ∙ l.mine), NoneOf-label rooms own w l.next xs r n l.rest)
 
   -- a change to a room that is not among these
   pub LeadsThrough-change : (f : Room E → Room E) (rooms : List (Room E)) (own : ℕ → Option ℕ) (w start : Option ℕ) (xs : List (ℕ × E)) (r : ℕ) → NotAmong r xs → LeadsThrough rooms own w start xs → LeadsThrough (change f r rooms) own w start xs
   LeadsThrough-change f rooms own w start [] r n l = l
   LeadsThrough-change f rooms own w start (x ∷ xs) r n l =
-      (l.0, l.1, slice_get-change_other f rooms r x.0 (λ e. n.0 (sym e)) ∙ l.2, l.3, l.4, LeadsThrough-change f rooms own w l.0 xs r n.1 l.5)
+      record {
+        next = l.next;
+        start_is = l.start_is;
+        room = slice_get-change_other f rooms r x.0 (λ e. n.0 (sym e)) ∙ l.room;
+        mine = l.mine;
+        apart = l.apart;
+        rest = LeadsThrough-change f rooms own w l.next xs r n.1 l.rest;
+      }
 
   -- a change to a room that none of w uses
   pub Keeps-change : (f : Room E → Room E) (rooms : List (Room E)) (own : ℕ → Option ℕ) (r : ℕ) (w : Option ℕ) → own r ≢ w
@@ -80,7 +94,7 @@ module _ {E : Type 0} where
   pub LeadsThrough-none : (rooms : List (Room E)) (own : ℕ → Option ℕ) (w : Option ℕ) (xs : List (ℕ × E))
       → LeadsThrough rooms own w None xs → room_elements xs ≡ []
   LeadsThrough-none rooms own w [] l = refl
-  LeadsThrough-none rooms own w (x ∷ xs) l = let no : ⊥ = let e = l.1 in cc in absurd no
+  LeadsThrough-none rooms own w (x ∷ xs) l = let no : ⊥ = let e = l.start_is in cc in absurd no
 
   pub LeadsThrough-some : (rooms : List (Room E)) (own : ℕ → Option ℕ) (w : Option ℕ) (r : ℕ) (xs : List (ℕ × E))
       → LeadsThrough rooms own w (Some r) xs → room_elements xs ≢ []

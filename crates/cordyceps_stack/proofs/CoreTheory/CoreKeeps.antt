@@ -12,10 +12,9 @@ use Rattle.cordyceps_shared.specs.declared.room.Room.{Room}
 use Rattle.cordyceps_stack.specs.History.{Event}
 use Rattle.cordyceps_shared.specs.Rooms.{change, with_link, as_free_room, element_in, next_in}
 use Rattle.cordyceps_stack.specs.Cores.Machine.{Machine, with_element, stage_after_walk, least_free, acts, after_step_at, after_step}
-use Rattle.cordyceps_stack.specs.Cores.Stages.{room_in_use}
 use Rattle.cordyceps_stack.specs.Cores.CoreMeets.{CoreMeets, IsSound, step_events, AnswerSays}
 use Rattle.cordyceps_stack.proofs.Histories.{legal_none}
-use Rattle.cordyceps_stack.proofs.CoreTheory.AnyStep.{core_steps, walking_at}
+use Rattle.cordyceps_stack.proofs.CoreTheory.AnyStep.{HasElement, core_steps, walking_at}
 
 module _ {E : Type 0} where
   pub meets_new : CoreMeets {E = E} [] record { head = None; rooms = []; parties = [] }
@@ -40,15 +39,19 @@ module _ {E : Type 0} where
 
   -- where a push is under way there is a room with an element
   pub loaded_room : (m : Machine E) (p : ℕ) (a : Attempt) → IsSound m → slice_get m.parties p ≡ Some (Loaded a)
-      → (e : E) × (next : Option ℕ) × (slice_get m.rooms a.room ≡ Some (room_in_use e next))
-  loaded_room m p a s at = let hand = (s.1.parties p (Loaded a) at).0 in (hand.element, hand.next, hand.room)
+      → HasElement m.rooms a.room
+  loaded_room m p a s at =
+      let hand = (s.1.parties p (Loaded a) at).0 in
+      record { element = hand.element; next = hand.next; at = hand.room }
 
   pub set_room : (m : Machine E) (p : ℕ) (a : Attempt) → IsSound m → slice_get m.parties p ≡ Some (Set a)
-      → (e : E) × (next : Option ℕ) × (slice_get m.rooms a.room ≡ Some (room_in_use e next))
-  set_room m p a s at = let hand = (s.1.parties p (Set a) at).0 in (hand.element, hand.next, hand.room)
+      → HasElement m.rooms a.room
+  set_room m p a s at =
+      let hand = (s.1.parties p (Set a) at).hand in
+      record { element = hand.element; next = hand.next; at = hand.room }
 
   pub walking_room : (m : Machine E) (p r : ℕ) → IsSound m → slice_get m.parties p ≡ Some (Walking r)
-      → (e : E) × (next : Option ℕ) × (slice_get m.rooms r ≡ Some (room_in_use e next))
+      → HasElement m.rooms r
   walking_room m p r s at = walking_at s.0 m p r s.1 at
 
   pub sound_load : (m : Machine E) (p r : ℕ) (e : E) (rooms : List (Room E)) → IsSound m → slice_get m.parties p ≡ Some Rest
@@ -69,7 +72,7 @@ module _ {E : Type 0} where
   pub sound_fail : (m : Machine E) (p : ℕ) (a : Attempt) (rooms : List (Room E)) → IsSound m
       → slice_get m.parties p ≡ Some (Set a) → option_eq nat_eq m.head a.read ≡ false → rooms ≡ change (as_free_room p) a.room m.rooms
       → IsSound record { head = m.head; rooms = rooms; parties = set m.parties p Rest }
-  sound_fail m p a rooms s at test same = let there = set_room m p a s at in sound_step m _ p step.Exchange s (rw (at, test, there.2, same) refl)
+  sound_fail m p a rooms s at test same = let there = set_room m p a s at in sound_step m _ p step.Exchange s (rw (at, test, there.at, same) refl)
 
   pub sound_take : (m : Machine E) (p r : ℕ) → IsSound m → slice_get m.parties p ≡ Some Rest → m.head ≡ Some r
       → IsSound record { head = None; rooms = m.rooms; parties = set m.parties p (Walking r) }
@@ -78,8 +81,8 @@ module _ {E : Type 0} where
   pub sound_walk : (m : Machine E) (p r : ℕ) (next : Option ℕ) (rooms : List (Room E)) → IsSound m
       → slice_get m.parties p ≡ Some (Walking r) → next ≡ next_in (slice_get m.rooms r) → rooms ≡ change (as_free_room p) r m.rooms
       → IsSound record { head = m.head; rooms = rooms; parties = set m.parties p (stage_after_walk next) }
-  sound_walk m p r next rooms s at link same = let there = walking_room m p r s at in sound_step m _ p step.Walk s (rw (at, there.2, link, there.2, same) refl)
+  sound_walk m p r next rooms s at link same = let there = walking_room m p r s at in sound_step m _ p step.Walk s (rw (at, there.at, link, there.at, same) refl)
 
-  pub element_at : (m : Machine E) (r : ℕ) → (e : E) × (next : Option ℕ) × (slice_get m.rooms r ≡ Some (room_in_use e next))
+  pub element_at : (m : Machine E) (r : ℕ) → HasElement m.rooms r
       → (r < length m.rooms) × IsSome (element_in (slice_get m.rooms r))
-  element_at m r there = (slice_get_within m.rooms r _ there.2, rw there.2 refl)
+  element_at m r there = (slice_get_within m.rooms r _ there.at, rw there.at refl)

@@ -29,20 +29,35 @@ module _ {E : Type 0} where
       let here = k r hand.element hand.next hand.room hand.mine in
       record { element = hand.element; next = hand.next; room = here.0; mine = here.1 }
 
+  -- q's last load is one in the history as it went on. Where something of another followed it, something does, as also
+  -- where `head` has changed
+  pub record LoadsOn (q : ℕ) (h' since : List (Event ℕ E)) (head head' : Option ℕ) : Type 0 where
+    pub since' : List (Event ℕ E)
+    pub loaded : LastLoad q h' since'
+    pub kept : SomeByAnother q since → SomeByAnother q since'
+    pub moved : (head' ≡ head) ⊎ SomeByAnother q since'
+
   -- what a party that takes no step needs of the history as it goes on, and of `head`
   pub record Goes (q : ℕ) (h h' : List (Event ℕ E)) (head head' : Option ℕ) : Type 0 where
-    pub loads : (since : List (Event ℕ E)) → LastLoad q h since
-        → (since' : List (Event ℕ E)) × LastLoad q h' since' × (SomeByAnother q since → SomeByAnother q since') × ((head' ≡ head) ⊎ SomeByAnother q since')
+    pub loads : (since : List (Event ℕ E)) → LastLoad q h since → LoadsOn q h' since head head'
     pub batches : (batch : List E) → LastBatch q h batch → LastBatch q h' batch
 
   pub goes_idle : (q : ℕ) (h : List (Event ℕ E)) (head head' : Option ℕ) → head' ≡ head → Goes q h h head head'
-  goes_idle q h head head' e = record { loads = λ since l. (since, l, λ s. s, inl e); batches = λ batch l. l }
+  goes_idle q h head head' e = record {
+    loads = λ since l. record { since' = since; loaded = l; kept = λ s. s; moved = inl e };
+    batches = λ batch l. l;
+  }
 
   pub goes_event : (q : ℕ) (h : List (Event ℕ E)) (v : Event ℕ E) (head head' : Option ℕ) → NoLoad q (v ∷ [])
       → NoTaken q (v ∷ []) → (head' ≡ head) ⊎ IsByAnother q v → Goes q h (h ++ v ∷ []) head head'
   goes_event q h v head head' no_load no_taken moved =
       record {
-        loads = λ since l. (since ++ v ∷ [], loaded_more q h since v l no_load, λ s. another_more q since (v ∷ []) s, elim moved [ inl e ↦ inl e | inr s ↦ inr (another_last q since v s) ]);
+        loads = λ since l. record {
+          since' = since ++ v ∷ [];
+          loaded = loaded_more q h since v l no_load;
+          kept = λ s. another_more q since (v ∷ []) s;
+          moved = elim moved [ inl e ↦ inl e | inr s ↦ inr (another_last q since v s) ];
+        };
         batches = λ batch l. batch_more q h batch v l no_taken;
       }
 
@@ -50,13 +65,14 @@ module _ {E : Type 0} where
       → HasRead h' q head' read
   knows_on q h h' head head' read goes k =
       let g = goes.loads k.since k.loaded in
-      record { since = g.0; loaded = g.1; moved = λ ne. elim g.3 [ inl same ↦ g.2 (k.moved (λ e. ne (same ∙ e))) | inr s ↦ s ] }
+      record { since = g.since'; loaded = g.loaded; moved = λ ne. elim g.moved [ inl same ↦ g.kept (k.moved (λ e. ne (same ∙ e))) | inr s ↦ s ] }
 
   -- a party that takes no step is where it was
   pub bystander : (h h' : List (Event ℕ E)) (head head' : Option ℕ) (rooms : List (Room E)) (own : ℕ → Option ℕ) (rooms' : List (Room E)) (own' : ℕ → Option ℕ) (q : ℕ) (stage : Stage) → Goes q h h' head head' → Keeps rooms own rooms' own' (Some q) → AtStage h head rooms own q stage → AtStage h' head' rooms' own' q stage
   bystander h h' head head' rooms own rooms' own' q Rest goes k a = tt
   bystander h h' head head' rooms own rooms' own' q (Loaded t) goes k a = (hand_on rooms own rooms' own' q t.room k a.0, knows_on q h h' head head' t.read goes a.1)
-  bystander h h' head head' rooms own rooms' own' q (Set t) goes k a = (hand_on rooms own rooms' own' q t.room k a.0, a.1, knows_on q h h' head head' t.read goes a.2)
+  bystander h h' head head' rooms own rooms' own' q (Set t) goes k a =
+      record { hand = hand_on rooms own rooms' own' q t.room k a.hand; link = a.link; read = knows_on q h h' head head' t.read goes a.read }
   bystander h h' head head' rooms own rooms' own' q (Walking r) goes k a =
       record {
         rest = a.rest;
@@ -140,12 +156,16 @@ module _ {E : Type 0} where
   keeps_set_next h m p a was at =
       let here = was.parties p (Loaded a) at in
       own_room h m p a.room (with_link a.read) (Loaded a) (Set a) was at here.0.mine
-      (record { element = here.0.element; next = a.read; room = slice_get-change_same (with_link a.read) m.rooms a.room (room_in_use here.0.element here.0.next) here.0.room; mine = here.0.mine }, refl, here.1)
+      record {
+        hand = record { element = here.0.element; next = a.read; room = slice_get-change_same (with_link a.read) m.rooms a.room (room_in_use here.0.element here.0.next) here.0.room; mine = here.0.mine };
+        link = refl;
+        read = here.1;
+      }
 
   pub keeps_fail : (h : List (Event ℕ E)) (m : Machine E) (p : ℕ) (a : Attempt) → CoreMeets h m
       → slice_get m.parties p ≡ Some (Set a)
       → CoreMeets h record { head = m.head; rooms = change (as_free_room p) a.room m.rooms; parties = set m.parties p Rest }
-  keeps_fail h m p a was at = own_room h m p a.room (as_free_room p) (Set a) Rest was at (was.parties p (Set a) at).0.mine tt
+  keeps_fail h m p a was at = own_room h m p a.room (as_free_room p) (Set a) Rest was at (was.parties p (Set a) at).hand.mine tt
 
   pub keeps_push : (h : List (Event ℕ E)) (m : Machine E) (p : ℕ) (a : Attempt) (e : E) (next : Option ℕ)
       → CoreMeets h m → slice_get m.parties p ≡ Some (Set a) → m.head ≡ a.read
@@ -153,23 +173,23 @@ module _ {E : Type 0} where
       → CoreMeets (h ++ Push p e ∷ []) record { head = Some a.room; rooms = m.rooms; parties = set m.parties p Rest }
   keeps_push h m p a e next was at same got =
       let here = was.parties p (Set a) at in
-      let hand = here.0 in
+      let hand = here.hand in
       let one : room_in_use hand.element hand.next ≡ room_in_use e next = let both : Some (room_in_use hand.element hand.next) ≡ Some (room_in_use e next) = sym hand.room ∙ got in cc in
-      let link : m.head ≡ next = same ∙ (sym here.1 ∙ ap (λ (x : Room E). x.next) one) in
+      let link : m.head ≡ next = same ∙ (sym here.link ∙ ap (λ (x : Room E). x.next) one) in
       let after : ℕ → Option ℕ = relabel was.own a.room None in
       meets_on h (h ++ Push p e ∷ []) m p (Some a.room) m.rooms (Set a) Rest was at
       record {
         legal = legal_more h (Push p e) was.legal tt;
         own' = relabel was.own a.room None;
         chain = (a.room, e) ∷ was.chain;
-        linked = (
-          next,
-          refl,
-          got,
-          relabel_here was.own a.room None,
-          NoneOf-label m.rooms was.own None m.head was.chain a.room (not_none was.own a.room p hand.mine) was.linked,
-          subst (λ start. LeadsThrough m.rooms (relabel was.own a.room None) None start was.chain) link (LeadsThrough-passed m.rooms was.own m.rooms (relabel was.own a.room None) None None m.head was.chain (Keeps-relabel m.rooms was.own a.room None None (not_none was.own a.room p hand.mine)) was.linked),
-        );
+        linked = record {
+          next = next;
+          start_is = refl;
+          room = got;
+          mine = relabel_here was.own a.room None;
+          apart = NoneOf-label m.rooms was.own None m.head was.chain a.room (not_none was.own a.room p hand.mine) was.linked;
+          rest = subst (λ start. LeadsThrough m.rooms (relabel was.own a.room None) None start was.chain) link (LeadsThrough-passed m.rooms was.own m.rooms (relabel was.own a.room None) None None m.head was.chain (Keeps-relabel m.rooms was.own a.room None None (not_none was.own a.room p hand.mine)) was.linked);
+        };
         holds = ap (λ es. e ∷ es) was.holds ∙ (sym (reverse-append (held h) (e ∷ [])) ∙ ap reverse (sym (held_more h (Push p e))));
         goes = λ q ne. goes_event q h (Push p e) m.head (Some a.room) tt tt (inr (λ e. ne (sym e)));
         keeps = λ q ne. Keeps-relabel m.rooms was.own a.room None (Some q) (not_mine was.own a.room p q hand.mine ne);
@@ -238,12 +258,12 @@ module _ {E : Type 0} where
       → (own r ≡ Some p) × AtStage h m.head (change (as_free_room p) r m.rooms) own p (stage_after_walk next)
   walks_at h m p r e next own [] l batch taken given end got = let no : ⊥ = cc in absurd no
   walks_at h m p r e next own (x ∷ xs) l batch taken given end got =
-      let start : x.0 ≡ r = let first = l.1 in cc in
-      let rooms : Some (room_in_use x.1 l.0) ≡ Some (room_in_use e next) = sym l.2 ∙ (ap (slice_get m.rooms) start ∙ got) in
-      let room : room_in_use x.1 l.0 ≡ room_in_use e next = cc in
-      let link : l.0 ≡ next = ap (λ (y : Room E). y.next) room in (
-        ap own (sym start) ∙ l.3,
-        walks_to h m p r next own xs x.1 (subst (λ s. NotAmong s xs) start l.4) (subst (λ start'. LeadsThrough m.rooms own (Some p) start' xs) link l.5) batch taken given end,
+      let start : x.0 ≡ r = let first = l.start_is in cc in
+      let rooms : Some (room_in_use x.1 l.next) ≡ Some (room_in_use e next) = sym l.room ∙ (ap (slice_get m.rooms) start ∙ got) in
+      let room : room_in_use x.1 l.next ≡ room_in_use e next = cc in
+      let link : l.next ≡ next = ap (λ (y : Room E). y.next) room in (
+        ap own (sym start) ∙ l.mine,
+        walks_to h m p r next own xs x.1 (subst (λ s. NotAmong s xs) start l.apart) (subst (λ start'. LeadsThrough m.rooms own (Some p) start' xs) link l.rest) batch taken given end,
       )
 
   pub walks_on : (h : List (Event ℕ E)) (m : Machine E) (p r : ℕ) (e : E) (next : Option ℕ)

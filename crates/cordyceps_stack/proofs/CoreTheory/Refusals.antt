@@ -24,7 +24,7 @@ module _ {E : Type 0} where
   exact_exchange : (m : Machine E) (p : ℕ) (a : Attempt) (b : Bool) → IsSound m → slice_get m.parties p ≡ Some (Set a)
       → Exact m step.Exchange true (exchange m p a b)
   exact_exchange m p a true s at = (refl, tt)
-  exact_exchange m p a false s at = rw (set_room m p a s at).2 (refl, tt)
+  exact_exchange m p a false s at = rw (set_room m p a s at).at (refl, tt)
 
   exact_take : (m : Machine E) (p : ℕ) (o : Option ℕ) → Exact m step.Take true (take m p o)
   exact_take m p None = (refl, tt)
@@ -36,7 +36,7 @@ module _ {E : Type 0} where
   exact_at m p step.SetNext (Some (Loaded a)) sound at = (refl, tt)
   exact_at m p step.Exchange (Some (Set a)) sound at = exact_exchange m p a (option_eq nat_eq m.head a.read) sound at
   exact_at m p step.Take (Some Rest) sound at = exact_take m p m.head
-  exact_at m p step.Walk (Some (Walking r)) sound at = rw (walking_room m p r sound at).2 (refl, tt)
+  exact_at m p step.Walk (Some (Walking r)) sound at = rw (walking_room m p r sound at).at (refl, tt)
   exact_at m p s o sound at = (refl, (refl, refl))
 
   pub exact : (m : Machine E) (p : ℕ) (s : TransferStep E) → IsSound m → Exact m s (is_there m p s) (after_step m p s)

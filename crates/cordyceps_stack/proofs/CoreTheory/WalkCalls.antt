@@ -24,7 +24,8 @@ module _ {E : Type 0} where
   -- where the history stays, and what is left too
   hands_still : (h : List (Event ℕ E)) (old new : Machine E)
       → ((p : ℕ) (left : List E) → IsLeft old p left → IsLeft new p left) → HandsOn h old h new (λ p. [])
-  hands_still h old new kept p given out = (out.0, kept p out.0 out.1, ap (λ es. es ++ out.0) (append-nil given) ∙ out.2)
+  hands_still h old new kept p given out =
+      record { left = out.left; is_left = kept p out.left out.is_left; all = ap (λ es. es ++ out.left) (append-nil given) ∙ out.all }
 
   hands_same : (h : List (Event ℕ E)) (m : Machine E) → HandsOn h m h m (λ p. [])
   hands_same h m = hands_still h m m (λ p left is. is)
@@ -52,7 +53,13 @@ module _ {E : Type 0} where
   leads_pushed : (rooms : List (Room E)) (room : Room E) (start : Option ℕ) (es : List E) → LeadsToElements rooms start es
       → LeadsToElements (rooms ++ room ∷ []) start es
   leads_pushed rooms room start [] l = l
-  leads_pushed rooms room start (e ∷ es) l = (l.0, l.1, l.2, slice_get-pushed rooms room _ l.0 l.3, leads_pushed rooms room l.1 es l.4)
+  leads_pushed rooms room start (e ∷ es) l = record {
+    room = l.room;
+    next = l.next;
+    start_is = l.start_is;
+    reads = slice_get-pushed rooms room _ l.room l.reads;
+    rest = leads_pushed rooms room l.next es l.rest;
+  }
 
   left_room : (rooms : List (Room E)) (room : Room E) (o : Option Stage) (left : List E) → IsLeftAt rooms o left
       → IsLeftAt (rooms ++ room ∷ []) o left
@@ -133,21 +140,21 @@ module _ {E : Type 0} where
   take_moves h old new p n q batch left was from to ran is (inl same) =
       let none : left ≡ [] = subst (λ (o : Option Stage). IsLeftAt old.rooms o left) from (subst (λ s. IsLeft old s left) (sym same) is) in
       subst (λ s. MovesOn s left (Taken p batch ∷ []) new (only p batch s)) same
-      (subst (λ (t : Bool). MovesOn p left (Taken p batch ∷ []) new (if t then batch else [])) (sym (eq-eqb p p refl)) (
-        [],
-        subst (λ (o : Option Stage). IsLeftAt new.rooms o []) (sym to) refl,
-        ap (λ es. es ++ batches p (Taken p batch ∷ [])) none ∙ (batches_mine p batch ∙ sym (append-nil batch)),
-      ))
+      (subst (λ (t : Bool). MovesOn p left (Taken p batch ∷ []) new (if t then batch else [])) (sym (eq-eqb p p refl)) record {
+        rest = [];
+        is_left = subst (λ (o : Option Stage). IsLeftAt new.rooms o []) (sym to) refl;
+        all = ap (λ es. es ++ batches p (Taken p batch ∷ [])) none ∙ (batches_mine p batch ∙ sym (append-nil batch));
+      })
   take_moves h old new p n q batch left was from to ran is (inr ne) =
       let other : only p batch q ≡ [] = ap (λ (t : Bool). if t then batch else []) (ne_eqb p q ne) in
-      subst (λ (es : List E). MovesOn q left (Taken p batch ∷ []) new es) (sym other) (
-        left,
-        subst (λ (m : Machine E). IsLeft m q left) (sym ran) (kept_take n h old p q left was (λ e. ne (sym e)) is),
-        ap (λ (es : List E). left ++ (es ++ [])) other ∙ append-nil left,
-      )
+      subst (λ (es : List E). MovesOn q left (Taken p batch ∷ []) new es) (sym other) record {
+        rest = left;
+        is_left = subst (λ (m : Machine E). IsLeft m q left) (sym ran) (kept_take n h old p q left was (λ e. ne (sym e)) is);
+        all = ap (λ (es : List E). left ++ (es ++ [])) other ∙ append-nil left;
+      }
 
   pub take_hands : (h : List (Event ℕ E)) (old new : Machine E) (p n : ℕ) (batch : List E) → CoreMeets h old
       → slice_get old.parties p ≡ Some Rest → slice_get new.parties p ≡ Some Rest → new ≡ after core_step old (take_steps p n)
       → HandsOn h old (h ++ Taken p batch ∷ []) new (only p batch)
   take_hands h old new p n batch was from to ran q given out =
-      hands_from h (Taken p batch ∷ []) new q given (only p batch q) out.0 out.2 (take_moves h old new p n q batch out.0 was from to ran out.1 (cases_eq p q))
+      hands_from h (Taken p batch ∷ []) new q given (only p batch q) out.left out.all (take_moves h old new p n q batch out.left was from to ran out.is_left (cases_eq p q))

@@ -54,38 +54,42 @@ module _ {E : Type 0} where
   leads_from_linked : (rooms : List (Room E)) (own : ℕ → Option ℕ) (w start : Option ℕ) (xs : List (ℕ × E))
       → LeadsThrough rooms own w start xs → LeadsToElements rooms start (room_elements xs)
   leads_from_linked rooms own w start [] l = l
-  leads_from_linked rooms own w start (x ∷ xs) l = (x.0, l.0, l.1, l.2, leads_from_linked rooms own w l.0 xs l.5)
+  leads_from_linked rooms own w start (x ∷ xs) l =
+      record { room = x.0; next = l.next; start_is = l.start_is; reads = l.room; rest = leads_from_linked rooms own w l.next xs l.rest }
 
   -- links lead in one way
   leads_same : (rooms : List (Room E)) (start : Option ℕ) (es fs : List E) → LeadsToElements rooms start es → LeadsToElements rooms start fs → es ≡ fs
   leads_same rooms start [] [] l k = refl
-  leads_same rooms start [] (f ∷ fs) l k = let a = k.2 in let no : ⊥ = cc in absurd no
-  leads_same rooms start (e ∷ es) [] l k = let a = l.2 in let no : ⊥ = cc in absurd no
+  leads_same rooms start [] (f ∷ fs) l k = let a = k.start_is in let no : ⊥ = cc in absurd no
+  leads_same rooms start (e ∷ es) [] l k = let a = l.start_is in let no : ⊥ = cc in absurd no
   leads_same rooms start (e ∷ es) (f ∷ fs) l k =
-      let both : Some l.0 ≡ Some k.0 = sym l.2 ∙ k.2 in
-      let room : l.0 ≡ k.0 = cc in
-      let reads : Some (room_in_use e l.1) ≡ Some (room_in_use f k.1) = sym l.3 ∙ (ap (slice_get rooms) room ∙ k.3) in
-      let same : room_in_use e l.1 ≡ room_in_use f k.1 = cc in
-      let next : l.1 ≡ k.1 = ap (λ (y : Room E). y.next) same in
+      let both : Some l.room ≡ Some k.room = sym l.start_is ∙ k.start_is in
+      let room : l.room ≡ k.room = cc in
+      let reads : Some (room_in_use e l.next) ≡ Some (room_in_use f k.next) = sym l.reads ∙ (ap (slice_get rooms) room ∙ k.reads) in
+      let same : room_in_use e l.next ≡ room_in_use f k.next = cc in
+      let next : l.next ≡ k.next = ap (λ (y : Room E). y.next) same in
       let some_element : Some e ≡ Some f = ap (λ (y : Room E). y.element) same in
       let element : e ≡ f = cc in
-      let more : es ≡ fs = leads_same rooms k.1 es fs (subst (λ top. LeadsToElements rooms top es) next l.4) k.4 in
+      let more : es ≡ fs = leads_same rooms k.next es fs (subst (λ top. LeadsToElements rooms top es) next l.rest) k.rest in
       cc
 
   -- p hands out these elements in a step that adds these events
-  abbrev pub MovesOn : ℕ → List E → List (Event ℕ E) → Machine E → List E → Type 0
-  MovesOn p left ev m' more = (left' : List E) × IsLeft m' p left' × (left ++ batches p ev ≡ more ++ left')
+  pub record MovesOn (p : ℕ) (left : List E) (ev : List (Event ℕ E)) (m' : Machine E) (more : List E) : Type 0 where
+    pub rest : List E
+    pub is_left : IsLeft m' p rest
+    pub all : left ++ batches p ev ≡ more ++ rest
 
   pub hands_from : (h ev : List (Event ℕ E)) (m' : Machine E) (p : ℕ) (given more left : List E) → given ++ left ≡ batches p h
       → MovesOn p left ev m' more → HandsOut (h ++ ev) m' p (given ++ more)
-  hands_from h ev m' p given more left all moves = (
-    moves.0,
-    moves.1,
-    append_assoc given more moves.0 ∙ (ap (λ es. given ++ es) (sym moves.2) ∙ (sym (append_assoc given left (batches p ev)) ∙ (ap (λ es. es ++ batches p ev) all ∙ sym (batches-append p h ev)))),
-  )
+  hands_from h ev m' p given more left all moves = record {
+    left = moves.rest;
+    is_left = moves.is_left;
+    all = append_assoc given more moves.rest
+        ∙ (ap (λ es. given ++ es) (sym moves.all) ∙ (sym (append_assoc given left (batches p ev)) ∙ (ap (λ es. es ++ batches p ev) all ∙ sym (batches-append p h ev))));
+  }
 
   stays : (m : Machine E) (p : ℕ) (left : List E) → IsLeft m p left → MovesOn p left [] m []
-  stays m p left is = (left, is, append-nil left)
+  stays m p left is = record { rest = left; is_left = is; all = append-nil left }
 
   -- the step of another leaves p where it is, and its rooms
   record Aside (own : ℕ → Option ℕ) (m m' : Machine E) (p : ℕ) : Type 0 where
@@ -100,13 +104,13 @@ module _ {E : Type 0} where
   aside_load h m p q e None was ne free = aside_still was.own m p
   aside_load h m p q e (Some r) was ne free =
       let room = least_is_free q m.rooms r free in
-      record { stage = slice_get-set_other m.parties q p _ ne; rooms = Keeps-free (with_element e) m.rooms was.own r room.0 (Some p) q room.1 room.2 }
+      record { stage = slice_get-set_other m.parties q p _ ne; rooms = Keeps-free (with_element e) m.rooms was.own r room.room (Some p) q room.at room.owner }
 
   aside_exchange : (h : List (Event ℕ E)) (m : Machine E) (p q : ℕ) (a : Attempt) (b : Bool) → (was : CoreMeets h m) → p ≢ q
       → slice_get m.parties q ≡ Some (Set a) → Aside was.own m (exchange m q a b).0 p
   aside_exchange h m p q a true was ne at = record { stage = slice_get-set_other m.parties q p _ ne; rooms = λ r e next got mine. (got, mine) }
   aside_exchange h m p q a false was ne at =
-      let hand = (was.parties q (Set a) at).0 in
+      let hand = (was.parties q (Set a) at).hand in
       rw hand.room (record { stage = slice_get-set_other m.parties q p _ ne; rooms = Keeps-change (as_free_room q) m.rooms was.own a.room (Some p) (not_mine was.own a.room q p hand.mine ne) })
 
   aside_take : (h : List (Event ℕ E)) (m : Machine E) (p q : ℕ) (o : Option ℕ) → (was : CoreMeets h m) → p ≢ q
@@ -119,8 +123,8 @@ module _ {E : Type 0} where
       → Aside was.own m (walk m q r (next_in (slice_get m.rooms r)) (element_in (slice_get m.rooms r))).0 p
   aside_walk h m p q r was ne at =
       let there = walking_at h m q r was at in
-      let mine = (walks_on h m q r there.0 there.1 was (was.parties q (Walking r) at) there.2).0 in
-      rw there.2 (record { stage = slice_get-set_other m.parties q p _ ne; rooms = Keeps-change (as_free_room q) m.rooms was.own r (Some p) (not_mine was.own r q p mine ne) })
+      let mine = (walks_on h m q r there.element there.next was (was.parties q (Walking r) at) there.at).0 in
+      rw there.at (record { stage = slice_get-set_other m.parties q p _ ne; rooms = Keeps-change (as_free_room q) m.rooms was.own r (Some p) (not_mine was.own r q p mine ne) })
 
   aside_at : (h : List (Event ℕ E)) (m : Machine E) (p q : ℕ) (s : TransferStep E) (o : Option Stage) → (was : CoreMeets h m)
       → p ≢ q → slice_get m.parties q ≡ o → Aside was.own m (after_step_at m q s o).0 p
@@ -156,11 +160,11 @@ module _ {E : Type 0} where
   -- a step of p that hands out nothing and takes nothing, and leads from where nothing is left to where nothing is
   idles : (ev : List (Event ℕ E)) (m' : Machine E) (p : ℕ) (stage : Stage) (left : List E) → IsLeftAt m'.rooms (Some stage) []
       → slice_get m'.parties p ≡ Some stage → left ≡ [] → batches p ev ≡ [] → MovesOn p left ev m' []
-  idles ev m' p stage left none at empty added = (
-    [],
-    subst (λ (o : Option Stage). IsLeftAt m'.rooms o []) (sym at) none,
-    ap (λ es. es ++ batches p ev) empty ∙ added,
-  )
+  idles ev m' p stage left none at empty added = record {
+    rest = [];
+    is_left = subst (λ (o : Option Stage). IsLeftAt m'.rooms o []) (sym at) none;
+    all = ap (λ es. es ++ batches p ev) empty ∙ added;
+  }
 
   own_load : (h : List (Event ℕ E)) (m : Machine E) (p : ℕ) (e : E) (o : Option ℕ) (left : List E)
       → slice_get m.parties p ≡ Some Rest → left ≡ [] → IsLeft m p left
@@ -188,17 +192,17 @@ module _ {E : Type 0} where
   own_take h m p None left was at top empty = idles (Taken p [] ∷ []) m p Rest left refl at empty (batches_mine p [])
   own_take h m p (Some r) left was at top empty =
       let links = leads_from_linked m.rooms was.own None m.head was.chain was.linked in
-      let there : LeadsToElements m.rooms (Some r) (reverse (held h)) = subst (LeadsToElements m.rooms (Some r)) was.holds (subst (λ start. LeadsToElements m.rooms start (room_elements was.chain)) top links) in (
-        reverse (held h),
-        subst (λ (o : Option Stage). IsLeftAt m.rooms o (reverse (held h))) (sym (slice_get-set_same m.parties p (Walking r) Rest at)) there,
-        ap (λ es. es ++ batches p (Taken p (reverse (held h)) ∷ [])) empty ∙ batches_mine p (reverse (held h)),
-      )
+      let there : LeadsToElements m.rooms (Some r) (reverse (held h)) = subst (LeadsToElements m.rooms (Some r)) was.holds (subst (λ start. LeadsToElements m.rooms start (room_elements was.chain)) top links) in record {
+        rest = reverse (held h);
+        is_left = subst (λ (o : Option Stage). IsLeftAt m.rooms o (reverse (held h))) (sym (slice_get-set_same m.parties p (Walking r) Rest at)) there;
+        all = ap (λ es. es ++ batches p (Taken p (reverse (held h)) ∷ [])) empty ∙ batches_mine p (reverse (held h));
+      }
 
   -- the rest of a walk, where it is at a room or at its end
   left_after : (rooms : List (Room E)) (next : Option ℕ) (es : List E) → LeadsToElements rooms next es
       → IsLeftAt rooms (Some (stage_after_walk next)) es
   left_after rooms None [] l = refl
-  left_after rooms None (e ∷ es) l = let a = l.2 in let no : ⊥ = cc in absurd no
+  left_after rooms None (e ∷ es) l = let a = l.start_is in let no : ⊥ = cc in absurd no
   left_after rooms (Some r) es l = l
 
   given_handed : (e : E) (next : Option ℕ) → handed_elements (Ok (walk_answer e next)) ≡ e ∷ []
@@ -215,20 +219,20 @@ module _ {E : Type 0} where
       → MovesOn p left [] record { head = m.head; rooms = change (as_free_room p) r m.rooms; parties = set m.parties p (stage_after_walk next) } (e ∷ [])
   walked_by m own p r e next [] left at got l same = let no : ⊥ = cc in absurd no
   walked_by m own p r e next (x ∷ xs) left at got l same =
-      let start : x.0 ≡ r = let first = l.1 in cc in
-      let reads : Some (room_in_use x.1 l.0) ≡ Some (room_in_use e next) = sym l.2 ∙ (ap (slice_get m.rooms) start ∙ got) in
-      let room : room_in_use x.1 l.0 ≡ room_in_use e next = cc in
-      let link : l.0 ≡ next = ap (λ (y : Room E). y.next) room in
+      let start : x.0 ≡ r = let first = l.start_is in cc in
+      let reads : Some (room_in_use x.1 l.next) ≡ Some (room_in_use e next) = sym l.room ∙ (ap (slice_get m.rooms) start ∙ got) in
+      let room : room_in_use x.1 l.next ≡ room_in_use e next = cc in
+      let link : l.next ≡ next = ap (λ (y : Room E). y.next) room in
       let some_element : Some x.1 ≡ Some e = ap (λ (y : Room E). y.element) room in
       let element : x.1 ≡ e = cc in
       let rooms' = change (as_free_room p) r m.rooms in
       let on : LeadsToElements rooms' next (room_elements xs) = subst (λ top. LeadsToElements rooms' top (room_elements xs)) link
-      (subst (λ s. LeadsToElements (change (as_free_room p) s m.rooms) l.0 (room_elements xs)) start
-      (leads_from_linked (change (as_free_room p) x.0 m.rooms) own (Some p) l.0 xs (LeadsThrough-change (as_free_room p) m.rooms own (Some p) l.0 xs x.0 l.4 l.5))) in (
-        room_elements xs,
-        subst (λ (o : Option Stage). IsLeftAt rooms' o (room_elements xs)) (sym (slice_get-set_same m.parties p (stage_after_walk next) (Walking r) at)) (left_after rooms' next (room_elements xs) on),
-        append-nil left ∙ (same ∙ ap (λ (y : E). y ∷ room_elements xs) element),
-      )
+      (subst (λ s. LeadsToElements (change (as_free_room p) s m.rooms) l.next (room_elements xs)) start
+      (leads_from_linked (change (as_free_room p) x.0 m.rooms) own (Some p) l.next xs (LeadsThrough-change (as_free_room p) m.rooms own (Some p) l.next xs x.0 l.apart l.rest))) in record {
+        rest = room_elements xs;
+        is_left = subst (λ (o : Option Stage). IsLeftAt rooms' o (room_elements xs)) (sym (slice_get-set_same m.parties p (stage_after_walk next) (Walking r) at)) (left_after rooms' next (room_elements xs) on);
+        all = append-nil left ∙ (same ∙ ap (λ (y : E). y ∷ room_elements xs) element);
+      }
 
   own_walk : (h : List (Event ℕ E)) (m : Machine E) (p r : ℕ) (left : List E) → CoreMeets h m
       → slice_get m.parties p ≡ Some (Walking r) → LeadsToElements m.rooms (Some r) left
@@ -238,7 +242,7 @@ module _ {E : Type 0} where
       let there = walking_at h m p r was at in
       let w = was.parties p (Walking r) at in
       let same : left ≡ room_elements w.rest = leads_same m.rooms (Some r) left (room_elements w.rest) is (leads_from_linked m.rooms was.own (Some p) (Some r) w.rest w.links) in
-      rw (there.2, walk_events, given_handed) (walked_by m was.own p r there.0 there.1 w.rest left at there.2 w.links same)
+      rw (there.at, walk_events, given_handed) (walked_by m was.own p r there.element there.next w.rest left at there.at w.links same)
 
   own_at : (h : List (Event ℕ E)) (m : Machine E) (p : ℕ) (s : TransferStep E) (o : Option Stage) (left : List E)
       → CoreMeets h m → slice_get m.parties p ≡ o → IsLeftAt m.rooms o left → IsLeft m p left
@@ -261,14 +265,14 @@ module _ {E : Type 0} where
   moves_on h m p q s left was is (inr ne) =
       let none : batches p (step_events h m q s (after_step m q s).1) ≡ [] = events_other p q h (in_hand_at m.rooms (slice_get m.parties q)) s (after_step m q s).1 ne in
       subst (λ t. MovesOn p left (step_events h m q s (after_step m q s).1) (after_step m q s).0 (if t then handed_elements (after_step m q s).1 else [])) (sym (ne_eqb q p ne))
-      (left, left_kept h m p q s left was (λ e. ne (sym e)) is, ap (λ es. left ++ es) none ∙ append-nil left)
+      record { rest = left; is_left = left_kept h m p q s left was (λ e. ne (sym e)) is; all = ap (λ es. left ++ es) none ∙ append-nil left }
 
   -- a step of any party
   pub hands_on : (h : List (Event ℕ E)) (m : Machine E) (q : ℕ) (s : TransferStep E) → CoreMeets h m
       → HandsOn h m (h ++ step_events h m q s (after_step m q s).1) (after_step m q s).0 (only q (handed_elements (after_step m q s).1))
   hands_on h m q s was p given out =
-      hands_from h (step_events h m q s (after_step m q s).1) (after_step m q s).0 p given (only q (handed_elements (after_step m q s).1) p) out.0 out.2
-      (moves_on h m p q s out.0 was out.1 (cases_eq q p))
+      hands_from h (step_events h m q s (after_step m q s).1) (after_step m q s).0 p given (only q (handed_elements (after_step m q s).1) p) out.left out.all
+      (moves_on h m p q s out.left was out.is_left (cases_eq q p))
 
   -- steps of any parties
   pub run_hands : (h : List (Event ℕ E)) (m : Machine E) (ss : List (ℕ × TransferStep E)) → CoreMeets h m

@@ -21,12 +21,19 @@ module _ {E : Type 0} where
   batches p (Push q e ∷ h) = batches p h
   batches p (Taken q batch ∷ h) = only q batch p ++ batches p h
 
+  -- `start` leads to a room with this element. Rest holds of its link
+  pub record LeadsToElement (rooms : List (Room E)) (start : Option ℕ) (e : E) (Rest : Option ℕ → Type 0)
+      : Type 0 where
+    pub room : ℕ
+    pub next : Option ℕ
+    pub start_is : start ≡ Some room
+    pub reads : slice_get rooms room ≡ Some (room_in_use e next)
+    pub rest : Rest next
+
   -- from `start` the links lead through rooms with these elements to null
   abbrev pub LeadsToElements : List (Room E) → Option ℕ → List E → Type 0
   LeadsToElements rooms start [] = start ≡ None
-  LeadsToElements rooms start (e ∷ es) =
-      (r : ℕ) × (next : Option ℕ) × (start ≡ Some r) × (slice_get rooms r ≡ Some (room_in_use e next))
-      × LeadsToElements rooms next es
+  LeadsToElements rooms start (e ∷ es) = LeadsToElement rooms start e (λ next. LeadsToElements rooms next es)
 
   -- what a party at this stage has yet to hand out
   abbrev pub IsLeftAt : List (Room E) → Option Stage → List E → Type 0
@@ -49,8 +56,10 @@ module _ {E : Type 0} where
   handed_elements_of p ss more = []
 
   -- what p handed out, and then what it has yet to, are its batches
-  abbrev pub HandsOut : List (Event ℕ E) → Machine E → ℕ → List E → Type 0
-  HandsOut h m p given = (left : List E) × IsLeft m p left × (given ++ left ≡ batches p h)
+  pub record HandsOut (h : List (Event ℕ E)) (m : Machine E) (p : ℕ) (given : List E) : Type 0 where
+    pub left : List E
+    pub is_left : IsLeft m p left
+    pub all : given ++ left ≡ batches p h
 
   -- whatever each party handed out before, it has handed out that and more
   abbrev pub HandsOn : List (Event ℕ E) → Machine E → List (Event ℕ E) → Machine E → (ℕ → List E) → Type 0

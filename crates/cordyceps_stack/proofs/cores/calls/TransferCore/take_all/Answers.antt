@@ -24,22 +24,22 @@ loop-at-init g c =
 pub next-at-requires : goal.next-at-requires
 next-at-requires g c =
     let i = c.loop-at.self-inside in
-    (clear_within c.args.self.now c.args.party c.in-Some.room i.rooms i.parties.items c.loop-at.batch.items (rw c.in-Some.is at c.loop-at.invariant.clearing)).0
+    (clear_within c.args.self.now c.args.party c.in-Some.room i.rooms i.parties.items c.loop-at.batch.items (rw c.in-Some.is at c.loop-at.invariant.clearing)).within
 
 pub free-requires-clause-within : goal.free-requires-clause-within
 free-requires-clause-within g c =
     let i = c.loop-at.self-inside in
-    (clear_within c.args.self.now c.args.party c.in-Some.room i.rooms i.parties.items c.loop-at.batch.items (rw c.in-Some.is at c.loop-at.invariant.clearing)).0
+    (clear_within c.args.self.now c.args.party c.in-Some.room i.rooms i.parties.items c.loop-at.batch.items (rw c.in-Some.is at c.loop-at.invariant.clearing)).within
 
 pub free-requires-clause-full : goal.free-requires-clause-full
 free-requires-clause-full g c =
     let i = c.loop-at.self-inside in
-    (clear_within c.args.self.now c.args.party c.in-Some.room i.rooms i.parties.items c.loop-at.batch.items (rw c.in-Some.is at c.loop-at.invariant.clearing)).1
+    (clear_within c.args.self.now c.args.party c.in-Some.room i.rooms i.parties.items c.loop-at.batch.items (rw c.in-Some.is at c.loop-at.invariant.clearing)).full
 
 pub push_reserved-requires : goal.push_reserved-requires
 push_reserved-requires g c =
     let i = c.loop-at.self-inside in
-    let some : 0 < occupied i.rooms = (clear_within c.args.self.now c.args.party c.in-Some.room i.rooms i.parties.items c.loop-at.batch.items (rw c.in-Some.is at c.loop-at.invariant.clearing)).2 in
+    let some : 0 < occupied i.rooms = (clear_within c.args.self.now c.args.party c.in-Some.room i.rooms i.parties.items c.loop-at.batch.items (rw c.in-Some.is at c.loop-at.invariant.clearing)).some_used in
     let room : vec_len c.loop-at.batch + occupied i.rooms ≤ vec_capacity c.loop-at.batch = c.loop-at.invariant.room in
     omega (arith, some, room)
 
@@ -85,7 +85,7 @@ returns-clause-walks g c = λ h was.
     let new : Machine g.row.E.Denot = record { head = None; rooms = i.rooms; parties = i.parties.items } in
     let from = at_rest c.args.self.now p (sym c.is_at_rest.ensures ∙ c.if-not-is_at_rest.false) in
     let ran = clear_machine c.args.self.now p i.rooms i.parties.items c.loop-at.batch.items clearing in
-    take_hands h c.args.self.now new p (length c.loop-at.batch.items) c.loop-at.batch.items was from c.loop-at.invariant.clearing.at_rest ran
+    rw c.loop-at.invariant.empty (take_hands h c.args.self.now new p (length c.loop-at.batch.items) c.loop-at.batch.items was from c.loop-at.invariant.clearing.at_rest ran)
 
 pub returns-clause-batch : goal.returns-clause-batch
 returns-clause-batch g c =
