@@ -10,6 +10,7 @@ pub mod PoolJoins
 pub mod PoolKeeps
 pub mod Sending
 pub mod SlotMoves
+pub mod StepTells
 pub mod StepsKeep
 pub mod TriesHold
 pub mod WordsKeep

@@ -220,7 +220,7 @@ module _ {E : Type 0} where
   pub tries_all : {A : Type 0} (el : E → A) (els : List A) (z z' : TableId) (r : Result Bool (List A)) (m k : SeatState E)
       → MatchResult r (λ first. (pushed : List E) × (els ≡ map el pushed) × HasPushedAll 1 pushed first m k) (λ back. (back ≡ els) × HasBacked m k) → z' ≡ z
       → MatchResult r (λ first. (pushed : List E) × (els ≡ map el pushed) × PushesAllAt 1 pushed first (standing z m.0) (standing z' k.0)) (λ back. (back ≡ els) × Misses (standing z m.0) (standing z' k.0))
-  tries_all el els z z' (Ok first) m k t at = (t.0, t.1, pushes_all_at z z' 1 t.0 first m k t.2 at)
+  tries_all el els z z' (Ok first) m k t at = let (pushed, all, has) = t in (pushed, all, pushes_all_at z z' 1 pushed first m k has at)
   tries_all el els z z' (Err back) m k t at = let h = t.1 in (t.0, (adds z z' m.0 k.0 (Load (name m.0) ∷ []) h.sees at, h.overtaken, h.free))
 
   pub whole_pushes_all : {A : Type 0} (el : E → A) (els : List A) (r : Result Bool (List A)) (m k : SeatState E)

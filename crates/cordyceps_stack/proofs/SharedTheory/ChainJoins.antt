@@ -33,11 +33,11 @@ pub record FirstOf (room n : ℕ) (chain : FreeChain) : Type 0 where
 
 pub first_of : (free : FreeRooms) (chain : FreeChain) (n : ℕ) → Tracks free chain → suc n ≤ free.count → FirstOf (free.first - 1) (suc n) chain
 first_of free chain n t some_of =
-    let f = first_room free chain t (omega arith) in
-    let is : (first_rooms (suc n) chain).rooms ≡ (free.first - 1) ∷ take n f.0 = ap (λ l. take (suc n) l) f.1 in
-    let long = ap (λ (l : List ℕ). length l) f.1 in
+    let (others, rooms, low) = first_room free chain t (omega arith) in
+    let is : (first_rooms (suc n) chain).rooms ≡ (free.first - 1) ∷ take n others = ap (λ l. take (suc n) l) rooms in
+    let long = ap (λ (l : List ℕ). length l) rooms in
     let c = t.count in
-    record { others = take n f.0; is = is; long = ap suc (length-take-le n f.0 (omega arith)) }
+    record { others = take n others; is = is; long = ap suc (length-take-le n others (omega arith)) }
 
 module _ {E : Type 0} where
   pub first_vacant : (room n : ℕ) (m k : SeatState E) → HoldsFirst n m k → (f : FirstOf room n m.0.free)
@@ -63,14 +63,23 @@ module _ {E : Type 0} where
     next_is = at;
   }
 
+  -- the first of n slots is filled, with x
+  pub record FillsFirst (n room next : ℕ) (x : E) (all : List ℕ) (end : ℕ) (p : SeatState E) : Type 0 where
+    pub fills : Fills room next all end p
+    pub long : suc (length fills.left) ≡ n
+    pub elements : elements_then fills.done fills.x ≡ x ∷ []
+
   pub fills_start : (n room next : ℕ) (x : E) (m k p : SeatState E) → HoldsFirst n m k → (f : FirstOf room n m.0.free) → next ≡ leads f.others (first_rooms n m.0.free).end
       → p ≡ (k.0, (room, filled x (leads f.others (first_rooms n m.0.free).end)) ∷ all_vacant f.others (first_rooms n m.0.free).end)
-      → (s : Fills room next (held_rooms p.0.doing) (leads p.0.free.rooms p.0.free.end) p) × (suc (length s.left) ≡ n) × (elements_then s.done s.x ≡ x ∷ [])
+      → FillsFirst n room next x (held_rooms p.0.doing) (leads p.0.free.rooms p.0.free.end) p
   unfolding fills_first
   fills_start n room next x m k p h f at is =
       let first = first_rooms n m.0.free in
-      subst (λ (v : View E). (s : Fills room next (held_rooms v.doing) (leads v.free.rooms v.free.end) p) × (suc (length s.left) ≡ n) × (elements_then s.done s.x ≡ x ∷ [])) (sym (ap (λ (q : SeatState E). q.0) is ∙ h.view_is))
-      (fills_first room next x first.rooms f.others first.end p f.is at (ap (λ (q : SeatState E). q.1) is), f.long, refl)
+      subst (λ (v : View E). FillsFirst n room next x (held_rooms v.doing) (leads v.free.rooms v.free.end) p) (sym (ap (λ (q : SeatState E). q.0) is ∙ h.view_is)) record {
+        fills = fills_first room next x first.rooms f.others first.end p f.is at (ap (λ (q : SeatState E). q.1) is);
+        long = f.long;
+        elements = refl;
+      }
 
   -- the next slot comes to the front
   pub fills_turn : (last next : ℕ) (all : List ℕ) (end : ℕ) (w : SeatState E) (f : Fills last next all end w) (n : NextFree next f.left end)
@@ -82,13 +91,19 @@ module _ {E : Type 0} where
       ∙ (ap (λ l. all_vacant f.left end ++ l) (sym (in_use_last f.done last (suc n.here) f.x))
       ∙ ap (λ l. all_vacant l end ++ in_use_to (f.done ++ (last, f.x) ∷ []) (suc n.here)) n.is)))
 
+  -- the next slot is filled, with y
+  pub record FillsNext (room to : ℕ) (all : List ℕ) (end : ℕ) (k : SeatState E) (elements : List E) (y : E) (others : List ℕ) : Type 0 where
+    pub fills : Fills room to all end k
+    pub elements_are : elements_then fills.done fills.x ≡ elements ++ y ∷ []
+    pub left_are : fills.left ≡ others
+
   pub fills_next : (last next : ℕ) (all : List ℕ) (end : ℕ) (w k : SeatState E) (f : Fills last next all end w) (n : NextFree next f.left end) (y : E) (room to : ℕ) → room ≡ n.here → to ≡ leads n.others end
       → k.1 ≡ (n.here, filled y (leads n.others end)) ∷ (all_vacant n.others end ++ in_use_to (f.done ++ (last, f.x) ∷ []) (suc n.here))
-      → (g : Fills room to all end k) × (elements_then g.done g.x ≡ elements_then f.done f.x ++ y ∷ []) × (g.left ≡ n.others)
+      → FillsNext room to all end k (elements_then f.done f.x) y n.others
   fills_next last next all end w k f n y room to here to_is hand =
       let done = f.done ++ (last, f.x) ∷ [] in
-      let rooms : rooms_of done ≡ rooms_then f.done last = map-append (λ (z : ℕ × E). z.0) f.done ((last, f.x) ∷ []) in (
-        record {
+      let rooms : rooms_of done ≡ rooms_then f.done last = map-append (λ (z : ℕ × E). z.0) f.done ((last, f.x) ∷ []) in record {
+        fills = record {
           done = done;
           x = y;
           left = n.others;
@@ -96,18 +111,23 @@ module _ {E : Type 0} where
               ∙ (ap (λ l. l ++ n.here ∷ n.others) rooms ∙ (append_assoc (rooms_of f.done) (last ∷ []) (n.here ∷ n.others) ∙ (ap (λ l. rooms_of f.done ++ last ∷ l) (sym n.is) ∙ f.split)));
           hand = hand ∙ (λ i. (sym here i, filled y (sym to_is i)) ∷ (all_vacant n.others end ++ in_use_to done (suc (sym here i))));
           next_is = to_is;
-        },
-        ap (λ l. l ++ y ∷ []) (elements_onto f.done ((last, f.x) ∷ [])),
-        refl,
-      )
+        };
+        elements_are = ap (λ l. l ++ y ∷ []) (elements_onto f.done ((last, f.x) ∷ []));
+        left_are = refl;
+      }
 
   -- all are filled
-  pub fills_all : (last next : ℕ) (all : List ℕ) (end : ℕ) (w : SeatState E) (f : Fills last next all end w) → f.left ≡ [] → (all ≡ rooms_then f.done last) × (w.1 ≡ chain_then f.done last f.x next) × (next ≡ end)
-  fills_all last next all end w f none = (
-    sym f.split ∙ ap (λ l. rooms_of f.done ++ last ∷ l) none,
-    f.hand ∙ ap (λ l. (last, filled f.x next) ∷ (all_vacant l end ++ in_use_to f.done (suc last))) none,
-    f.next_is ∙ ap (λ l. leads l end) none,
-  )
+  pub record FillsAll (last next : ℕ) (all : List ℕ) (end : ℕ) (w : SeatState E) (done : List (ℕ × E)) (x : E) : Type 0 where
+    pub rooms : all ≡ rooms_then done last
+    pub hand : w.1 ≡ chain_then done last x next
+    pub next_is : next ≡ end
+
+  pub fills_all : (last next : ℕ) (all : List ℕ) (end : ℕ) (w : SeatState E) (f : Fills last next all end w) → f.left ≡ [] → FillsAll last next all end w f.done f.x
+  fills_all last next all end w f none = record {
+    rooms = sym f.split ∙ ap (λ l. rooms_of f.done ++ last ∷ l) none;
+    hand = f.hand ∙ ap (λ l. (last, filled f.x next) ∷ (all_vacant l end ++ in_use_to f.done (suc last))) none;
+    next_is = f.next_is ∙ ap (λ l. leads l end) none;
+  }
 
   first_led : (done : List (ℕ × E)) (last room : ℕ) (others : List ℕ) → rooms_then done last ≡ room ∷ others → suc room ≡ leads (rooms_of done) (suc last)
   first_led [] last room others e = ap (λ l. leads l 0) (sym e)
@@ -120,14 +140,14 @@ module _ {E : Type 0} where
   has_filled slots first n last next m p w rests held same f none of some_of low long =
       let all = fills_all last next (held_rooms p.0.doing) (leads p.0.free.rooms p.0.free.end) w f none in
       let view = same ∙ held in
-      let rooms : (first_rooms n m.0.free).rooms ≡ rooms_then f.done last = sym (ap (λ v. held_rooms v.doing) held) ∙ all.0 in
+      let rooms : (first_rooms n m.0.free).rooms ≡ rooms_then f.done last = sym (ap (λ v. held_rooms v.doing) held) ∙ all.rooms in
       let free = ap (λ v. v.free.rooms) view in
       let left = ap (λ (l : List ℕ). length l) free ∙ length-drop n m.0.free.rooms in
       record {
         ready = record {
           rooms = ap (λ v. held_rooms v.doing) view ∙ rooms;
           link = next;
-          hand = all.1;
+          hand = all.hand;
           first_is = (let up : first ≡ suc (first - 1) = omega arith in up) ∙ first_led f.done last (first - 1) of.others (sym rooms ∙ of.is);
           named = λ e. rests.named (sym (ap (λ v. v.known.share) view) ∙ e);
           near = subst (Near slots) (sym free) (near_drop slots n m.0.free.rooms rests.near);
@@ -142,7 +162,7 @@ module _ {E : Type 0} where
       → (f : Fills last next (held_rooms p.0.doing) (leads p.0.free.rooms p.0.free.end) w) → f.left ≡ [] → Tracks free m.0.free → Tracks record { first = next; last = free.last; count = free.count - n } w.0.free
   tracks_filled n last next free m p w held same f none t =
       let left : FreeRooms = record { first = next; last = free.last; count = free.count - n } in
-      let to = (fills_all last next (held_rooms p.0.doing) (leads p.0.free.rooms p.0.free.end) w f none).2 ∙ ap (λ v. leads v.free.rooms v.free.end) held in
+      let to = (fills_all last next (held_rooms p.0.doing) (leads p.0.free.rooms p.0.free.end) w f none).next_is ∙ ap (λ v. leads v.free.rooms v.free.end) held in
       subst (λ c. Tracks left c) (sym (ap (λ v. v.free) (same ∙ held))) (tracks_keeping free m.0.free n next t (λ r rs e. to ∙ ap (λ l. leads l m.0.free.end) e))
 
   -- ---- tries

@@ -32,6 +32,13 @@ use Rattle.cordyceps_stack.proofs.SharedTheory.SlotMoves.{rooms_to, rooms_vacant
 use Rattle.cordyceps_stack.proofs.SharedTheory.StepsKeep.{slot_or, view_after, Passes, head_marked, told, step_keeps, untouched, unwritten, once, chain_stays, pool_stays, others_stay, overtaken}
 use Rattle.cordyceps_stack.proofs.SharedTheory.WordsKeep.{since_now, rests, loads, pushes_all}
 
+-- the rooms and elements of an exchange, of which the last stand alone, and its word
+record ExchangedAll (E : Type 0) : Type 0 where
+  before : List (ℕ × E)
+  room : ℕ
+  element : E
+  read : ℕ
+
 module _ {E : Type 0} where
   under_pushes : (n : Name) (es : List E) → Under (actor {E = E}) n (map (Push n) es)
   under_pushes n [] = tt
@@ -54,8 +61,8 @@ module _ {E : Type 0} where
         w,
         keeps,
         tt,
-        unwritten s HEAD s.homes (set s.views id w) (step_keeps s k id v w s.words s.homes k.chain h (untouched s k id v w at refl (λ e. absurd (named e))) meets refl k.full (k.free id v at) (λ _ _ _ _ _ _. refl) t.1 t.0),
-        (refl, refl, refl, t.2),
+        unwritten s HEAD s.homes (set s.views id w) (step_keeps s k id v w s.words s.homes k.chain h (untouched s k id v w at refl (λ e. absurd (named e))) meets refl k.full (k.free id v at) (λ _ _ _ _ _ _. refl) t.fits t.owned),
+        record { doing = refl; free = refl; hand = refl; sees = t.grown },
       )
 
   -- ---- an exchange of head
@@ -106,7 +113,7 @@ module _ {E : Type 0} where
       } meets (length-set s.words HEAD first) full
       (home_frame s.homes homes (all_vacant v.free.rooms v.free.end)
       (λ q m. same q (let here = subst (λ l. 1 ≤ times q l) (rooms_vacant E v.free.rooms v.free.end) m in let o = once s k id v q at in let c = was q in omega arith)) (k.free id v at))
-      (others_stay s k id v homes at mine) t.1 t.0 in record {
+      (others_stay s k id v homes at mine) t.fits t.owned in record {
         view = w;
         act = give_all me.1;
         valid = given_valid me.1 s.homes;
@@ -115,7 +122,7 @@ module _ {E : Type 0} where
           doing = refl;
           free = refl;
           hand = given_carried me.1;
-          sees = t.2;
+          sees = t.grown;
           ends = record {
             before = with_marks id k.history;
             is = marked_append id k.history (of_seat id es) ∙ ap (λ z. with_marks id k.history ++ z) (marks_of id es);
@@ -143,13 +150,13 @@ module _ {E : Type 0} where
         act = keeps;
         valid = tt;
         holds = unwritten s HEAD s.homes (set s.views id w) (step_keeps s k id v w s.words s.homes k.chain k.history
-            (untouched s k id v w at (let a = ap (λ d. length v.free.rooms + length (held_rooms d)) poised.doing in let b = ap (λ (l : List ℕ). length l) same in omega arith) (λ e. absurd (poised.named e))) meets refl k.full (k.free id v at) (λ _ _ _ _ _ _. refl) t.1 t.0);
+            (untouched s k id v w at (let a = ap (λ d. length v.free.rooms + length (held_rooms d)) poised.doing in let b = ap (λ (l : List ℕ). length l) same in omega arith) (λ e. absurd (poised.named e))) meets refl k.full (k.free id v at) (λ _ _ _ _ _ _. refl) t.fits t.owned);
         after = record {
           doing = refl;
           few = omega arith;
           free = refl;
           hand = refl;
-          sees = t.2;
+          sees = t.grown;
           overtaken = overtaken s k id read known miss;
         };
       }
@@ -164,18 +171,18 @@ module _ {E : Type 0} where
   used_to d [] end = refl
   used_to d (x ∷ xs) end = ap (λ l. x ∷ l) (used_to d xs end)
 
-  -- what the exchange tells of a party that was poised with these rooms and elements, and this word
-  TellsAll : (slots : ℕ) (me k : SeatState E) (found : ℕ) → List (ℕ × E) × ℕ × E × ℕ → Type 0
-  TellsAll slots me k found z = (found ≡ z.3 → HasHitAll (elements_then z.0 z.2) found me k) × (found ≢ z.3 → HasFailedAll slots (all_then z.0 z.1 z.2) me k)
+  -- what the exchange tells of a party that was poised with these
+  TellsAll : (slots : ℕ) (me k : SeatState E) (found : ℕ) → ExchangedAll E → Type 0
+  TellsAll slots me k found z = (found ≡ z.read → HasHitAll (elements_then z.before z.element) found me k) × (found ≢ z.read → HasFailedAll slots (all_then z.before z.room z.element) me k)
 
-  says_all : (st : TableStep E) (slots : ℕ) (me k : SeatState E) (before : List (ℕ × E)) (r : ℕ) (x : E) (read found : ℕ) → PoisedAll slots me before r x read → TellsAll st.slots me k found (before, r, x, read) → play.after_exchange_all st me found k
+  says_all : (st : TableStep E) (slots : ℕ) (me k : SeatState E) (before : List (ℕ × E)) (r : ℕ) (x : E) (read found : ℕ) → PoisedAll slots me before r x read → TellsAll st.slots me k found record { before = before; room = r; element = x; read = read } → play.after_exchange_all st me found k
   unfolding TellsAll
   says_all st slots me k before r x read found poised t before' r' x' read' doing hand =
       let q = sym poised.hand ∙ hand in
       let rooms : before ≡ before' = sym (used_to x before (suc r)) ∙ (ap (λ l. used x (rest_from l)) q ∙ used_to x before' (suc r')) in
       let slot = ap (λ l. slot_or (filled x read) l) q in
       let room = ap (λ (l : Hand E). first_or 0 (rooms_of l)) q in
-      subst (TellsAll st.slots me k found) (λ i. (rooms i, room i, some_or x (slot i).item, (slot i).link)) t
+      subst (TellsAll st.slots me k found) (λ i. record { before = rooms i; room = room i; element = some_or x (slot i).item; read = (slot i).link }) t
 
   pub exchanges_all : (slots id new : ℕ) (me : SeatState E) (before : List (ℕ × E)) (r : ℕ) (x : E) (read : ℕ) → new ≡ leads (rooms_of before) (suc r) → PoisedAll slots me before r x read
       → Allows RuleHolds slots id me HEAD (λ n. either (eqb n read) new n) (play.after_exchange_all (step slots HEAD read new none) me)

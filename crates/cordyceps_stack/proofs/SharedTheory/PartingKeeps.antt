@@ -150,5 +150,10 @@ module _ {E : Type 0} where
         unwritten s HEAD s.homes (set s.views id w)
             (step_keeps s k id v w s.words s.homes k.chain k.history (untouched s k id v w at refl (λ e. k.spent id v at e)) meets refl k.full (k.free id v at) (λ _ _ _ _ _ _. refl)
             (fits_forgot actor knows s.views k.history id v w at refl refl refl k.fits) (owned_same knows s.views k.history id v w at refl k.owned)),
-        (refl, refl, seats.is_known actor knows (λ z. Legal z) legal_front s.views k.history id v k.owned k.fits at k.meets.legal, omega arith),
+        record {
+          view_is = refl;
+          hand = refl;
+          known = seats.is_known actor knows (λ z. Legal z) legal_front s.views k.history id v k.owned k.fits at k.meets.legal;
+          few = omega arith;
+        },
       )

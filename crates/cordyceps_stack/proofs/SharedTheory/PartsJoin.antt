@@ -227,9 +227,8 @@ first_or_none free chain t = by chain.rooms refl
 
 pub leads_first : (free : FreeRooms) (chain : FreeChain) (n : ℕ) → Tracks free chain → 0 < free.count → free.first ≡ leads (first_rooms n chain).rooms (first_rooms n chain).end
 leads_first free chain n t some_of =
-    let f = first_room free chain t some_of in
-    let low = f.2 in
-    let first : free.first ≡ leads chain.rooms chain.end = (let suc_of : free.first ≡ suc (free.first - 1) = omega arith in suc_of) ∙ ap (λ l. leads l chain.end) (sym f.1) in
+    let (others, rooms, low) = first_room free chain t some_of in
+    let first : free.first ≡ leads chain.rooms chain.end = (let suc_of : free.first ≡ suc (free.first - 1) = omega arith in suc_of) ∙ ap (λ l. leads l chain.end) (sym rooms) in
     first ∙ (ap (λ l. leads l chain.end) (sym (take-append-drop n chain.rooms)) ∙ leads_append (take n chain.rooms) (drop n chain.rooms) chain.end)
 
 -- the free room that is next
@@ -324,17 +323,22 @@ module _ {E : Type 0} where
       }
 
   -- all are done
+  pub record FollowedAll (at last : ℕ) (rooms : List ℕ) (end : ℕ) (w : SeatState E) : Type 0 where
+    pub hand : w.1 ≡ all_vacant rooms end
+    pub at_is : at ≡ end
+    pub last_is : (before : List ℕ) (r : ℕ) → rooms ≡ before ++ r ∷ [] → last ≡ r
+
   pub follows_all : (at last count : ℕ) (rooms : List ℕ) (end : ℕ) (w : SeatState E) → Follows at last count rooms end w → length rooms ≤ count
-      → (w.1 ≡ all_vacant rooms end) × (at ≡ end) × ((before : List ℕ) (r : ℕ) → rooms ≡ before ++ r ∷ [] → last ≡ r)
+      → FollowedAll at last rooms end w
   follows_all at last count rooms end w f all =
       let long = ap (λ (l : List ℕ). length l) (sym f.split) ∙ length-append f.done f.left in
       let c = f.count_is in
       let none = none_there f.left (omega arith) in
-      let whole : f.done ≡ rooms = sym (append-nil f.done) ∙ (ap (λ l. f.done ++ l) (sym none) ∙ f.split) in (
-        f.hand ∙ (λ i. all_vacant (none i) end ++ all_vacant (whole i) (leads (none i) end)),
-        f.at_is ∙ ap (λ l. leads l end) none,
-        λ before r e. f.last_is before r (whole ∙ e),
-      )
+      let whole : f.done ≡ rooms = sym (append-nil f.done) ∙ (ap (λ l. f.done ++ l) (sym none) ∙ f.split) in record {
+        hand = f.hand ∙ (λ i. all_vacant (none i) end ++ all_vacant (whole i) (leads (none i) end));
+        at_is = f.at_is ∙ ap (λ l. leads l end) none;
+        last_is = λ before r e. f.last_is before r (whole ∙ e);
+      }
 
   -- the slots were only looked at, and all is as before
   pub passes_first : (n at : ℕ) (m k : SeatState E) → HoldsFirst n m k → at ≡ leads (first_rooms n m.0.free).rooms (first_rooms n m.0.free).end → Follows at 0 0 (held_rooms k.0.doing) (leads k.0.free.rooms k.0.free.end) k

@@ -129,8 +129,8 @@ module _ {E : Type 0} where
         deep = refl;
         even = ap (λ n. length k.pool.rooms + n) same;
         spent = λ e. absurd (named e);
-        fits = t.1;
-        owned = t.0;
+        fits = t.fits;
+        owned = t.owned;
       } in record {
         view = w;
         act = keeps;
@@ -139,7 +139,7 @@ module _ {E : Type 0} where
         after = record {
           none = λ _. record { doing = refl; free = refl; hand = refl };
           some_of = λ some_of. absurd (some_of null);
-          sees = t.2;
+          sees = t.grown;
           all = λ is. let all = all_with s k id v w s.homes 0 k.pool m is none_there in let long = length_held s k id in omega arith;
         };
       }
@@ -150,20 +150,18 @@ module _ {E : Type 0} where
       let v = me.0 in
       let count = p.tracks.count in
       let some_of = p.some_of in
-      let d = with_its_last k.pool.rooms (omega arith) in
-      let before = d.0 in
-      let last = d.1 in
+      let (before, last, all_is) = with_its_last k.pool.rooms (omega arith) in
       let end = k.pool.end in
       let rooms = before ++ last ∷ [] in
       let w = view_after v id k.history v.free (Holding rooms) in
       let taken : Hand E = (last, vacant end) ∷ all_vacant before (suc last) in
-      let home : AtHome s.homes (all_vacant before (suc last) ++ (last, vacant end) ∷ []) = subst (AtHome s.homes) (ap (λ l. all_vacant l end) d.2 ∙ vacant_append E before (last ∷ []) end) k.pooled in
+      let home : AtHome s.homes (all_vacant before (suc last) ++ (last, vacant end) ∷ []) = subst (AtHome s.homes) (ap (λ l. all_vacant l end) all_is ∙ vacant_append E before (last ∷ []) end) k.pooled in
       let there : AtHome s.homes taken = ((home_back s.homes (all_vacant before (suc last)) ((last, vacant end) ∷ []) home).0, home_front s.homes (all_vacant before (suc last)) ((last, vacant end) ∷ []) home) in
       let own : (q : ℕ) → times q (rooms_of taken) ≡ times q k.pool.rooms = λ q.
       let a = ap (times q) (rooms_vacant E before (suc last)) in
-      let b = ap (times q) d.2 in
+      let b = ap (times q) all_is in
       let c = tally_append (λ z. one_if (eqb z q)) before (last ∷ []) in omega arith in
-      let has : (q : ℕ) → times q rooms ≡ times q k.pool.rooms = λ q. ap (times q) (sym d.2) in
+      let has : (q : ℕ) → times q rooms ≡ times q k.pool.rooms = λ q. ap (times q) (sym all_is) in
       let homes = homes_after s.homes me.1 (take_all taken) in
       let same : (q : ℕ) → times q k.pool.rooms ≡ 0 → get_elem? homes q ≡ get_elem? s.homes q = λ q none_of. untaken taken s.homes me.1 q (own q ∙ none_of) in
       let apart : (u : View E) (i q : ℕ) → get_elem? s.views i ≡ some u → 1 ≤ times q u.free.rooms → times q k.pool.rooms ≡ 0 = λ u i q e m. let few = k.meets.apart q in let one = tally_one (count_with_party {E = E} q) s.views i u e in omega arith in
@@ -178,10 +176,10 @@ module _ {E : Type 0} where
         pooled = tt;
         word_is = inl (refl, refl);
         deep = taken_long taken s.homes me.1;
-        even = let a = ap (λ (l : List ℕ). length l) d.2 in let c = ap (λ d. length v.free.rooms + length (held_rooms d)) idle in omega arith;
+        even = let a = ap (λ (l : List ℕ). length l) all_is in let c = ap (λ d. length v.free.rooms + length (held_rooms d)) idle in omega arith;
         spent = λ e. absurd (named e);
-        fits = t.1;
-        owned = t.0;
+        fits = t.fits;
+        owned = t.owned;
       } in record {
         view = w;
         act = take_all taken;
@@ -193,13 +191,13 @@ module _ {E : Type 0} where
             before = before;
             last = last;
             end = end;
-            packs = subst (λ l. Packs (word.pool s.words) record { rooms = l; end = end }) d.2 p;
+            packs = subst (λ l. Packs (word.pool s.words) record { rooms = l; end = end }) all_is p;
             doing = refl;
             free = refl;
             hand = taken_carried taken me.1;
             near = λ i r a. let some_times = times_some r rooms i a in let h = has r in let o = own r in let low = home_near s.homes taken there r (omega arith) in omega arith;
           };
-          sees = t.2;
+          sees = t.grown;
           all = λ is. let all = all_with s k id v w homes 0 record { rooms = []; end = 0 } m is refl in let long = length_held s k id in omega arith;
         };
       }

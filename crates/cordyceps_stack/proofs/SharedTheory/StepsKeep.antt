@@ -70,6 +70,12 @@ pub near_one : (slots r : ℕ) → r < slots → Near slots (r ∷ [])
 near_one slots r inside zero q e = subst (λ n. n < slots) (sym e) inside
 near_one slots r inside (suc i) q a = absurd a
 
+-- the room, word and element of an exchange
+record Exchanged (E : Type 0) : Type 0 where
+  room : ℕ
+  read : ℕ
+  element : E
+
 module _ {E : Type 0} where
   start_empty : (xs : List (ℕ × E)) → (start xs ≡ 0) ↔ (room_elements xs ≡ [])
   start_empty [] = (λ _. refl, λ _. refl)
@@ -86,12 +92,21 @@ module _ {E : Type 0} where
       (head_says k.chain (held (events k.history)) (head s.words) k.meets.top k.meets.holds)
 
   -- ---- what a step keeps
-  -- the party j sees all, and adds these events
+  -- a party sees all, and adds these events
+  pub record Told (views : List (View E)) (h : History E) (es : List (Event Name E)) (v w : View E) : Type 0 where
+    pub owned : SharesDisjoint knows views h
+    pub fits : AllAgree actor knows views h
+    pub grown : Sees v es w
+
   pub told : (s : TableState E) (k : RuleHolds s) (j : ℕ) (es : List (Event Name E)) (v w : View E) (h : History E) → get_elem? s.views j ≡ some v → v.known.share ≢ [] → Under actor (name v) es → h ≡ k.history ++ of_seat j es
-      → w.known ≡ all_seen j h v.known.share → Legal (events h) → SharesDisjoint knows (set s.views j w) h × AllAgree actor knows (set s.views j w) h × Sees v es w
+      → w.known ≡ all_seen j h v.known.share → Legal (events h) → Told (set s.views j w) h es v w
   told s k j es v w h at named under is sees legal =
       let t = tells actor knows (λ z. Legal z) s.views k.history j es v w k.owned k.fits at named under (sees ∙ ap (λ z. all_seen j z v.known.share) is) (subst (λ z. Legal (events z)) is legal) in
-      (subst (SharesDisjoint knows (set s.views j w)) (sym is) t.owned, subst (AllAgree actor knows (set s.views j w)) (sym is) t.fits, t.grown)
+      record {
+        owned = subst (SharesDisjoint knows (set s.views j w)) (sym is) t.owned;
+        fits = subst (AllAgree actor knows (set s.views j w)) (sym is) t.fits;
+        grown = t.grown;
+      }
 
   -- what a step of the party j leaves beside the parties' own: the pool, and the number of rooms
   pub record LeavesPool (s : TableState E) (k : RuleHolds s) (j : ℕ) (v w : View E) (words : List ℕ) (homes : Homes E) (chain : List (ℕ × E)) : Type 0 where
@@ -196,18 +211,18 @@ module _ {E : Type 0} where
         w,
         keeps,
         tt,
-        unwritten s HEAD s.homes (set s.views id w) (step_keeps s k id v w s.words s.homes k.chain h (untouched s k id v w at (ap (λ d. length v.free.rooms + length (held_rooms d)) (sym idle)) (λ e. absurd (named e))) meets refl k.full (k.free id v at) (λ _ _ _ _ _ _. refl) t.1 t.0),
-        (
-          sym idle,
-          refl,
-          refl,
-          t.2,
-          record {
+        unwritten s HEAD s.homes (set s.views id w) (step_keeps s k id v w s.words s.homes k.chain h (untouched s k id v w at (ap (λ d. length v.free.rooms + length (held_rooms d)) (sym idle)) (λ e. absurd (named e))) meets refl k.full (k.free id v at) (λ _ _ _ _ _ _. refl) t.fits t.owned),
+        record {
+          doing = sym idle;
+          free = refl;
+          hand = refl;
+          sees = t.grown;
+          ends = record {
             before = with_marks id k.history;
             is = marked_append id k.history ((id, x) ∷ []) ∙ ap (λ b. with_marks id k.history ++ (b, x) ∷ []) (eq-eqb id id refl);
             none = head_marked s k id;
-          },
-        ),
+          };
+        },
       )
 
   pub begins : (slots id : ℕ) (me : SeatState E) (r : ℕ) (rs : List ℕ) → me.0.doing ≡ Idle → me.0.free.rooms ≡ r ∷ rs → me.0.known.share ≢ [] → Allows RuleHolds slots id me HEAD (λ n. n) (play.after_begin (step slots HEAD 0 0 none) me)
@@ -241,7 +256,7 @@ module _ {E : Type 0} where
             } meets refl
             (chain_stays s k id v homes at (λ q none_of. same q (mine q none_of)))
             (home_frame s.homes homes (all_vacant rs v.free.end) (λ q m. same q (λ e. let here_too = subst (λ l. 1 ≤ times q l) (rooms_vacant E rs v.free.end) m in let z : times q rs ≡ times r rs = ap (λ p. times p rs) e in omega arith)) home.1)
-            (others_stay s k id v homes at (λ q none_of. same q (mine q none_of))) t.1 t.0),
+            (others_stay s k id v homes at (λ q none_of. same q (mine q none_of))) t.fits t.owned),
         λ r' rs' free'.
             let both = sym free ∙ free' in
             let first = ap (first_or 0) both in
@@ -251,7 +266,7 @@ module _ {E : Type 0} where
               free = refl;
               hand = refl;
               inside = let low = at_length s.homes r (some slot) home.0 in omega arith;
-              sees = t.2;
+              sees = t.grown;
             },
       )
 
@@ -267,8 +282,13 @@ module _ {E : Type 0} where
         w,
         keeps,
         tt,
-        unwritten s HEAD s.homes (set s.views id w) (step_keeps s k id v w s.words s.homes k.chain h (untouched s k id v w at (ap (λ d. length v.free.rooms + length (held_rooms d)) (sym ready)) (λ e. absurd (named e))) meets refl k.full (k.free id v at) (λ _ _ _ _ _ _. refl) t.1 t.0),
-        λ r' ready'. (ap (λ p. let d : Doing E = Loaded (room_of p) read in d) (sym ready ∙ ready'), refl, refl, t.2),
+        unwritten s HEAD s.homes (set s.views id w) (step_keeps s k id v w s.words s.homes k.chain h (untouched s k id v w at (ap (λ d. length v.free.rooms + length (held_rooms d)) (sym ready)) (λ e. absurd (named e))) meets refl k.full (k.free id v at) (λ _ _ _ _ _ _. refl) t.fits t.owned),
+        λ r' ready'. record {
+          doing = ap (λ p. let d : Doing E = Loaded (room_of p) read in d) (sym ready ∙ ready');
+          free = refl;
+          hand = refl;
+          sees = t.grown;
+        },
       )
 
   -- ---- an exchange of head
@@ -329,7 +349,7 @@ module _ {E : Type 0} where
       } meets (length-set s.words HEAD (suc r))
       (set_here s.homes r (some slot) (omega arith) ∙ ap (λ z. some (some z)) below, chain_stays s k id v homes at (λ q none_of. same q (mine q none_of)))
       (home_frame s.homes homes (all_vacant v.free.rooms v.free.end) (λ q m. same q (λ e. let here_too = subst (λ l. 1 ≤ times q l) (rooms_vacant E v.free.rooms v.free.end) m in let z : times q v.free.rooms ≡ times r v.free.rooms = ap (λ p. times p v.free.rooms) e in omega arith)) (k.free id v at))
-      (others_stay s k id v homes at (λ q none_of. same q (mine q none_of))) t.1 t.0 in record {
+      (others_stay s k id v homes at (λ q none_of. same q (mine q none_of))) t.fits t.owned in record {
         view = w;
         act = gives;
         valid = tt;
@@ -338,7 +358,7 @@ module _ {E : Type 0} where
           doing = refl;
           free = refl;
           hand = ap rest poised.hand;
-          sees = t.2;
+          sees = t.grown;
           ends = record {
             before = with_marks id k.history;
             is = marked_append id k.history ((id, e) ∷ []) ∙ ap (λ b. with_marks id k.history ++ (b, e) ∷ []) (eq-eqb id id refl);
@@ -358,26 +378,26 @@ module _ {E : Type 0} where
         view = w;
         act = keeps;
         valid = tt;
-        holds = unwritten s HEAD s.homes (set s.views id w) (step_keeps s k id v w s.words s.homes k.chain k.history (untouched s k id v w at (ap (λ d. length v.free.rooms + length (held_rooms d)) (sym poised.doing)) (λ e. absurd (poised.named e))) meets refl k.full (k.free id v at) (λ _ _ _ _ _ _. refl) t.1 t.0);
+        holds = unwritten s HEAD s.homes (set s.views id w) (step_keeps s k id v w s.words s.homes k.chain k.history (untouched s k id v w at (ap (λ d. length v.free.rooms + length (held_rooms d)) (sym poised.doing)) (λ e. absurd (poised.named e))) meets refl k.full (k.free id v at) (λ _ _ _ _ _ _. refl) t.fits t.owned);
         after = record {
           doing = refl;
           free = refl;
           hand = refl;
-          sees = t.2;
+          sees = t.grown;
           overtaken = overtaken s k id read known miss;
         };
       }
 
-  -- what the exchange tells of a party that was poised with this room, word and element
-  Tells : (me k : SeatState E) (found : ℕ) → ℕ × ℕ × E → Type 0
-  Tells me k found z = (found ≡ z.1 → HasHit z.2 found me k) × (found ≢ z.1 → HasFailed z.0 me k)
+  -- what the exchange tells of a party that was poised with these
+  Tells : (me k : SeatState E) (found : ℕ) → Exchanged E → Type 0
+  Tells me k found z = (found ≡ z.read → HasHit z.element found me k) × (found ≢ z.read → HasFailed z.room me k)
 
-  says : (st : TableStep E) (slots : ℕ) (me k : SeatState E) (r read found : ℕ) (x : E) → Poised slots me r read x → Tells me k found (r, read, x) → play.after_exchange st me found k
+  says : (st : TableStep E) (slots : ℕ) (me k : SeatState E) (r read found : ℕ) (x : E) → Poised slots me r read x → Tells me k found record { room = r; read = read; element = x } → play.after_exchange st me found k
   unfolding Tells
   says st slots me k r read found x poised t r' read' x' doing hand =
       let p = sym poised.doing ∙ doing in
       let q = sym poised.hand ∙ hand in
-      subst (Tells me k found) (λ i. (ap room_of p i, ap read_of p i, ap (λ l. some_or x (slot_or (filled x read) l).item) q i)) t
+      subst (Tells me k found) (λ i. record { room = ap room_of p i; read = ap read_of p i; element = ap (λ l. some_or x (slot_or (filled x read) l).item) q i }) t
 
   pub exchanges : (slots id new : ℕ) (me : SeatState E) (r read : ℕ) (x : E) → new ≡ suc r → Poised slots me r read x
       → Allows RuleHolds slots id me HEAD (λ n. either (eqb n read) new n) (play.after_exchange (step slots HEAD read new none) me)
@@ -438,7 +458,7 @@ module _ {E : Type 0} where
               spent = λ e. absurd (named e);
             } meets (length-set s.words HEAD 0) tt
             (home_frame s.homes homes (all_vacant v.free.rooms v.free.end) (λ q m. stays v id q at (subst (λ l. 1 ≤ times q l) (rooms_vacant E v.free.rooms v.free.end) m)) (k.free id v at))
-            (λ i u q other there m. stays u i q there m) t.1 t.0,
+            (λ i u q other there m. stays u i q there m) t.fits t.owned,
         λ _. record {
           chain = xs;
           found_is = k.meets.top;
@@ -447,7 +467,7 @@ module _ {E : Type 0} where
           hand = taken_carried (in_use xs) me.1;
           near = λ i r a. let low = home_near s.homes (in_use xs) k.full r (subst (λ l. 1 ≤ times r l) (sym (rooms_in_use xs)) (times_some r (rooms_of xs) i a)) in omega arith;
           few = few_in_chain s k slots deep;
-          sees = t.2;
+          sees = t.grown;
         },
       )
 
@@ -548,7 +568,7 @@ module _ {E : Type 0} where
         give_all me.1,
         given_valid me.1 s.homes,
         kept,
-        (refl, given_carried me.1, subst (λ n. length all.rooms ≤ n) (given_long me.1 s.homes ∙ deep) few),
+        record { view_is = refl; hand = given_carried me.1; few = subst (λ n. length all.rooms ≤ n) (given_long me.1 s.homes ∙ deep) few },
       )
 
   pub appends : (slots id i : ℕ) (me : SeatState E) (r link : ℕ) → me.0.doing ≡ Holding (r ∷ []) → me.1 ≡ (r, vacant link) ∷ [] → r < slots → IsTied me.0.free (suc r)

@@ -16,14 +16,14 @@ module _ {E : Type 0} where
   -- ---- with a room of its own
   pub pushes_now : (e : E) (first : Bool) (u w : PartyOf E) → PushesAt 1 e first u w → PushesRefilled e first u w
   pushes_now e first u w b =
-      let rooms = b.2 in
-      record { adds = b.0; ends = b.1; taken = 0; rooms = omega arith; untouched = λ _. refl }
+      let (added, ends, rooms) = b in
+      record { adds = added; ends = ends; taken = 0; rooms = omega arith; untouched = λ _. refl }
 
   pub misses_now : (u w : PartyOf E) → 0 < u.rooms → Misses u w → MissesRefilled u w
   misses_now u w some_of b =
-      let rooms = b.2 in record {
-        adds = b.0;
-        overtaken = b.1;
+      let (added, overtaken, rooms) = b in record {
+        adds = added;
+        overtaken = overtaken;
         taken = 0;
         rooms = omega arith;
         some = omega arith;
@@ -35,11 +35,11 @@ module _ {E : Type 0} where
       → PushesAt 1 e first v w → PushesRefilled e first u w
   pushes_then e first n u v w a none b =
       let more = a.1 in
-      let left = b.2 in
+      let (adds, ends, left) = b in
       let same = same_name n u v a in
-      let added = subst (λ q. Adds v (Load q ∷ Push q e ∷ []) w) same b.0 in record {
+      let added = subst (λ q. Adds v (Load q ∷ Push q e ∷ []) w) same adds in record {
         adds = adds_then actor (λ h. Legal h) u v w [] (Load (name_of u) ∷ Push (name_of u) e ∷ []) a.0 added;
-        ends = subst (λ q. EndsPushed e (IsTrue first) q w.seen) same b.1;
+        ends = subst (λ q. EndsPushed e (IsTrue first) q w.seen) same ends;
         taken = n;
         rooms = omega arith;
         untouched = λ some_of. absurd (omega arith);
@@ -49,10 +49,10 @@ module _ {E : Type 0} where
       → MissesRefilled u w
   misses_then n u v w a none some_of b =
       let more = a.1 in
-      let left = b.2 in
-      let added = subst (λ q. Adds v (Load q ∷ []) w) (same_name n u v a) b.0 in record {
+      let (adds, overtaken, left) = b in
+      let added = subst (λ q. Adds v (Load q ∷ []) w) (same_name n u v a) adds in record {
         adds = adds_then actor (λ h. Legal h) u v w [] (Load (name_of u) ∷ []) a.0 added;
-        overtaken = b.1;
+        overtaken = overtaken;
         taken = n;
         rooms = omega arith;
         some = omega arith;

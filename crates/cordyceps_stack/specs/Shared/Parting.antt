@@ -13,10 +13,14 @@ module _ {E : Type 0} where
   abbrev pub view_without_told : View E → View E
   view_without_told v = record v { known = record v.known { had = []; told = [] } }
 
+  pub record HasLearned (slots : ℕ) (m k : SeatState E) : Type 0 where
+    pub view_is : view k ≡ view_without_told (view m)
+    pub hand : hand k ≡ hand m
+    pub known : IsKnown (λ h. Legal h) (view m).known
+    pub few : length (view m).free.rooms ≤ slots
+
   abbrev pub after_learn : TableStep E → SeatState E → ℕ → SeatState E → Type 0
-  after_learn st m read k =
-      (view k ≡ view_without_told (view m)) × (hand k ≡ hand m) × IsKnown (λ h. Legal h) (view m).known
-      × (length (view m).free.rooms ≤ st.slots)
+  after_learn st m read k = HasLearned st.slots m k
 
   -- what a party has that gave up the first n of its free rooms, and what the new one has
   abbrev pub view_keeping : ℕ → View E → View E

@@ -33,11 +33,15 @@ module _ {E : Type 0} where
 
   -- ---- the steps on head
   -- a load by a party that looks whether nothing is held
+  pub record HasLooked (read : ℕ) (m k : SeatState E) : Type 0 where
+    pub doing : (view k).doing ≡ (view m).doing
+    pub free : (view k).free ≡ (view m).free
+    pub hand : hand k ≡ hand m
+    pub sees : Sees (view m) (Load (name (view m)) ∷ []) (view k)
+    pub ends : EndsLooked (read ≡ 0) (name (view m)) (view k).known.seen
+
   abbrev pub after_look : TableStep E → SeatState E → ℕ → SeatState E → Type 0
-  after_look st m read k =
-      ((view k).doing ≡ (view m).doing) × ((view k).free ≡ (view m).free) × (hand k ≡ hand m)
-      × Sees (view m) (Load (name (view m)) ∷ []) (view k)
-      × EndsLooked (read ≡ 0) (name (view m)) (view k).known.seen
+  after_look st m read k = HasLooked read m k
 
   -- a load by a party that begins to push: the slot of its first free room is in hand
   pub record IsBegun (slots r : ℕ) (rs : List ℕ) (read : ℕ) (m k : SeatState E) : Type 0 where
@@ -50,11 +54,15 @@ module _ {E : Type 0} where
   abbrev pub after_begin : TableStep E → SeatState E → ℕ → SeatState E → Type 0
   after_begin st m read k = (r : ℕ) (rs : List ℕ) → (view m).free.rooms ≡ r ∷ rs → IsBegun st.slots r rs read m k
 
-  -- a load by a party that tries again
+  -- a load by a party that tries again, and then does this
+  pub record HasLoaded (does : Doing E) (m k : SeatState E) : Type 0 where
+    pub doing : (view k).doing ≡ does
+    pub free : (view k).free ≡ (view m).free
+    pub hand : hand k ≡ hand m
+    pub sees : Sees (view m) (Load (name (view m)) ∷ []) (view k)
+
   abbrev pub after_load : TableStep E → SeatState E → ℕ → SeatState E → Type 0
-  after_load st m read k = (r : ℕ) → (view m).doing ≡ Holding (r ∷ [])
-      → ((view k).doing ≡ Loaded r read) × ((view k).free ≡ (view m).free) × (hand k ≡ hand m)
-      × Sees (view m) (Load (name (view m)) ∷ []) (view k)
+  after_load st m read k = (r : ℕ) → (view m).doing ≡ Holding (r ∷ []) → HasLoaded (Loaded r read) m k
 
   -- a compare-exchange: it pushed what is in the slot in hand, which goes back, or another came between
   pub record HasHit (x : E) (found : ℕ) (m k : SeatState E) : Type 0 where
@@ -78,9 +86,7 @@ module _ {E : Type 0} where
 
   -- a load by a party that has the slots of several rooms in hand, and pushes with all of them
   abbrev pub after_load_all : TableStep E → SeatState E → ℕ → SeatState E → Type 0
-  after_load_all st m read k =
-      ((view k).doing ≡ LoadedAll (held_rooms (view m).doing) read) × ((view k).free ≡ (view m).free)
-      × (hand k ≡ hand m) × Sees (view m) (Load (name (view m)) ∷ []) (view k)
+  after_load_all st m read k = HasLoaded (LoadedAll (held_rooms (view m).doing) read) m k
 
   -- rooms in use before one more; all of these rooms; and the elements in them
   abbrev pub all_then : List (ℕ × E) → ℕ → E → List (ℕ × E)
@@ -155,10 +161,13 @@ module _ {E : Type 0} where
   chain_in_hand m = record { rooms = held_rooms (view m).doing; end = last_link (hand m) }
 
   -- all slots in hand, which are those of a free chain that leads to the free rooms, go back to be before these
+  pub record HasReturned (slots : ℕ) (m k : SeatState E) : Type 0 where
+    pub view_is : view k ≡ record (view m) { doing = Idle; free = joined (chain_in_hand m) (view m).free }
+    pub hand : hand k ≡ []
+    pub few : length (view k).free.rooms ≤ slots
+
   abbrev pub after_return : TableStep E → SeatState E → ℕ → SeatState E → Type 0
-  after_return st m found k = let chain = chain_in_hand m in
-      (view k ≡ record (view m) { doing = Idle; free = joined chain (view m).free }) × (hand k ≡ [])
-      × (length (view k).free.rooms ≤ st.slots)
+  after_return st m found k = HasReturned st.slots m k
 
   -- the slot in hand, to which the free rooms lead, goes back to be after these
   abbrev pub after_append : TableStep E → SeatState E → ℕ → SeatState E → Type 0

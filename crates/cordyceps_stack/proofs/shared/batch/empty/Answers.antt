@@ -5,6 +5,6 @@ use Rattle.cordyceps_stack.proofs.shared.batch.empty.Goals as goal
 
 pub slot_mut-slot-requires : goal.slot_mut-slot-requires
 slot_mut-slot-requires g c =
-    let f = c.requires.filled in
-    let slot = filled f.0 f.1 in
-    (search rules, (slot, f.3 ∙ ap (λ l. (c.args.room, slot) ∷ rest l) (sym f.3)))
+    let (x, link, others, first) = c.requires.filled in
+    let slot = filled x link in
+    (search rules, (slot, first ∙ ap (λ l. (c.args.room, slot) ∷ rest l) (sym first)))

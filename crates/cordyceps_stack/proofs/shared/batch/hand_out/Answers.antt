@@ -7,6 +7,7 @@ use Rattle.cordyceps_stack.specs.Shared.Plays.{to_hand_out}
 use Rattle.cordyceps_stack.specs.Shared.Slots.{start, rooms_of, link_or, filled, vacant, in_use, all_vacant, last_link}
 use Rattle.cordyceps_stack.specs.Shared.View.{held_rooms}
 use Rattle.cordyceps_stack.proofs.SharedTheory.PartsJoin.{hands_first, next_of, next_hand, hands_next, handed_out, handed_rooms, handed_back, tracks_back, first_or_none, vacant_back, back_joins}
+use Rattle.cordyceps_stack.proofs.SharedTheory.StepTells.{told}
 use Rattle.cordyceps_stack.proofs.SharedTheory.StepsKeep.{returns}
 use Rattle.cordyceps_stack.proofs.shared.batch.hand_out.Goals.{then-free-eq0, else-free-eq0}
 use Rattle.cordyceps_stack.proofs.shared.batch.hand_out.Goals as goal
@@ -78,8 +79,8 @@ returns-clause-seat g c =
     let w = c.loop-at.seat.me in
     let all = to_hand_out m.0.doing in
     let h = handed_out c.loop-at.at c.args.free.now.first c.loop-at.last c.loop-at.count all m w c.loop-at.invariant.1.0 c.loop-at-test.false in
-    let l = c.load.ensures.2 in
-    handed_back c.args.words.now.table_id.slots c.args.at c.args.free.now.first c.loop-at.last c.loop-at.count m w c.load.new.seat.me c.requires.taken h l.0 l.1
+    let l = told c.load.ensures in
+    handed_back c.args.words.now.table_id.slots c.args.at c.args.free.now.first c.loop-at.last c.loop-at.count m w c.load.new.seat.me c.requires.taken h l.view_is l.hand
 
 pub returns-clause-tracks : goal.returns-clause-tracks
 returns-clause-tracks g c =
@@ -88,7 +89,7 @@ returns-clause-tracks g c =
     let k = c.load.new.seat.me in
     let free = c.args.free.now in
     let h = handed_out c.loop-at.at free.first c.loop-at.last c.loop-at.count (to_hand_out m.0.doing) m w c.loop-at.invariant.1.0 c.loop-at-test.false in
-    let back = tracks_back c.args.words.now.table_id.slots c.args.at free.first c.loop-at.last c.loop-at.count m w k free c.requires.taken c.if-at-eq0.false h c.load.ensures.2.0 c.requires.tracks in
+    let back = tracks_back c.args.words.now.table_id.slots c.args.at free.first c.loop-at.last c.loop-at.count m w k free c.requires.taken c.if-at-eq0.false h (told c.load.ensures).view_is c.requires.tracks in
     elim c.if-free-eq0.branch [
       | then-free-eq0 b ↦
           let none = b.if-free-eq0.true in

@@ -4,29 +4,30 @@ use Rattle.cordyceps_stack.specs.Shared.Slots.{in_use_to}
 use Rattle.cordyceps_stack.specs.Shared.View.{Doing, LoadedAll}
 use Rattle.cordyceps_stack.proofs.SharedTheory.ChainJoins.{settles_all_once, fails_all_once}
 use Rattle.cordyceps_stack.proofs.SharedTheory.ChainKeeps.{loads_all, exchanges_all}
+use Rattle.cordyceps_stack.proofs.SharedTheory.StepTells.{told}
 use Rattle.cordyceps_stack.proofs.shared.chain.attempt.Goals as goal
 
 pub load-read-requires : goal.load-read-requires
-load-read-requires g c = let r = c.requires.ready in (search rules, search rules, loads_all _ _ _ r.2.named)
+load-read-requires g c = let (before, x, ready) = c.requires.ready in (search rules, search rules, loads_all _ _ _ ready.named)
 
 pub relink-requires-clause-filled : goal.relink-requires-clause-filled
 relink-requires-clause-filled g c =
-    let r = c.requires.ready in
-    let l = c.load-read.ensures.2 in
-    (r.1, r.2.link, in_use_to r.0 (suc c.args.last), l.2 ∙ r.2.hand)
+    let (before, x, ready) = c.requires.ready in
+    let l = told c.load-read.ensures in
+    (x, ready.link, in_use_to before (suc c.args.last), l.hand ∙ ready.hand)
 
 pub compare_exchange-requires : goal.compare_exchange-requires
 compare_exchange-requires g c =
-    let r = c.requires.ready in
-    let l = c.load-read.ensures.2 in
-    let linked = c.relink.ensures.links r.1 r.2.link (in_use_to r.0 (suc c.args.last)) (l.2 ∙ r.2.hand) in (
+    let (before, x, ready) = c.requires.ready in
+    let l = told c.load-read.ensures in
+    let linked = c.relink.ensures.links x ready.link (in_use_to before (suc c.args.last)) (l.hand ∙ ready.hand) in (
       search rules,
       search rules,
-      exchanges_all _ _ _ _ r.0 c.args.last r.1 c.load-read.result r.2.first_is record {
-        doing = ap (λ m. m.0.doing) linked ∙ (l.0 ∙ ap (λ rs. let d : Doing g.row.E.Denot = LoadedAll rs c.load-read.result in d) r.2.rooms);
+      exchanges_all _ _ _ _ before c.args.last x c.load-read.result ready.first_is record {
+        doing = ap (λ m. m.0.doing) linked ∙ (l.doing ∙ ap (λ rs. let d : Doing g.row.E.Denot = LoadedAll rs c.load-read.result in d) ready.rooms);
         hand = ap (λ m. m.1) linked;
-        named = λ e. r.2.named (sym (ap (λ m. m.0.known.share) linked ∙ l.3.share) ∙ e);
-        inside = r.2.inside;
+        named = λ e. ready.named (sym (ap (λ m. m.0.known.share) linked ∙ l.sees.share) ∙ e);
+        inside = ready.inside;
       },
     )
 
@@ -36,13 +37,13 @@ returns-then-compare_exchange-read-clause-answer g c before x ready =
     let m = c.args.seat.now.me in
     let k = c.compare_exchange.new.seat.me in
     let read = c.load-read.result in
-    let l = c.load-read.ensures.2 in
-    let linked = c.relink.ensures.links x ready.link (in_use_to before (suc last)) (l.2 ∙ ready.hand) in
-    let doing = ap (λ m. m.0.doing) linked ∙ (l.0 ∙ ap (λ rs. let d : Doing g.row.E.Denot = LoadedAll rs read in d) ready.rooms) in
-    let t = c.compare_exchange.ensures.2 before last x read doing (ap (λ m. m.1) linked) in
+    let l = told c.load-read.ensures in
+    let linked = c.relink.ensures.links x ready.link (in_use_to before (suc last)) (l.hand ∙ ready.hand) in
+    let doing = ap (λ m. m.0.doing) linked ∙ (l.doing ∙ ap (λ rs. let d : Doing g.row.E.Denot = LoadedAll rs read in d) ready.rooms) in
+    let t = (told c.compare_exchange.ensures) before last x read doing (ap (λ m. m.1) linked) in
     let is = c.if-compare_exchange-read.true in
     let hit = subst (λ n. HasHitAll (elements_then before x) n c.relink.new.seat.me k) is (t.0 is) in
-    settles_all_once c.args.words.now.table_id.slots c.args.first last read before x (chain_then before last x read) m c.load-read.new.seat.me k ready l.1 l.3 (subst (λ (q : SeatState g.row.E.Denot). HasHitAll (elements_then before x) read q k) linked hit)
+    settles_all_once c.args.words.now.table_id.slots c.args.first last read before x (chain_then before last x read) m c.load-read.new.seat.me k ready l.free l.sees (subst (λ (q : SeatState g.row.E.Denot). HasHitAll (elements_then before x) read q k) linked hit)
 
 pub returns-else-compare_exchange-read-clause-answer : goal.returns-else-compare_exchange-read-clause-answer
 returns-else-compare_exchange-read-clause-answer g c before x ready =
@@ -50,9 +51,9 @@ returns-else-compare_exchange-read-clause-answer g c before x ready =
     let m = c.args.seat.now.me in
     let k = c.compare_exchange.new.seat.me in
     let read = c.load-read.result in
-    let l = c.load-read.ensures.2 in
-    let linked = c.relink.ensures.links x ready.link (in_use_to before (suc last)) (l.2 ∙ ready.hand) in
-    let doing = ap (λ m. m.0.doing) linked ∙ (l.0 ∙ ap (λ rs. let d : Doing g.row.E.Denot = LoadedAll rs read in d) ready.rooms) in
-    let t = c.compare_exchange.ensures.2 before last x read doing (ap (λ m. m.1) linked) in
-    fails_all_once c.args.words.now.table_id.slots c.args.first last read before x m c.load-read.new.seat.me k ready l.1 l.3
+    let l = told c.load-read.ensures in
+    let linked = c.relink.ensures.links x ready.link (in_use_to before (suc last)) (l.hand ∙ ready.hand) in
+    let doing = ap (λ m. m.0.doing) linked ∙ (l.doing ∙ ap (λ rs. let d : Doing g.row.E.Denot = LoadedAll rs read in d) ready.rooms) in
+    let t = (told c.compare_exchange.ensures) before last x read doing (ap (λ m. m.1) linked) in
+    fails_all_once c.args.words.now.table_id.slots c.args.first last read before x m c.load-read.new.seat.me k ready l.free l.sees
     (subst (λ (q : SeatState g.row.E.Denot). HasFailedAll c.args.words.now.table_id.slots (all_then before last x) q k) linked (t.1 c.if-compare_exchange-read.false))

@@ -8,6 +8,7 @@ use Rattle.cordyceps_stack.specs.Shared.Slots.{filled, vacant, in_use_to, all_va
 use Rattle.cordyceps_stack.specs.Shared.View.{held_rooms}
 use Rattle.cordyceps_stack.proofs.SharedTheory.ChainJoins.{first_of, first_vacant, fills_start, fills_turn, fills_next, has_filled, tracks_filled}
 use Rattle.cordyceps_stack.proofs.SharedTheory.PartsJoin.{next_free_of, none_there}
+use Rattle.cordyceps_stack.proofs.SharedTheory.StepTells.{told}
 use Rattle.cordyceps_stack.proofs.shared.chain.fill.Goals as goal
 
 pub hold-requires-clause-rest : goal.hold-requires-clause-rest
@@ -33,12 +34,14 @@ loop-handle-init g c =
     let end = (first_rooms (suc n) m.0.free).end in
     let e = c.put-next.ensures.puts (leads first.others end) (all_vacant first.others end) (first_vacant room (suc n) m k c.hold.ensures.holds first) in
     let s = fills_start (suc n) room c.put-next.result c.args.handle m k c.put-next.new.seat.me c.hold.ensures.holds first e.0 e.1 in
-    let long = s.1 in (
-      refl,
-      refl,
-      omega arith,
-      (s.0, omega arith, ap (λ l. map g.T.Linked.element l ++ c.args.others) s.2),
-    )
+    let long = s.long in record {
+      table = refl;
+      view_is = refl;
+      count_is = omega arith;
+      fills = s.fills;
+      left = omega arith;
+      elements = ap (λ l. map g.T.Linked.element l ++ c.args.others) s.elements;
+    }
 
 pub put-next-requires-in-Some-clause-vacant : goal.put-next-requires-in-Some-clause-vacant
 put-next-requires-in-Some-clause-vacant g c =
@@ -48,16 +51,16 @@ put-next-requires-in-Some-clause-vacant g c =
     let last = c.loop-handle.last in
     let next = c.loop-handle.next in
     let w = c.loop-handle.seat.me in
-    let i = c.loop-handle.invariant.3 in
-    let f = i.0 in
-    let left = i.1 in
+    let i = c.loop-handle.invariant in
+    let f = i.fills in
+    let left = i.left in
     let more = ap (λ l. length l) c.in-Some.ensures in
     let n = next_free_of next f.left end f.next_is (omega arith) in
     let at = n.at_is in
     let here : n.here ≡ next - 1 = omega arith in
     let link = leads n.others end in
     let rest = all_vacant n.others end ++ in_use_to (f.done ++ (last, f.x) ∷ []) (suc n.here) in
-    (link, rest, ap (λ m. m.1) c.turn.ensures.2 ∙ (fills_turn last next all end w f n ∙ ap (λ r. (r, vacant link) ∷ rest) here))
+    (link, rest, ap (λ m. m.1) (told c.turn.ensures) ∙ (fills_turn last next all end w f n ∙ ap (λ r. (r, vacant link) ∷ rest) here))
 
 pub loop-handle-preserved : goal.loop-handle-preserved
 loop-handle-preserved g c =
@@ -70,34 +73,31 @@ loop-handle-preserved g c =
     let w = c.loop-handle.seat.me in
     let k = c.put-next-in-Some.new.seat.me in
     let item = c.in-Some.handle in
-    let inv = c.loop-handle.invariant in
-    let sum = inv.2 in
-    let i = inv.3 in
-    let f = i.0 in
-    let left = i.1 in
+    let i = c.loop-handle.invariant in
+    let sum = i.count_is in
+    let f = i.fills in
+    let left = i.left in
     let more = ap (λ l. length l) c.in-Some.ensures in
     let n = next_free_of next f.left end f.next_is (omega arith) in
     let at = n.at_is in
     let here : n.here ≡ next - 1 = omega arith in
     let link = leads n.others end in
     let rest = all_vacant n.others end ++ in_use_to (f.done ++ (last, f.x) ∷ []) (suc n.here) in
-    let e = c.put-next-in-Some.ensures.puts link rest (ap (λ m. m.1) c.turn.ensures.2 ∙ (fills_turn last next all end w f n ∙ ap (λ r. (r, vacant link) ∷ rest) here)) in
+    let e = c.put-next-in-Some.ensures.puts link rest (ap (λ m. m.1) (told c.turn.ensures) ∙ (fills_turn last next all end w f n ∙ ap (λ r. (r, vacant link) ∷ rest) here)) in
     let t = fills_next last next all end w k f n item (next - 1) c.put-next-in-Some.result (sym here) e.0 (ap (λ m. m.1) e.1 ∙ ap (λ r. (r, filled item link) ∷ rest) (sym here)) in
     let fewer = ap (λ l. length l) n.is in
-    let same = ap (λ l. length l) t.2 in
+    let same = ap (λ l. length l) t.left_are in
     let others = c.pop.new.self in
-    let before = map el (elements_then f.done f.x) in (
-      search rules,
-      ap (λ m. m.0) e.1 ∙ (ap (λ m. m.0) c.turn.ensures.2 ∙ inv.1),
-      omega arith,
-      (
-        t.0,
-        omega arith,
-        ap (λ l. map el l ++ others) t.1
-            ∙ (ap (λ l. l ++ others) (map-append el (elements_then f.done f.x) (item ∷ []))
-            ∙ (append_assoc before (el item ∷ []) others ∙ (ap (λ l. before ++ l) (sym c.in-Some.ensures) ∙ i.2))),
-      ),
-    )
+    let before = map el (elements_then f.done f.x) in record {
+      table = search rules;
+      view_is = ap (λ m. m.0) e.1 ∙ (ap (λ m. m.0) (told c.turn.ensures) ∙ i.view_is);
+      count_is = omega arith;
+      fills = t.fills;
+      left = omega arith;
+      elements = ap (λ l. map el l ++ others) t.elements_are
+          ∙ (ap (λ l. l ++ others) (map-append el (elements_then f.done f.x) (item ∷ []))
+          ∙ (append_assoc before (el item ∷ []) others ∙ (ap (λ l. before ++ l) (sym c.in-Some.ensures) ∙ i.elements)));
+    }
 
 pub returns-clause-filled : goal.returns-clause-filled
 returns-clause-filled g c =
@@ -111,20 +111,19 @@ returns-clause-filled g c =
     let low = t.1 in
     let count = t.0.count in
     let first = first_of c.args.free.now m.0.free n t.0 t.1 in
-    let some_of = first_room c.args.free.now m.0.free t.0 (omega arith) in
+    let (rest_of, rooms, some_of) = first_room c.args.free.now m.0.free t.0 (omega arith) in
     let end = (first_rooms (suc n) m.0.free).end in
     let e = c.put-next.ensures.puts (leads first.others end) (all_vacant first.others end) (first_vacant room (suc n) m k c.hold.ensures.holds first) in
-    let inv = c.loop-handle.invariant in
-    let i = inv.3 in
-    let f = i.0 in
+    let i = c.loop-handle.invariant in
+    let f = i.fills in
     let over = c.in_default.ensures.0 in
-    let none = none_there f.left (i.1 ∙ ap (λ l. length l) over) in
+    let none = none_there f.left (i.left ∙ ap (λ l. length l) over) in
     let pushed = elements_then f.done f.x in
-    let els = sym (append-nil (map el pushed)) ∙ (ap (λ l. map el pushed ++ l) (sym over) ∙ i.2) in
+    let els = sym (append-nil (map el pushed)) ∙ (ap (λ l. map el pushed ++ l) (sym over) ∙ i.elements) in
     let long = sym (length-map pushed el) ∙ ap (λ l. length l) els in (
       f.done,
       f.x,
-      has_filled c.args.words.now.table_id.slots c.args.free.now.first (suc n) c.loop-handle.last c.loop-handle.next m p c.loop-handle.seat.me c.requires.rest (ap (λ q. q.0) e.1 ∙ c.hold.ensures.holds.view_is) inv.1 f none first some_of.2 (omega arith) long,
+      has_filled c.args.words.now.table_id.slots c.args.free.now.first (suc n) c.loop-handle.last c.loop-handle.next m p c.loop-handle.seat.me c.requires.rest (ap (λ q. q.0) e.1 ∙ c.hold.ensures.holds.view_is) i.view_is f none first some_of (omega arith) long,
       sym els,
     )
 
@@ -141,11 +140,11 @@ returns-clause-tracks g c =
     let first = first_of free m.0.free n t.0 t.1 in
     let end = (first_rooms (suc n) m.0.free).end in
     let e = c.put-next.ensures.puts (leads first.others end) (all_vacant first.others end) (first_vacant room (suc n) m k c.hold.ensures.holds first) in
-    let inv = c.loop-handle.invariant in
-    let f = inv.3.0 in
+    let i = c.loop-handle.invariant in
+    let f = i.fills in
     let over = ap (λ l. length l) c.in_default.ensures.0 in
-    let none = none_there f.left (inv.3.1 ∙ over) in
-    let sum = inv.2 in
+    let none = none_there f.left (i.left ∙ over) in
+    let sum = i.count_is in
     let all : suc n ≡ c.loop-handle.count = omega arith in
     subst (λ q. let left : FreeRooms = record { first = c.loop-handle.next; last = free.last; count = free.count - q } in Tracks left w.0.free) all
-    (tracks_filled (suc n) c.loop-handle.last c.loop-handle.next free m p w (ap (λ q. q.0) e.1 ∙ c.hold.ensures.holds.view_is) inv.1 f none t.0)
+    (tracks_filled (suc n) c.loop-handle.last c.loop-handle.next free m p w (ap (λ q. q.0) e.1 ∙ c.hold.ensures.holds.view_is) i.view_is f none t.0)

@@ -11,11 +11,14 @@ ghosts-hold g a = record { rooms = suc (length a._others.now) }
 abbrev pub invariant-loop-handle : goal.invariant-loop-handle
 invariant-loop-handle g l =
     let held = l.initial.seat.me.0 in
-    (l.seat.table_id ≡ l.initial.seat.table_id) × (l.seat.me.0 ≡ held)
-    × (l.count + length l.others ≡ suc (length l.initial.others))
-    × ((f : Fills l.last l.next (held_rooms held.doing) (leads held.free.rooms held.free.end) l.seat.me)
-    × (length f.left ≡ length l.others)
-    × (map g.T.Linked.element (elements_then f.done f.x) ++ l.others ≡ g.T.Linked.element l.fn.handle ∷ l.initial.others))
+    record {
+      table : l.seat.table_id ≡ l.initial.seat.table_id;
+      view_is : l.seat.me.0 ≡ held;
+      count_is : l.count + length l.others ≡ suc (length l.initial.others);
+      fills : Fills l.last l.next (held_rooms held.doing) (leads held.free.rooms held.free.end) l.seat.me;
+      left : length fills.left ≡ length l.others;
+      elements : map g.T.Linked.element (elements_then fills.done fills.x) ++ l.others ≡ g.T.Linked.element l.fn.handle ∷ l.initial.others;
+    }
 
 abbrev pub decreases-loop-handle : goal.decreases-loop-handle
 decreases-loop-handle g l = length l.others

@@ -1,6 +1,7 @@
 use Rattle.std.proofs.Common.{subst, rules}
 use Rattle.cordyceps_stack.specs.Shared.Parts.{HoldsFirst}
 use Rattle.cordyceps_stack.proofs.SharedTheory.PartsJoin.{held_first}
+use Rattle.cordyceps_stack.proofs.SharedTheory.StepTells.{told}
 use Rattle.cordyceps_stack.proofs.SharedTheory.StepsKeep.{holds_first}
 use Rattle.cordyceps_stack.proofs.shared.chain.hold.Goals as goal
 
@@ -9,5 +10,5 @@ load-requires g c = (search rules, search rules, holds_first _ _ _ g.B.Count.roo
 
 pub returns-clause-holds : goal.returns-clause-holds
 returns-clause-holds g c =
-    let l = c.load.ensures.2 in
+    let l = told c.load.ensures in
     subst (λ n. HoldsFirst n c.args.seat.now.me c.load.new.seat.me) c.requires.rest.1 (held_first g.B.Count.rooms c.args.words.now.table_id.slots c.args.seat.now.me c.load.new.seat.me c.requires.rest.0 l.0 l.1)

@@ -7,16 +7,16 @@ use Rattle.cordyceps_stack.proofs.shared.chain.settle.Goals as goal
 pub returns-in-Some-attempt-clause-answer : goal.returns-in-Some-attempt-clause-answer
 returns-in-Some-attempt-clause-answer g c before x ready =
     let i = c.loop.invariant in
-    settles_all_at c.args.words.now.table_id.slots (elements_then before x) c.in-Some-attempt.none c.args.seat.now.me c.loop.seat.me c.attempt.new.seat.me i.4 i.3 (c.in-Some-attempt.ensures.answer before x (i.2 before x ready))
+    settles_all_at c.args.words.now.table_id.slots (elements_then before x) c.in-Some-attempt.none c.args.seat.now.me c.loop.seat.me c.attempt.new.seat.me i.tried i.free (c.in-Some-attempt.ensures.answer before x (i.ready before x ready))
 
 pub loop-preserved : goal.loop-preserved
 loop-preserved g c =
     let i = c.loop.invariant in
-    let ready = c.requires.ready in
-    let miss = c.in-None-attempt.ensures.answer ready.0 ready.1 (i.2 ready.0 ready.1 ready.2) in (
-      search rules,
-      search rules,
-      (λ before x r. (c.in-None-attempt.ensures.answer before x (i.2 before x r)).0.ready),
-      miss.1.free ∙ i.3,
-      tried_again c.args.seat.now.me.0 c.loop.seat.me.0 c.attempt.new.seat.me.0 i.4 miss.1.sees,
-    )
+    let (some_before, some_x, ready) = c.requires.ready in
+    let miss = c.in-None-attempt.ensures.answer some_before some_x (i.ready some_before some_x ready) in record {
+      iterator = search rules;
+      table = search rules;
+      ready = λ before x r. (c.in-None-attempt.ensures.answer before x (i.ready before x r)).0.ready;
+      free = miss.1.free ∙ i.free;
+      tried = tried_again c.args.seat.now.me.0 c.loop.seat.me.0 c.attempt.new.seat.me.0 i.tried miss.1.sees;
+    }

@@ -1,5 +1,6 @@
 use Rattle.std.proofs.Common.{rules, sym, ap, ◌∙◌}
 use Rattle.cordyceps_stack.proofs.SharedTheory.PartingKeeps.{joins, learns}
+use Rattle.cordyceps_stack.proofs.SharedTheory.StepTells.{told}
 use Rattle.cordyceps_stack.proofs.shared.parting.absorb.Goals as goal
 
 pub join_seat-requires : goal.join_seat-requires
@@ -9,4 +10,4 @@ join_seat-requires g c =
     (search rules, search rules, search rules, search rules, joins _ _ _ _ (same.doing ∙ r.0.idle) r.1.idle (λ e. r.0.named (ap (λ p. p.share) (sym same.known) ∙ e)) c.append.ensures.joins)
 
 pub load-requires : goal.load-requires
-load-requires g c = let j = c.join_seat.ensures.2 in (search rules, search rules, learns _ _ _ (ap (λ m. m.0.doing) j))
+load-requires g c = let j = told c.join_seat.ensures in (search rules, search rules, learns _ _ _ (ap (λ m. m.0.doing) j))

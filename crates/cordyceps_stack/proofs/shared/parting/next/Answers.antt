@@ -5,6 +5,6 @@ use Rattle.cordyceps_stack.proofs.shared.parting.next.Goals as goal
 
 pub slot_mut-requires : goal.slot_mut-requires
 slot_mut-requires g c =
-    let v = c.requires.vacant in
-    let slot = vacant v.0 in
-    (search rules, (slot, v.2 ∙ ap (λ l. (c.args.room, slot) ∷ rest l) (sym v.2)))
+    let (link, others, first) = c.requires.vacant in
+    let slot = vacant link in
+    (search rules, (slot, first ∙ ap (λ l. (c.args.room, slot) ∷ rest l) (sym first)))

@@ -13,14 +13,18 @@ loop-room-init g c =
     let t = c.requires.rooms in
     let few = t.1 in
     let other = c.if-rooms-free.false in
-    (refl, refl, passes_first c.args.rooms c.args.free.now.first c.args.seat.now.me c.hold.new.seat.me c.hold.ensures.holds (leads_first c.args.free.now c.args.seat.now.me.0.free c.args.rooms t.0 (omega arith)))
+    record {
+      table = refl;
+      view_is = refl;
+      follows = passes_first c.args.rooms c.args.free.now.first c.args.seat.now.me c.hold.new.seat.me c.hold.ensures.holds (leads_first c.args.free.now c.args.seat.now.me.0.free c.args.rooms t.0 (omega arith));
+    }
 
 pub next-at-requires-clause-vacant : goal.next-at-requires-clause-vacant
 next-at-requires-clause-vacant g c =
     let t = c.requires.rooms in
     let count = t.0.count in
     let few = t.1 in
-    let f = c.loop-room.invariant.2 in
+    let f = c.loop-room.invariant.follows in
     let held = c.hold.new.seat.me.0 in
     let end = leads held.free.rooms held.free.end in
     let long = held_long c.args.rooms c.args.seat.now.me c.hold.new.seat.me c.hold.ensures.holds (omega arith) in
@@ -37,7 +41,7 @@ loop-room-preserved g c =
     let count = t.0.count in
     let few = t.1 in
     let i = c.loop-room.invariant in
-    let f = i.2 in
+    let f = i.follows in
     let held = c.hold.new.seat.me.0 in
     let end = leads held.free.rooms held.free.end in
     let long = held_long c.args.rooms c.args.seat.now.me c.hold.new.seat.me c.hold.ensures.holds (omega arith) in
@@ -46,11 +50,11 @@ loop-room-preserved g c =
     let at = n.at_is in
     let here : c.loop-room.at - 1 ≡ n.here = omega arith in
     let rest = all_vacant n.others end ++ all_vacant f.done (suc n.here) in
-    let turned = c.next-at.ensures.turned (leads n.others end) rest (next_vacant _ _ _ _ end c.loop-room.seat.me f n ∙ ap (λ r. (r, vacant (leads n.others end)) ∷ rest) (sym here)) in (
-      search rules,
-      ap (λ m. m.0) turned.1 ∙ i.1,
-      follows_next _ _ _ _ end c.loop-room.seat.me c.next-at.new.seat.me f n (ap (λ m. m.1) turned.1 ∙ ap (λ r. rest ++ (r, vacant (leads n.others end)) ∷ []) here) (c.loop-room.at - 1) (c.loop-room._room + 1) c.next-at.result here (add-one c.loop-room._room) turned.0,
-    )
+    let turned = c.next-at.ensures.turned (leads n.others end) rest (next_vacant _ _ _ _ end c.loop-room.seat.me f n ∙ ap (λ r. (r, vacant (leads n.others end)) ∷ rest) (sym here)) in record {
+      table = search rules;
+      view_is = ap (λ m. m.0) turned.1 ∙ i.view_is;
+      follows = follows_next _ _ _ _ end c.loop-room.seat.me c.next-at.new.seat.me f n (ap (λ m. m.1) turned.1 ∙ ap (λ r. rest ++ (r, vacant (leads n.others end)) ∷ []) here) (c.loop-room.at - 1) (c.loop-room._room + 1) c.next-at.result here (add-one c.loop-room._room) turned.0;
+    }
 
 pub load-requires : goal.load-requires
 load-requires g c =
@@ -64,11 +68,11 @@ load-requires g c =
     let long = held_long c.args.rooms c.args.seat.now.me c.hold.new.seat.me c.hold.ensures.holds (omega arith) in
     let done = c.loop-room-test.false in
     let w = c.loop-room.seat.me in
-    let all = follows_all c.loop-room.at c.loop-room.last c.loop-room._room (held_rooms held.doing) end w i.2 (omega arith) in
-    let rooms = ap (λ v. held_rooms v.doing) (sym i.1) in
+    let all = follows_all c.loop-room.at c.loop-room.last c.loop-room._room (held_rooms held.doing) end w i.follows (omega arith) in
+    let rooms = ap (λ v. held_rooms v.doing) (sym i.view_is) in
     let near : Near slots (held_rooms held.doing) = subst (λ v. Near slots (held_rooms v.doing)) (sym c.hold.ensures.holds.view_is) (near_take slots c.args.rooms c.args.seat.now.me.0.free.rooms c.requires.rest.near) in (
       search rules,
       search rules,
-      returns _ _ _ w (subst (λ l. w.1 ≡ all_vacant l (last_link w.1)) rooms (vacant_back (held_rooms held.doing) end w.1 all.0)) (subst (Near slots) rooms near)
-          (subst (λ v. MayJoin record { rooms = held_rooms v.doing; end = last_link w.1 } v.free) (sym i.1) (back_joins (held_rooms held.doing) end w.1 held.free all.0 (inr refl))),
+      returns _ _ _ w (subst (λ l. w.1 ≡ all_vacant l (last_link w.1)) rooms (vacant_back (held_rooms held.doing) end w.1 all.hand)) (subst (Near slots) rooms near)
+          (subst (λ v. MayJoin record { rooms = held_rooms v.doing; end = last_link w.1 } v.free) (sym i.view_is) (back_joins (held_rooms held.doing) end w.1 held.free all.hand (inr refl))),
     )

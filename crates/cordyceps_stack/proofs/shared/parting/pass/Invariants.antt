@@ -10,5 +10,8 @@ ghosts-hold g a = record { rooms = a.rooms }
 abbrev pub invariant-loop-room : goal.invariant-loop-room
 invariant-loop-room g l =
     let held = l.initial.seat.me.0 in
-    (l.seat.table_id ≡ l.initial.seat.table_id) × (l.seat.me.0 ≡ held)
-    × Follows l.at l.last l._room (held_rooms held.doing) (leads held.free.rooms held.free.end) l.seat.me
+    record {
+      table : l.seat.table_id ≡ l.initial.seat.table_id;
+      view_is : l.seat.me.0 ≡ held;
+      follows : Follows l.at l.last l._room (held_rooms held.doing) (leads held.free.rooms held.free.end) l.seat.me;
+    }

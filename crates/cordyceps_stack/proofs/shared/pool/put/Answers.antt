@@ -6,6 +6,7 @@ use Rattle.cordyceps_shared.specs.FreeChains.{first_rooms, rest_rooms}
 use Rattle.cordyceps_shared.specs.Pools.{Packs}
 use Rattle.cordyceps_stack.specs.Shared.Parts.{GivesBack}
 use Rattle.cordyceps_stack.proofs.SharedTheory.PoolKeeps.{gives}
+use Rattle.cordyceps_stack.proofs.SharedTheory.StepTells.{told}
 use Rattle.cordyceps_stack.proofs.shared.pool.put.Goals as goal
 
 pub compare_exchange-requires : goal.compare_exchange-requires
@@ -18,10 +19,10 @@ returns-clause-gives g c =
     let m = c.args.seat.now.me in
     let k = c.compare_exchange.new.seat.me in
     let found = c.compare_exchange.result in
-    let t = c.compare_exchange.ensures.2 in
+    let t = told c.compare_exchange.ensures in
     dite (ℕ_discrete found 0)
     (λ e. subst (λ b. GivesBack c.args.rooms b m k) (sym (eq-eqb found 0 e)) (subst (λ n. k ≡ (record m.0 { free = rest_rooms n m.0.free }, m.1)) c.requires.rest.1 (λ i. ((t.0 e).0 i, (t.0 e).1 i))))
     (λ n. subst (λ b. GivesBack c.args.rooms b m k) (sym (ne_eqb found 0 n)) (t.1 n).0)
 
 pub returns-clause-lacks : goal.returns-clause-lacks
-returns-clause-lacks g c not = (c.compare_exchange.ensures.2.1 (eqb-false c.compare_exchange.result 0 not)).1
+returns-clause-lacks g c not = let t = told c.compare_exchange.ensures in (t.1 (eqb-false c.compare_exchange.result 0 not)).1

@@ -3,6 +3,7 @@ use Rattle.cordyceps_shared.specs.FreeChains.{Tracks}
 use Rattle.cordyceps_shared.specs.declared.free.FreeRooms.{FreeRooms}
 use Rattle.cordyceps_stack.specs.Shared.Slots.{all_vacant}
 use Rattle.cordyceps_stack.proofs.SharedTheory.PoolJoins.{last_first, filled, filled_hand, filled_near, filled_joins, refilled, tracks_refilled, few_refilled}
+use Rattle.cordyceps_stack.proofs.SharedTheory.StepTells.{told}
 use Rattle.cordyceps_stack.proofs.SharedTheory.StepsKeep.{returns}
 use Rattle.cordyceps_stack.proofs.shared.pool.refill.Goals.{then-free-eq0, else-free-eq0}
 use Rattle.cordyceps_stack.proofs.shared.pool.refill.Goals as goal
@@ -26,7 +27,7 @@ load-requires g c =
     let free = c.args.free.now in
     let taken = c.unpack-taken.result in
     let led = c.lead.ensures.leads h.end (all_vacant h.before (suc h.last)) (last_first slots c.take-found.result taken m p h u.0 u.1 c.requires.rest.empty) in
-    let f = filled slots c.take-found.result free.first taken m p l t d h u.0 u.1 led c.turn.ensures.2 in (
+    let f = filled slots c.take-found.result free.first taken m p l t d h u.0 u.1 led (told c.turn.ensures) in (
       search rules,
       search rules,
       returns _ _ _ t (filled_hand slots free.first taken m t f) (filled_near slots free.first taken m t f) (filled_joins slots free taken m t f c.requires.tracks),
@@ -43,9 +44,9 @@ overflow_add-free g c =
     let free = c.args.free.now in
     let taken = c.unpack-taken.result in
     let led = c.lead.ensures.leads h.end (all_vacant h.before (suc h.last)) (last_first slots c.take-found.result taken m p h u.0 u.1 c.requires.rest.empty) in
-    let f = filled slots c.take-found.result free.first taken m p c.lead.new.seat.me c.turn.new.self.me d h u.0 u.1 led c.turn.ensures.2 in
-    let b = c.load.ensures.2 in
-    let few = few_refilled slots free taken m c.turn.new.self.me c.load.new.seat.me f b.0 c.requires.tracks b.2 in
+    let f = filled slots c.take-found.result free.first taken m p c.lead.new.seat.me c.turn.new.self.me d h u.0 u.1 led (told c.turn.ensures) in
+    let b = told c.load.ensures in
+    let few = few_refilled slots free taken m c.turn.new.self.me c.load.new.seat.me f b.view_is c.requires.tracks b.few in
     let many = c.requires.table.1.1 in
     elim c.if-free-eq0.branch [
       | then-free-eq0 w ↦ let same = ap (λ (z : FreeRooms). z.count) w.free-is in omega arith
@@ -62,8 +63,8 @@ returns-clause-refills g c =
     let slots = c.args.words.now.table_id.slots in
     let taken = c.unpack-taken.result in
     let led = c.lead.ensures.leads h.end (all_vacant h.before (suc h.last)) (last_first slots c.take-found.result taken m p h u.0 u.1 c.requires.rest.empty) in
-    let b = c.load.ensures.2 in
-    refilled slots c.take-found.result c.args.free.now.first taken m p c.lead.new.seat.me c.turn.new.self.me c.load.new.seat.me c.requires.rest d h u.0 u.1 led c.turn.ensures.2 b.0 b.1
+    let b = told c.load.ensures in
+    refilled slots c.take-found.result c.args.free.now.first taken m p c.lead.new.seat.me c.turn.new.self.me c.load.new.seat.me c.requires.rest d h u.0 u.1 led (told c.turn.ensures) b.view_is b.hand
 
 pub returns-clause-tracks : goal.returns-clause-tracks
 returns-clause-tracks g c =
@@ -77,8 +78,8 @@ returns-clause-tracks g c =
     let free = c.args.free.now in
     let taken = c.unpack-taken.result in
     let led = c.lead.ensures.leads h.end (all_vacant h.before (suc h.last)) (last_first slots c.take-found.result taken m p h u.0 u.1 c.requires.rest.empty) in
-    let f = filled slots c.take-found.result free.first taken m p c.lead.new.seat.me c.turn.new.self.me d h u.0 u.1 led c.turn.ensures.2 in
-    let all = tracks_refilled slots free taken m c.turn.new.self.me k f c.load.ensures.2.0 c.requires.tracks in
+    let f = filled slots c.take-found.result free.first taken m p c.lead.new.seat.me c.turn.new.self.me d h u.0 u.1 led (told c.turn.ensures) in
+    let all = tracks_refilled slots free taken m c.turn.new.self.me k f (told c.load.ensures).view_is c.requires.tracks in
     elim c.if-free-eq0.branch [
       | then-free-eq0 w ↦
           let none = w.if-free-eq0.true in

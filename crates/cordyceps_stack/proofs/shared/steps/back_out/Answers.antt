@@ -18,7 +18,7 @@ exchange-item-requires g c =
 pub load-requires : goal.load-requires
 load-requires g c =
     let r = c.requires.ready in
-    let y = c.exchange-item.ensures.3 in
+    let (table, number, had, y) = c.exchange-item.ensures in
     let is = y ∙ ap (λ (l : SeatState g.row.E.Denot). (c.args.seat.now.me.0, (c.args.room, vacant c.args.next) ∷ rest l.1)) (λ i. (c.args.seat.now.me.0, r.1.hand i)) in
     let doing = ap (λ m. m.0.doing) y ∙ r.1.doing in
     let hand = ap (λ m. m.1) is in (

@@ -7,10 +7,14 @@ use Rattle.cordyceps_stack.proofs.SharedTheory.PartsJoin.{pushed_later, tracks_a
 use Rattle.cordyceps_stack.proofs.shared.steps.push.Goals as goal
 
 pub overflow_sub-room : goal.overflow_sub-room
-overflow_sub-room g c = let f = first_room c.args.free.now c.args.seat.now.me.0.free c.requires.rooms.0 c.requires.rooms.1 in let some_of = f.2 in search rules
+overflow_sub-room g c =
+    let (others, rooms, some_of) = first_room c.args.free.now c.args.seat.now.me.0.free c.requires.rooms.0 c.requires.rooms.1 in
+    search rules
 
 pub first_attempt-next-requires-clause-room : goal.first_attempt-next-requires-clause-room
-first_attempt-next-requires-clause-room g c = let f = first_room c.args.free.now c.args.seat.now.me.0.free c.requires.rooms.0 c.requires.rooms.1 in (f.0, f.1)
+first_attempt-next-requires-clause-room g c =
+    let (others, rooms, some_of) = first_room c.args.free.now c.args.seat.now.me.0.free c.requires.rooms.0 c.requires.rooms.1 in
+    (others, rooms)
 
 pub returns-in-Some-clause-tracks : goal.returns-in-Some-clause-tracks
 returns-in-Some-clause-tracks g c =

@@ -3,6 +3,7 @@ use mathlib.Core.Logic.{dite}
 use native.Mathlib.Decide.{ℕ_discrete}
 use Rattle.cordyceps_stack.specs.Shared.Parts.{Settled}
 use Rattle.cordyceps_stack.specs.Shared.Plays.{HasHit}
+use Rattle.cordyceps_stack.proofs.SharedTheory.StepTells.{told}
 use Rattle.cordyceps_stack.proofs.SharedTheory.StepsKeep.{exchanges}
 use Rattle.cordyceps_stack.proofs.shared.steps.settle.Goals as goal
 
@@ -18,7 +19,7 @@ returns-clause-settled g c x hand =
     let k = c.compare_exchange.new.seat.me in
     let found = c.compare_exchange.result in
     let read = c.args.read in
-    let t = c.compare_exchange.ensures.2 c.args.room read x c.requires.loaded hand in
+    let t = (told c.compare_exchange.ensures) c.args.room read x c.requires.loaded hand in
     dite (ℕ_discrete found read)
     (λ e. subst (λ b. Settled c.args.room read x b m k) (sym (eq-eqb found read e)) (subst (λ n. HasHit x n m k) e (t.0 e)))
     (λ n. subst (λ b. Settled c.args.room read x b m k) (sym (ne_eqb found read n)) (t.1 n))

@@ -5,16 +5,16 @@ use Rattle.cordyceps_stack.proofs.shared.steps.settle_at_last.Goals as goal
 pub returns-in-Some-attempt-clause-answer : goal.returns-in-Some-attempt-clause-answer
 returns-in-Some-attempt-clause-answer g c x ready =
     let i = c.loop.invariant in
-    settles_at c.args.words.now.table_id.slots x c.in-Some-attempt.first c.args.seat.now.me c.loop.seat.me c.attempt.new.seat.me i.4 i.3 (c.in-Some-attempt.ensures.answer x (i.2 x ready))
+    settles_at c.args.words.now.table_id.slots x c.in-Some-attempt.first c.args.seat.now.me c.loop.seat.me c.attempt.new.seat.me i.tried i.free (c.in-Some-attempt.ensures.answer x (i.ready x ready))
 
 pub loop-preserved : goal.loop-preserved
 loop-preserved g c =
     let i = c.loop.invariant in
     let ready = c.requires.ready in
-    let miss = c.in-None-attempt.ensures.answer ready.0 (i.2 ready.0 ready.1) in (
-      search rules,
-      search rules,
-      (λ x r. (c.in-None-attempt.ensures.answer x (i.2 x r)).0),
-      miss.1.free ∙ i.3,
-      tried_again c.args.seat.now.me.0 c.loop.seat.me.0 c.attempt.new.seat.me.0 i.4 miss.1.sees,
-    )
+    let miss = c.in-None-attempt.ensures.answer ready.0 (i.ready ready.0 ready.1) in record {
+      iterator = search rules;
+      table = search rules;
+      ready = λ x r. (c.in-None-attempt.ensures.answer x (i.ready x r)).0;
+      free = miss.1.free ∙ i.free;
+      tried = tried_again c.args.seat.now.me.0 c.loop.seat.me.0 c.attempt.new.seat.me.0 i.tried miss.1.sees;
+    }

@@ -4,5 +4,5 @@ use Rattle.cordyceps_stack.proofs.shared.calls.TransferStack.close.Goals as goal
 
 pub returns : goal.returns
 returns g c =
-    let t = c.take_all.ensures in
-    t.1 ∙ ap (map g.T.Linked.element) (takes_held c.args.party c.take_all.new.party t.0 c.requires.whole t.2)
+    let (batch, stack, takes) = c.take_all.ensures in
+    stack ∙ ap (map g.T.Linked.element) (takes_held c.args.party c.take_all.new.party batch c.requires.whole takes)
