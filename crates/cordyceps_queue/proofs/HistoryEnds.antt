@@ -10,7 +10,8 @@ pub in_order : (P E : Type 0) (h : List (Event P E)) → past.IsLegalReversed h 
 in_order P E [] legal = refl
 in_order P E (Event.Swap p e ∷ h) legal = sym (append_assoc (past.went_reversed h) (past.held_reversed h) (e ∷ [])) ∙ ap (λ l. l ++ e ∷ []) (in_order P E h legal.1)
 in_order P E (Event.Out p e ∷ h) legal =
-    append_assoc (past.went_reversed h) (e ∷ []) (drop 1 (past.held_reversed h)) ∙ ap (λ l. past.went_reversed h ++ e ∷ drop 1 l) legal.0.2 ∙ ap (λ l. past.went_reversed h ++ l) (sym legal.0.2) ∙ in_order P E h legal.1
+    let (_, _, front) = legal.0 in
+    append_assoc (past.went_reversed h) (e ∷ []) (drop 1 (past.held_reversed h)) ∙ ap (λ l. past.went_reversed h ++ e ∷ drop 1 l) front ∙ ap (λ l. past.went_reversed h ++ l) (sym front) ∙ in_order P E h legal.1
 in_order P E (Event.Link p ∷ h) legal = in_order P E h legal.1
 in_order P E (Event.Take p ∷ h) legal = in_order P E h legal.1
 in_order P E (Event.Busy p ∷ h) legal = in_order P E h legal.1

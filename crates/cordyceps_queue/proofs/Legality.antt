@@ -45,7 +45,7 @@ module _ {P E : Type 0} where
   follows_of h (Swap p e) legal may = tt
   follows_of h (Link p) legal may = tt
   follows_of h (Take p) legal may = holder_of h ∙ may
-  follows_of h (Busy p) legal may = (may.0, holder_of h ∙ may.1, may.2)
+  follows_of h (Busy p) legal may = let (by, held, other) = may in (by, holder_of h ∙ held, other)
   follows_of h (Look p) legal may = holder_of h ∙ may
   follows_of h (Out p e) legal may = holder_of h ∙ may.0
   follows_of h (Empty p) legal may = (holder_of h ∙ may.0, sym (append-nil (told.went h)) ∙ ap (λ l. told.went h ++ l) (sym may.1) ∙ whole h legal)
@@ -161,7 +161,7 @@ module _ {P E : Type 0} (same : Discrete P) where
     | inr b ↦ b
   ]
   came_next g legal (Take p) L = sym (held_by g legal (Take p) L) ∙ may g legal (Take p) L
-  came_next g legal (Busy p) L = let m = may g legal (Busy p) L in (m.0, sym (held_by g legal (Busy p) L) ∙ m.1, m.2)
+  came_next g legal (Busy p) L = let (by, held, other) = may g legal (Busy p) L in (by, sym (held_by g legal (Busy p) L) ∙ held, other)
   came_next g legal (Look p) L = sym (held_by g legal (Look p) L) ∙ may g legal (Look p) L
   came_next g legal (Out p e) L =
       let w = L.in_order (reverse g ++ Out p e ∷ []) [] (sym (append-nil (reverse g ++ Out p e ∷ []))) in

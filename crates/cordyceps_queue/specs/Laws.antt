@@ -110,10 +110,10 @@ BusyIsAnothers E =
 abbrev pub BlockedIsAnothers : Type 0 → Type 0
 BlockedIsAnothers E =
     (u w : PartyOf E) → Legal (plain u.seen) → NonePending u.share (plain u.seen) →
-    (d : Dequeues (Err error.Inconsistent) u w) → IsOf u.share d.2.blocked.by → ⊥
+    (d : Dequeues (Err error.Inconsistent) u w) → IsOf u.share d.prefix.blocked.by → ⊥
 
 -- and the same of a consumer's try
 abbrev pub BlockedTryIsAnothers : Type 0 → Type 0
 BlockedTryIsAnothers E =
     (u w : PartyOf E) → Legal (plain u.seen) → NonePending u.share (plain u.seen) →
-    (d : Consumes (Err error.Inconsistent) u w) → IsOf u.share d.2.blocked.by → ⊥
+    (d : Consumes (Err error.Inconsistent) u w) → IsOf u.share d.prefix.blocked.by → ⊥

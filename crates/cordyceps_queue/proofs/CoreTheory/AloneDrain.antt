@@ -30,7 +30,7 @@ module _ {E : Type 0} where
   came_out d = d.1
 
   abbrev pub stop_of : Drained E → Option TryDequeueError
-  stop_of d = d.2
+  stop_of d = let (_, _, stop) = d in stop
 
   -- what a holder's tries come to
   pub record Law (h : List (Event ℕ E)) (p n : ℕ) (t : ℕ) (d : Drained E) : Type 0 where
@@ -145,9 +145,10 @@ module _ {E : Type 0} where
   whole_rest : (n : ℕ) (h : List (Event ℕ E)) (m : Machine E) (p : ℕ) → CoreMeets h m → slice_get m.parties p ≡ Some Rest → (o : Option ℕ) → m.right ≡ o → Whole h p n (Some Rest) (drains_first p n (take m p o).0 (take m p o).1)
   whole_rest n h m p was at None right =
       let K = step_met h m p Rest at step.Take answer.Busy (ap (λ o. (take m p o).1) right) was in
+      let (by, held_by, other) = K.1 in
       record {
         meets = subst (λ (k : Machine E). CoreMeets (h ++ Busy p ∷ []) k) (ap (λ o. (take m p o).0) right) K.0;
-        took = record { rest = held h; front = refl; few = omega arith; stops = (refl, K.1.0, K.1.1, K.1.2) };
+        took = record { rest = held h; front = refl; few = omega arith; stops = (refl, by, held_by, other) };
       }
   whole_rest n h m p was at (Some t) right =
       let K = step_met h m p Rest at step.Take answer.Taken (ap (λ o. (take m p o).1) right) was in
@@ -247,7 +248,7 @@ module _ {E : Type 0} where
   stops_oldest h p n stage es rest (Some error.Inconsistent) some first few s still mine =
       let l = last_look p stage es in
       absurd (still s.by (omega (arith, s.pending, swaps_by-append ℕ_discrete s.by h l, links_by-append ℕ_discrete s.by h l, last_swap s.by p stage es, last_link s.by p stage es)))
-  stops_oldest h p n stage es rest (Some error.Busy) some first few s still mine = absurd (s.3 (mine s.1 s.2))
+  stops_oldest h p n stage es rest (Some error.Busy) some first few s still mine = let (_, by, held, other) = s in absurd (other (mine by held))
 
   pub oldest_law : (h : List (Event ℕ E)) (m : Machine E) (p n : ℕ) → CoreMeets h m → may_dequeue (slice_get m.parties p) ≡ true → 1 ≤ n → NobodyPending h → NobodyElse h p →
       let d = after_drain_at p n m (slice_get m.parties p) in batch_of (came_out d) (stop_of d) ≡ oldest n (held h)

@@ -195,7 +195,7 @@ module _ {E : Type 0} where
     }
 
     ends_now : (a : QueueAnswer E) → out.1 ≡ Ok a → Stands p stage a out.0 → CoreMeets (h ++ end_events p a) out.0 → Says (h ++ so_far p stage) p a → steps_left stage ≤ 0 → Ended h p out
-    ends_now answer.Done is s met says le = absurd (omega (arith, s.2))
+    ends_now answer.Done is s met says le = let (_, _, fewer, _) = s in absurd (omega arith)
     ends_now answer.Taken is s met says le = absurd s
     ends_now answer.Busy is s met says le = absurd s
     ends_now (answer.Out e) is s met says le = ends (answer.Out e) tt is s met says

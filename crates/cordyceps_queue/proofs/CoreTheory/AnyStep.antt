@@ -29,7 +29,8 @@ module _ {P E : Type 0} (m : AbstractMachine P E) (c : Chain) (k : ℕ) (p : Abs
   gives_out_keep before h M same t r has nothing ne linked None full e = absurd (none_some e)
   gives_out_keep before h M same t r has nothing ne linked (Some x) full e =
       let now = out_keeps m c (before ++ h) M k p at t r has nothing ne linked x full in
-      subst (Kept p.name h) (some_inj e) (chain_after_out m c (before ++ h) M k p at t r has nothing ne linked x full, now, (now.legal.0.1, sym same ∙ now.legal.0.2))
+      let (_, rest, front) = now.legal.0 in
+      subst (Kept p.name h) (some_inj e) (chain_after_out m c (before ++ h) M k p at t r has nothing ne linked x full, now, (rest, sym same ∙ front))
 
   reads_keep : (before h : List (Event P E)) (M : Meets m c (before ++ h)) → held_reversed (before ++ h) ≡ held_reversed h → (t : ℕ) → tail_of p.stage ≡ Some t → ((a b : ℕ) → Owes p.stage a b → ⊥) → t ≢ 0 → HasLooked p.name (before ++ h) → (n : Option ℕ) → m.next t ≡ n → reads m k p t n before ≡ Some v → Kept p.name h v
   reads_keep before h M same t has nothing ne looked None next e =

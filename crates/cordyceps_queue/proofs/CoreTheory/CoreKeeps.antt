@@ -42,7 +42,7 @@ module _ {E : Type 0} where
   says_of : (h : List (Event ℕ E)) (m : Machine E) (was : CoreMeets h m) (p : ℕ) (a : QueueAnswer E) → kept.SaysReversed p a (reverse h) → Says h p a
   says_of h m was p answer.Done s = tt
   says_of h m was p answer.Taken s = holder_of h ∙ s
-  says_of h m was p answer.Busy s = (s.0, holder_of h ∙ s.1, s.2)
+  says_of h m was p answer.Busy s = let (by, held, other) = s in (by, holder_of h ∙ held, other)
   says_of h m was p (answer.Out e) s = (s.0, held_of h was.meets.legal ∙ s.1)
   says_of h m was p answer.Empty s = held_of h was.meets.legal ∙ s
   says_of h m was p answer.Inconsistent s = told_was_blocked ℕ_discrete h was.meets.legal p s

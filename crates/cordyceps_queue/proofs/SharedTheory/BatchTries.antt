@@ -110,8 +110,8 @@ module _ {E : Type 0} where
       record { some = some; stops = inr (inl (few, then_adds u v w es (Look (name_of u) ∷ Empty (name_of u) ∷ []) t step)); rooms = d.1 ∙ t.rooms }
   stops_short max u v w es error.Inconsistent some few t d =
       let n = same_name_as u v es t in
-      let step = subst (λ z. Adds v (Look z ∷ []) w) n d.0 in
-      let b = d.2 in
+      let step = subst (λ z. Adds v (Look z ∷ []) w) n d.adds in
+      let b = d.prefix in
       let past : BlockedAfter u (outs (name_of u) es ++ Look (name_of u) ∷ []) w = record {
         past = b.past;
         later = b.later;
@@ -119,7 +119,7 @@ module _ {E : Type 0} where
         adds = b.adds ∙ (ap (λ z. z ++ Look (name_of v) ∷ []) (own_took u v es t) ∙ (append_assoc (own u.seen) (outs (name_of u) es) (Look (name_of v) ∷ []) ∙ ap (λ z. own u.seen ++ (outs (name_of u) es ++ Look z ∷ [])) n));
         blocked = b.blocked;
       } in
-      record { some = some; stops = inr (inr (few, then_adds u v w es (Look (name_of u) ∷ []) t step, past)); rooms = d.1 ∙ t.rooms }
+      record { some = some; stops = inr (inr (few, then_adds u v w es (Look (name_of u) ∷ []) t step, past)); rooms = d.rooms ∙ t.rooms }
   stops_short max u v w es error.Busy some few t d = absurd d
 
 -- ---- what a whole party takes

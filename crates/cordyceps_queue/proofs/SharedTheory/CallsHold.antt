@@ -71,19 +71,19 @@ module _ {E : Type 0} where
 
   inconsistent_sees : (slots : ℕ) (m k : SeatState E) → Dequeued slots m k (Some tried.Inconsistent) → Sees m.0 (Take (name m.0) ∷ Look (name m.0) ∷ Free (name m.0) ∷ []) k.0
   inconsistent_sees slots m k d =
-      let n = name m.0 in grown_then actor seen.LegalReversed m.0.known d.1.0.known k.0.known (Take n ∷ Look n ∷ []) (Free n ∷ []) d.1.1 d.1.3
+      let n = name m.0 in grown_then actor seen.LegalReversed m.0.known d.1.at.known k.0.known (Take n ∷ Look n ∷ []) (Free n ∷ []) d.1.looks d.1.gives
 
   pub finds_blocked : (z z' : TableId) (slots : ℕ) (m k : SeatState E) → m.0.back ≡ [] → k.0.back ≡ [] → z' ≡ z → Dequeued slots m k (Some tried.Inconsistent) → Dequeues (Err error.Inconsistent) (standing z m.0) (standing z' k.0)
   finds_blocked z z' slots m k before after at d =
       let n = name m.0 in
-      let v = d.1.0 in
-      let same : name v ≡ n = ap first_name d.1.1.share in
-      let first = subst (λ q. Sees m.0 (Take n ∷ Look q ∷ []) v) (sym same) d.1.1 in
-      let b = looked_blocked z z' (Take n ∷ []) (Free n ∷ []) m.0 v k.0 first d.1.2 d.1.3 in (
-        adds z z' m.0 k.0 (Take n ∷ Look n ∷ Free n ∷ []) (inconsistent_sees slots m k d) at,
-        same_rooms m k before after d.0,
-        subst (λ q. BlockedAfter (standing z m.0) (Take n ∷ Look q ∷ []) (standing z' k.0)) same b,
-      )
+      let v = d.1.at in
+      let same : name v ≡ n = ap first_name d.1.looks.share in
+      let first = subst (λ q. Sees m.0 (Take n ∷ Look q ∷ []) v) (sym same) d.1.looks in
+      let b = looked_blocked z z' (Take n ∷ []) (Free n ∷ []) m.0 v k.0 first d.1.blocked d.1.gives in record {
+        adds = adds z z' m.0 k.0 (Take n ∷ Look n ∷ Free n ∷ []) (inconsistent_sees slots m k d) at;
+        rooms = same_rooms m k before after d.0;
+        prefix = subst (λ q. BlockedAfter (standing z m.0) (Take n ∷ Look q ∷ []) (standing z' k.0)) same b;
+      }
 
   -- what the party is after a try
   pub seated_then : (z z' t : TableId) (m k : SeatState E) (spare left : Spare) (r : Option (Tried E)) → IsSeated z m spare → z' ≡ z → z ≡ t → IsResting t.slots k → Dequeued t.slots m k r → TracksEnd left (free_chain k.0) → IsSeated z' k left
@@ -128,7 +128,7 @@ module _ {E : Type 0} where
   whole_clear z z' slots m k spare s at before after d is =
       let n = name m.0 in
       let g = inconsistent_sees slots m k d in
-      let b = (finds_blocked z z' slots m k before after at d).2 in
+      let b = (finds_blocked z z' slots m k before after at d).prefix in
       let mine = front_own b.past b.later (subst (λ r. AllOwn r) b.is (g.alone (g.share ∙ is))) in
       let all : plain b.past ≡ plain m.0.known.seen ++ Take n ∷ Look n ∷ [] = plain_own b.past mine ∙ (b.adds ∙ ap (λ r. r ++ Take n ∷ Look n ∷ []) (sym (plain_own m.0.known.seen (s.alone is)))) in
       even_open (plain b.past) b.blocked.by (subst AllLinked (sym all) (look_even n (plain m.0.known.seen) (whole_even z m spare s is))) b.blocked.pending

@@ -110,9 +110,9 @@ module _ {E : Type 0} where
   pub blocked_is_anothers : BlockedIsAnothers E
   blocked_is_anothers u w legal none d =
       let n = name_of u in
-      blocked_by u w (Take n ∷ Look n ∷ []) (Take n ∷ Look n ∷ Free n ∷ []) legal none d.0 d.2 (λ e. cc) (λ q. (refl, refl))
+      blocked_by u w (Take n ∷ Look n ∷ []) (Take n ∷ Look n ∷ Free n ∷ []) legal none d.adds d.prefix (λ e. cc) (λ q. (refl, refl))
 
   pub blocked_try_is_anothers : BlockedTryIsAnothers E
   blocked_try_is_anothers u w legal none d =
       let n = name_of u in
-      blocked_by u w (Look n ∷ []) (Look n ∷ []) legal none d.0 d.2 (λ e. cc) (λ q. (refl, refl))
+      blocked_by u w (Look n ∷ []) (Look n ∷ []) legal none d.adds d.prefix (λ e. cc) (λ q. (refl, refl))

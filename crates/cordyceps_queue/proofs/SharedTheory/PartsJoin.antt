@@ -128,7 +128,7 @@ module _ {E : Type 0} where
             ∙ ap (λ n. (es ++ fs) ++ end n) (ap first_name a.sees.share))
             (moves_in_turn es (fs ++ end (name k.0)) p (Holding t) m k l a T.1),
       )
-  tries_then slots es fs p m k l t Inconsistent a T = (T.0, moves_in_turn es fs p (Holding t) m k l a T.1, T.2)
+  tries_then slots es fs p m k l t Inconsistent a T = let (holding, moves, blocked) = T in (holding, moves_in_turn es fs p (Holding t) m k l a moves, blocked)
 
   -- the stage of a party after a step
   pub at_stage : (slots : ℕ) (es : List (Event Name E)) (p : Stage) (m k : SeatState E) → m.0.known.share ≢ []
@@ -221,20 +221,20 @@ module _ {E : Type 0} where
             (Event.Free n ∷ []) x y),
       )
   whole_try slots u t m k l o Inconsistent q a T b =
-      let h = T.1 in
+      let (_, h, blocked) = T in
       let first : name k.0 ≡ name m.0 = ap first_name a.sees.share in
       let second : name l.0 ≡ name m.0 = ap first_name h.sees.share ∙ first in
       let x = subst (λ n. Grown actor LegalReversed k.0.known (Event.Look n ∷ []) l.0.known) first h.sees in
       let y = subst (λ n. Grown actor LegalReversed l.0.known (Event.Free n ∷ []) o.0.known) second b.sees in
       let n = name m.0 in (
         three_still m k l o q.back a.back a.free h.back h.free b.free,
-        (
-          l.0,
-          grown_then actor LegalReversed m.0.known k.0.known l.0.known (Event.Take n ∷ []) (Event.Look n ∷ [])
-              a.sees x,
-          T.2,
-          y,
-        ),
+        record {
+          at = l.0;
+          looks = grown_then actor LegalReversed m.0.known k.0.known l.0.known (Event.Take n ∷ []) (Event.Look n ∷ [])
+              a.sees x;
+          blocked = blocked;
+          gives = y;
+        },
       )
 
   -- ---- the element is taken out of the slot in hand

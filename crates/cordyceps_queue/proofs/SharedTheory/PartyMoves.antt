@@ -71,13 +71,13 @@ module _ {E A : Type 0} (f : E → A) where
   pub moves_dequeue : (r : Result E TryDequeueError) (u w : PartyOf E) → Dequeues r u w → Moves f [] (got_by_try f r) u w
   moves_dequeue (Ok e) u w c = let n = name_of u in moved u w (Take n ∷ Look n ∷ Out n e ∷ Free n ∷ []) c.0
   moves_dequeue (Err error.Empty) u w c = let n = name_of u in moved u w (Take n ∷ Look n ∷ Empty n ∷ Free n ∷ []) c.0
-  moves_dequeue (Err error.Inconsistent) u w c = let n = name_of u in moved u w (Take n ∷ Look n ∷ Free n ∷ []) c.0
+  moves_dequeue (Err error.Inconsistent) u w c = let n = name_of u in moved u w (Take n ∷ Look n ∷ Free n ∷ []) c.adds
   moves_dequeue (Err error.Busy) u w c = moved u w (Busy (name_of u) ∷ []) c.0
 
   pub moves_consume : (r : Result E TryDequeueError) (u w : PartyOf E) → Consumes r u w → Moves f [] (got_by_try f r) u w
   moves_consume (Ok e) u w c = let n = name_of u in moved u w (Look n ∷ Out n e ∷ []) c.0
   moves_consume (Err error.Empty) u w c = let n = name_of u in moved u w (Look n ∷ Empty n ∷ []) c.0
-  moves_consume (Err error.Inconsistent) u w c = moved u w (Look (name_of u) ∷ []) c.0
+  moves_consume (Err error.Inconsistent) u w c = moved u w (Look (name_of u) ∷ []) c.adds
   moves_consume (Err error.Busy) u w c = absurd c
 
   pub moves_right : (u w : PartyOf E) → TakesRight u w ⊎ (FindsBusy u w ⊎ GivesRight u w) → Moves f [] [] u w

@@ -23,9 +23,8 @@ use Rattle.cordyceps_queue.proofs.SharedTheory.WordsAsMachine.{at_after}
 -- the word that leads to the first of some rooms
 leads_first : (free : FreeRooms) (chain : FreeChain) → Tracks free chain → 0 < free.count → leads chain.rooms chain.end ≡ free.first
 leads_first free chain t some_of =
-    let f = first_room free chain t some_of in
-    let low = f.2 in
-    let e = ap (λ l. leads l chain.end) f.1 in omega arith
+    let (_, first, low) = first_room free chain t some_of in
+    let e = ap (λ l. leads l chain.end) first in omega arith
 
 module _ {E : Type 0} where
   -- ---- which slots a party may give back

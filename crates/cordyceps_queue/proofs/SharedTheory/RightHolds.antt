@@ -139,13 +139,14 @@ module _ {E : Type 0} where
   pub consumes_blocked : (z z' : TableId) (slots now : ℕ) (m k : SeatState E) → z' ≡ z → Tries (Look (name m.0) ∷ []) slots m k now tried.Inconsistent → Consumes (Err error.Inconsistent) (standing z m.0) (standing z' k.0)
   consumes_blocked z z' slots now m k at a =
       let n = name m.0 in
-      let same : name k.0 ≡ n = ap first_name a.1.sees.share in
-      let first = subst (λ q. Sees m.0 (Look q ∷ []) k.0) (sym same) a.1.sees in
-      let b = looked_blocked z z' [] [] m.0 k.0 k.0 first a.2 (none_more m.0 k.0 (Look n ∷ []) a.1.sees) in (
-        adds z z' m.0 k.0 (Look n ∷ []) a.1.sees at,
-        moved_count (Look n ∷ []) (Holding now) m k a.1,
-        subst (λ q. BlockedAfter (standing z m.0) (Look q ∷ []) (standing z' k.0)) same b,
-      )
+      let (_, moves, blocked) = a in
+      let same : name k.0 ≡ n = ap first_name moves.sees.share in
+      let first = subst (λ q. Sees m.0 (Look q ∷ []) k.0) (sym same) moves.sees in
+      let b = looked_blocked z z' [] [] m.0 k.0 k.0 first blocked (none_more m.0 k.0 (Look n ∷ []) moves.sees) in record {
+        adds = adds z z' m.0 k.0 (Look n ∷ []) moves.sees at;
+        rooms = moved_count (Look n ∷ []) (Holding now) m k moves;
+        prefix = subst (λ q. BlockedAfter (standing z m.0) (Look q ∷ []) (standing z' k.0)) same b;
+      }
 
   -- ---- a whole party's try is certain
   looked_even : (n : Name) (h : List (Event Name E)) → AllLinked h → AllLinked (h ++ Look n ∷ [])
@@ -155,7 +156,7 @@ module _ {E : Type 0} where
   consuming_clear z z' slots tail now m k spare c at a is =
       let n = name m.0 in
       let g = a.1.sees in
-      let b = (consumes_blocked z z' slots now m k at a).2 in
+      let b = (consumes_blocked z z' slots now m k at a).prefix in
       let mine = front_own b.past b.later (subst (λ r. AllOwn r) b.is (g.alone (g.share ∙ is))) in
       let all : plain b.past ≡ plain m.0.known.seen ++ Look n ∷ [] = plain_own b.past mine ∙ (b.adds ∙ ap (λ r. r ++ Look n ∷ []) (sym (plain_own m.0.known.seen (c.alone is)))) in
       even_open (plain b.past) b.blocked.by (subst AllLinked (sym all) (looked_even n (plain m.0.known.seen) (λ q. even_links q (plain m.0.known.seen) c.legal (c.linked q (subst (λ ns. IsOf ns q) (sym is) (of_whole q)))))) b.blocked.pending

@@ -121,7 +121,7 @@ module _ {E : Type 0} (s : TableState E) (k : PlainHolds s) where
   pub begun_not_in : (j : ℕ) (u : View E) (x i : ℕ) → get_elem? s.views j ≡ some u → u.known.share ≢ [] → Begun u.stage x → ItemAt k.chain.rooms i x → ⊥
   begun_not_in j u x i at named o a = elim (begun_of j u x at named o).0 [
     | inl r ↦ ready_shared r (k.meets.shared i x a)
-    | inr z ↦ z.2 i (subst (ItemAt k.chain.rooms i) z.0 a)
+    | inr z ↦ let (is_stub, _, out) = z in out i (subst (ItemAt k.chain.rooms i) is_stub a)
   ]
 
   -- no free room is in the queue

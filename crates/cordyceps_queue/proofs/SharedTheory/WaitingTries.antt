@@ -37,12 +37,12 @@ module _ {E : Type 0} where
 
   pub stays : (u w : PartyOf E) (why : TryDequeueError) → Dequeues (Err why) u w → IsSame u w
   stays u w error.Empty d = (d.0.1, d.0.0.share)
-  stays u w error.Inconsistent d = (d.0.1, d.0.0.share)
+  stays u w error.Inconsistent d = (d.adds.1, d.adds.0.share)
   stays u w error.Busy d = (d.0.1, d.0.0.share)
 
   pub stays_blocked : (u w : PartyOf E) (why : TryDequeueError) → Consumes (Err why) u w → IsSame u w
   stays_blocked u w error.Empty d = (d.0.1, d.0.0.share)
-  stays_blocked u w error.Inconsistent d = (d.0.1, d.0.0.share)
+  stays_blocked u w error.Inconsistent d = (d.adds.1, d.adds.0.share)
   stays_blocked u w error.Busy d = absurd d
 
   pub misses_blocked : (u w : PartyOf E) (why : TryDequeueError) → why ≢ error.Empty → Consumes (Err why) u w → Consumes (Err error.Inconsistent) u w

@@ -54,6 +54,12 @@ module _ {E : Type 0} where
     pub adds : own past ≡ own u.seen ++ es
     pub blocked : IsBlocked same_name (plain past)
 
+  -- it has these events of its own, has as many rooms as it had, and was blocked after the events of before
+  pub record StopsBlocked (u : PartyOf E) (es before : List (Event Name E)) (w : PartyOf E) : Type 0 where
+    pub adds : Adds u es w
+    pub rooms : w.rooms ≡ u.rooms
+    pub prefix : BlockedAfter u before w
+
   -- it put e in, which took a room
   abbrev pub Enqueues : E → PartyOf E → PartyOf E → Type 0
   Enqueues e u w = Adds u (Swap (name_of u) e ∷ Link (name_of u) ∷ []) w × (u.rooms ≡ suc w.rooms)
@@ -88,16 +94,14 @@ module _ {E : Type 0} where
   Dequeues (Err error.Empty) u w =
       Adds u (Take (name_of u) ∷ Look (name_of u) ∷ Empty (name_of u) ∷ Free (name_of u) ∷ []) w × (w.rooms ≡ u.rooms)
   Dequeues (Err error.Inconsistent) u w =
-      Adds u (Take (name_of u) ∷ Look (name_of u) ∷ Free (name_of u) ∷ []) w × (w.rooms ≡ u.rooms)
-      × BlockedAfter u (Take (name_of u) ∷ Look (name_of u) ∷ []) w
+      let n = name_of u in StopsBlocked u (Take n ∷ Look n ∷ Free n ∷ []) (Take n ∷ Look n ∷ []) w
   Dequeues (Err error.Busy) u w = Adds u (Busy (name_of u) ∷ []) w × (w.rooms ≡ u.rooms)
 
   -- it tried while it had the right
   abbrev pub Consumes : Result E TryDequeueError → PartyOf E → PartyOf E → Type 0
   Consumes (Ok e) u w = Adds u (Look (name_of u) ∷ Out (name_of u) e ∷ []) w × (w.rooms ≡ suc u.rooms)
   Consumes (Err error.Empty) u w = Adds u (Look (name_of u) ∷ Empty (name_of u) ∷ []) w × (w.rooms ≡ u.rooms)
-  Consumes (Err error.Inconsistent) u w =
-      Adds u (Look (name_of u) ∷ []) w × (w.rooms ≡ u.rooms) × BlockedAfter u (Look (name_of u) ∷ []) w
+  Consumes (Err error.Inconsistent) u w = StopsBlocked u (Look (name_of u) ∷ []) (Look (name_of u) ∷ []) w
   Consumes (Err error.Busy) u w = ⊥
 
   -- it took the right; it found it taken; it gave it back

@@ -100,6 +100,13 @@ module _ {E : Type 0} where
     pub back : (view k).back ≡ []
     pub hand : hand k ≡ []
 
+  -- it took the right, saw that it was blocked when it looked, and gave the right back
+  pub record LookedBlocked (m k : SeatState E) : Type 0 where
+    pub at : View E
+    pub looks : Sees (view m) (Event.Take (name (view m)) ∷ Event.Look (name (view m)) ∷ []) at
+    pub blocked : Blocked at
+    pub gives : Sees at (Event.Free (name (view m)) ∷ []) (view k)
+
   -- a whole try of a party that rested: `None` beside another holder
   abbrev pub Dequeued : ℕ → SeatState E → SeatState E → Option (Tried E) → Type 0
   Dequeued slots m k None = ((view k).free ≡ (view m).free) × Sees (view m) (Event.Busy (name (view m)) ∷ []) (view k)
@@ -112,10 +119,7 @@ module _ {E : Type 0} where
       ((view k).free ≡ (view m).free)
       × Sees (view m) (Event.Take (name (view m)) ∷ Event.Look (name (view m)) ∷ Event.Empty (name (view m))
       ∷ Event.Free (name (view m)) ∷ []) (view k)
-  Dequeued slots m k (Some Inconsistent) =
-      ((view k).free ≡ (view m).free)
-      × ((v : View E) × Sees (view m) (Event.Take (name (view m)) ∷ Event.Look (name (view m)) ∷ []) v × Blocked v
-      × Sees v (Event.Free (name (view m)) ∷ []) (view k))
+  Dequeued slots m k (Some Inconsistent) = ((view k).free ≡ (view m).free) × LookedBlocked m k
 
   -- ---- the pool
   -- it took the pool, in which so many rooms were, and sees all

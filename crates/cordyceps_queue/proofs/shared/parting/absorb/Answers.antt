@@ -18,10 +18,11 @@ join_seat-requires g c =
 pub load-requires : goal.load-requires
 load-requires g c =
     let view = c.append.ensures.relinked.view in
-    let t = c.requires.table in (
+    let t = c.requires.table in
+    let (_, _, joined) = c.join_seat.ensures in (
       search rules,
       search rules,
-      learns _ _ _ c.append.new.seat.me.0 c.args.other.me.0 (ap (λ m. m.0) c.join_seat.ensures.2)
+      learns _ _ _ c.append.new.seat.me.0 c.args.other.me.0 (ap (λ m. m.0) joined)
           (λ e. c.requires.rest.0.named (ap (λ v. v.known.share) (sym view) ∙ e)),
     )
 

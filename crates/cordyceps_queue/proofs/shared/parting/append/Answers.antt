@@ -7,9 +7,8 @@ use Rattle.cordyceps_queue.proofs.shared.parting.append.Goals as goal
 
 pub tie-requires-clause-low : goal.tie-requires-clause-low
 tie-requires-clause-low g c =
-    let f = first_room c.args.other.rooms (free_chain c.args._seat.now.me.0) c.requires.tracks.1.tracks (search rules) in
-    let some_of = f.2 in
-    let near : c.args.other.rooms.first - 1 < c.args.words.now.table_id.slots = c.requires.near 0 (c.args.other.rooms.first - 1) (subst (λ l. ItemAt l 0 (c.args.other.rooms.first - 1)) (sym f.1) refl) in omega arith
+    let (_, first, some_of) = first_room c.args.other.rooms (free_chain c.args._seat.now.me.0) c.requires.tracks.1.tracks (search rules) in
+    let near : c.args.other.rooms.first - 1 < c.args.words.now.table_id.slots = c.requires.near 0 (c.args.other.rooms.first - 1) (subst (λ l. ItemAt l 0 (c.args.other.rooms.first - 1)) (sym first) refl) in omega arith
 
 pub returns-then-other-gt0-clause-tracks : goal.returns-then-other-gt0-clause-tracks
 returns-then-other-gt0-clause-tracks g c =

@@ -14,7 +14,8 @@ pack-requires g c =
     let e = c.is_empty-has_none.ensures in
     let view = ap (λ q. q.0) e.gathered in
     let t = c.requires.rooms in
-    fits_given c.args.words.now.table_id.slots c.args.rooms c.pass-after.result.1 c.args.spare.now.rooms (all_rooms m.0) c.requires.hand.near c.requires.table.1.2 (subst (λ (v : View _). length v.free ≤ c.args.words.now.table_id.slots) view e.few) t.0.tracks t.1 c.if-rooms-eq0.false
+    let (_, _, few) = c.requires.table.1 in
+    fits_given c.args.words.now.table_id.slots c.args.rooms c.pass-after.result.1 c.args.spare.now.rooms (all_rooms m.0) c.requires.hand.near few (subst (λ (v : View _). length v.free ≤ c.args.words.now.table_id.slots) view e.few) t.0.tracks t.1 c.if-rooms-eq0.false
     (λ before r is. c.pass-after.ensures.last before r (ap (λ v. take c.args.rooms v.free) view ∙ is))
 
 pub put-requires-clause-bare : goal.put-requires-clause-bare
@@ -29,10 +30,11 @@ put-requires-clause-packs g c =
     let view = ap (λ q. q.0) e.gathered in
     let same = c.pass-after.ensures.seat.1 ∙ e.gathered in
     let t = c.requires.rooms in
+    let (_, _, few) = c.requires.table.1 in
     let last : (before : List ℕ) (r : ℕ) → take c.args.rooms (all_rooms m.0).rooms ≡ before ++ r ∷ [] → c.pass-after.result.1 ≡ r = λ before r is. c.pass-after.ensures.last before r (ap (λ v. take c.args.rooms v.free) view ∙ is) in
     subst (λ (q : FreeChain). Packs c.pack.result (first_rooms c.args.rooms q)) (sym (ap (λ q. free_chain q.0) same))
     (packs_given c.args.rooms c.pass-after.result.1 c.pack.result c.args.spare.now.rooms (all_rooms m.0) c.pack.ensures
-    (fits_given c.args.words.now.table_id.slots c.args.rooms c.pass-after.result.1 c.args.spare.now.rooms (all_rooms m.0) c.requires.hand.near c.requires.table.1.2 (subst (λ (v : View _). length v.free ≤ c.args.words.now.table_id.slots) view e.few) t.0.tracks t.1 c.if-rooms-eq0.false last)
+    (fits_given c.args.words.now.table_id.slots c.args.rooms c.pass-after.result.1 c.args.spare.now.rooms (all_rooms m.0) c.requires.hand.near few (subst (λ (v : View _). length v.free ≤ c.args.words.now.table_id.slots) view e.few) t.0.tracks t.1 c.if-rooms-eq0.false last)
     t.0.tracks t.1 c.if-rooms-eq0.false last)
 
 pub returns-clause-tracks : goal.returns-clause-tracks

@@ -45,5 +45,5 @@ pub returns-clause-knows : goal.returns-clause-knows
 returns-clause-knows g c =
     let r = c.requires.room in
     let u = told c.load.ensures in
-    let d = c.free_link.ensures u.next u.to u.bit u.link in
-    (u.knows c.args.room r.0 r.1 ∙ sym d.1, d.2)
+    let (_, bit_is, is_bit) = c.free_link.ensures u.next u.to u.bit u.link in
+    (u.knows c.args.room r.0 r.1 ∙ sym bit_is, is_bit)

@@ -9,7 +9,7 @@ use Rattle.cordyceps_queue.proofs.SharedTheory.SpareRooms.{tracks_after}
 use Rattle.cordyceps_queue.proofs.shared.steps.enqueue.Goals as goal
 
 pub overflow_sub-room : goal.overflow_sub-room
-overflow_sub-room g c = let f = first_room c.args.spare.now.rooms (free_chain c.args.seat.now.me.0) c.requires.rooms.0.tracks c.requires.rooms.1 in let some_of = f.2 in search rules
+overflow_sub-room g c = let (_, _, some_of) = first_room c.args.spare.now.rooms (free_chain c.args.seat.now.me.0) c.requires.rooms.0.tracks c.requires.rooms.1 in search rules
 
 pub clear-next-requires-clause-room : goal.clear-next-requires-clause-room
 clear-next-requires-clause-room g c = let f = first_room c.args.spare.now.rooms (free_chain c.args.seat.now.me.0) c.requires.rooms.0.tracks c.requires.rooms.1 in (f.0, f.1)
@@ -20,10 +20,10 @@ returns-clause-rest g c =
     let swapped = c.swap_in-old.ensures.swapped in
     let free = c.link.ensures.free.0 ∙ swapped.free in
     let q = c.requires.rest in
-    let rest = c.link.ensures.rest in record {
-      stage = rest.0;
-      back = rest.1;
-      hand = rest.2;
+    let (stage, back, hand) = c.link.ensures.rest in record {
+      stage = stage;
+      back = back;
+      hand = hand;
       named = λ e. q.named (sym (c.link.ensures.sees.share ∙ (swapped.sees.share ∙ cleared.sees.share)) ∙ e);
       near = λ i r ir.
           q.near (suc i) r (subst (λ l. ItemAt l (suc i) r) (sym cleared.free) (subst (λ l. ItemAt l i r) free ir));

@@ -21,9 +21,9 @@ returns-clause-answer g c = (told c.load.ensures).1.told c.args._tail.room c.req
 pub returns-clause-knows : goal.returns-clause-knows
 returns-clause-knows g c =
     let u = told c.load.ensures in
-    let d = c.free_link.ensures u.1.next u.1.to u.1.bit u.1.link in (
+    let (_, bit_is, is_bit) = c.free_link.ensures u.1.next u.1.to u.1.bit u.1.link in (
       still_has c.args.seat.now.me c.load.new.seat.me c.args._tail u.0
           (subst (λ l. Knows l c.args._tail.room) (sym c.requires.stage.stage) refl) c.requires.knows,
-      (u.1.knows ∙ sym d.1, d.2),
+      (u.1.knows ∙ sym bit_is, is_bit),
       refl,
     )

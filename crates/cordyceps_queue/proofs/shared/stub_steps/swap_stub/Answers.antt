@@ -9,7 +9,8 @@ pub swap-requires : goal.swap-requires
 swap-requires g c =
     let q = c.requires.stage in
     let t = c.requires.table in
-    let n = c.pointer.ensures ∙ stub_bits c.args.seat.now.me c.args.stub c.requires.knows.1 c.requires.knows.2 in (
+    let (_, of_stub, is_stub) = c.requires.knows in
+    let n = c.pointer.ensures ∙ stub_bits c.args.seat.now.me c.args.stub of_stub is_stub in (
       search rules,
       search rules,
       stub_swapped _ _ _ (stage_hand _ _ c.args.seat.now.me q) (none_near _ _ q.back) q.named
@@ -31,8 +32,9 @@ returns-clause-knows g c =
     let m = c.args.seat.now.me in
     let k = c.swap.new.seat.me in
     let at = c.requires.stage.stage in
+    let (of_tail, of_stub, is_stub) = c.requires.knows in
     let f = finds_use k c.swap.result c.pointed.result _ (told c.swap.ensures).1 c.pointed.ensures in (
-      still_has m k c.args._tail (told c.swap.ensures).0 (subst (λ l. Knows l c.args._tail.room) (sym at) (inl refl)) c.requires.knows.0,
-      still_has m k c.args.stub (told c.swap.ensures).0 (subst (λ l. Knows l c.args.stub.room) (sym at) (inr c.requires.knows.2)) c.requires.knows.1,
+      still_has m k c.args._tail (told c.swap.ensures).0 (subst (λ l. Knows l c.args._tail.room) (sym at) (inl refl)) of_tail,
+      still_has m k c.args.stub (told c.swap.ensures).0 (subst (λ l. Knows l c.args.stub.room) (sym at) (inr is_stub)) of_stub,
       f.0,
     )

@@ -17,7 +17,8 @@ push_reserved-requires g c =
     let is : found_of (tries c.args.party 6 c.loop-self.self).1 ≡ Ok c.in-Ok.element = ap found_of (sym (ap (λ o. o.1) c.try_holding.ensures)) ∙ (sym c.found.ensures ∙ c.in-Ok.is) in
     let G = gave i.room.0 c.loop-self.self c.args.party i.holding.0 c.in-Ok.element i.room.1 i.holding.1 is in
     let n = ap length G.left in
-    omega (arith, i.room.2, n, c.loop-self-test.true, c.len.ensures)
+    let (_, _, fits) = i.room in
+    omega (arith, fits, n, c.loop-self-test.true, c.len.ensures)
 
 pub loop-self-preserved : goal.loop-self-preserved
 loop-self-preserved g c =
@@ -32,10 +33,11 @@ loop-self-preserved g c =
     let longer = ap length more ∙ length-append old (e ∷ []) in
     let k = c.args.max - length c.push_reserved.new.self.items in
     let again : c.args.max - length old ≡ suc k = omega (arith, longer, c.loop-self-test.true, c.len.ensures) in
+    let (_, _, fits) = i.room in
     rw (ap (λ o. o.0) c.try_holding.ensures) record {
       whole = ap (λ es. after_items es (after_drain p k (tries p 6 m).0)) more ∙ (after_more p k old m e is ∙ (ap (λ n. after_items old (after_drain p n m)) (sym again) ∙ i.whole));
       holding = G.holds;
-      room = (_, G.meets, roomy c.args.max (vec_capacity c.loop-self.batch) (vec_capacity c.push_reserved.new.self) (length old) (length c.push_reserved.new.self.items) (length (held i.room.0)) _ c.push_reserved.ensures.capacity (let n = ap length G.left in omega (arith, n, longer)) i.room.2);
+      room = (_, G.meets, roomy c.args.max (vec_capacity c.loop-self.batch) (vec_capacity c.push_reserved.new.self) (length old) (length c.push_reserved.new.self.items) (length (held i.room.0)) _ c.push_reserved.ensures.capacity (let n = ap length G.left in omega (arith, n, longer)) fits);
       few = omega (arith, longer, c.loop-self-test.true, c.len.ensures);
     }
 

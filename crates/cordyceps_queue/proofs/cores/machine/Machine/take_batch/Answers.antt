@@ -11,11 +11,11 @@ pub drain-stop-requires-clause-room : goal.drain-stop-requires-clause-room
 drain-stop-requires-clause-room g c =
     let m = c.args.self.now in
     let p = c.args.party in
-    let room = c.requires.room in
+    let (h, met, roomy) = c.requires.room in
     let at : slice_get m.parties p ≡ Some Rest = sym c.stage.ensures ∙ c.in-Some-Rest.is ∙ ap (λ l. Some l) c.in-Some-Rest.field-0-is in
     let took : (after_step m p step.Take).1 ≡ Ok answer.Taken = sym (ap (λ o. o.1) c.act.ensures) ∙ (c.in-Ok-Taken.is ∙ ap (λ a. Ok a) c.in-Ok-Taken.field-0-is) in
-    let T = subst (Took room.0 p) (sym (ap (λ o. o.0) c.act.ensures)) (taken_first room.0 m p room.1 at took) in
-    (_, T.meets, rw T.held_is room.2)
+    let T = subst (Took h p) (sym (ap (λ o. o.0) c.act.ensures)) (taken_first h m p met at took) in
+    (_, T.meets, rw T.held_is roomy)
 
 pub act-requires-in-Ok-Taken : goal.act-requires-in-Ok-Taken
 act-requires-in-Ok-Taken g c =

@@ -8,4 +8,5 @@ returns g c = c.in-Err.ensures.value_returned
 
 pub returns-in-Ok-new : goal.returns-in-Ok-new
 returns-in-Ok-new g c =
-    (ap (λ v. Some v) c.in-Ok-new.ensures.kept, c.in-Ok.ensures.1 ∙ sym (ap (λ q. new_party q.table c.args.rooms) c.queue.view_is), ap (λ q. capacity q.table) c.queue.view_is ∙ c.in-Ok.ensures.2)
+    let (_, party_is, wide) = c.in-Ok.ensures in
+    (ap (λ v. Some v) c.in-Ok-new.ensures.kept, party_is ∙ sym (ap (λ q. new_party q.table c.args.rooms) c.queue.view_is), ap (λ q. capacity q.table) c.queue.view_is ∙ wide)
