@@ -9,6 +9,7 @@ ghost use Rattle.cordyceps_queue.specs.Cores.Drain.{count_held};
 
 use crate::cores::rooms::Rooms;
 use crate::cores::stage::Stage;
+use crate::cores::steps::QueueStep::{Clear, Give, Link, ReadHead, ReadNext, Swap, Take};
 use crate::cores::steps::{Answered, QueueAnswer, QueueStep};
 use cordyceps_base::shared::StepError;
 use std::alloc::{AllocError, Global};
@@ -239,44 +240,23 @@ impl<E: Drop> Machine<E> {
         let Some(stage) = self.stage(party) else {
             return Err((StepError::NotThere, step.into_element()));
         };
-        match step {
-            QueueStep::Clear(Some(element)) => match stage {
-                Stage::Rest => self.clear(party, element),
-                _ => Err((StepError::NotThere, Some(element))),
-            },
-            QueueStep::Clear(None) => match stage {
-                Stage::PutClear(tail) => self.link(party, 0, None, Stage::PutSwap(tail)),
-                _ => Err((StepError::NotThere, None)),
-            },
-            QueueStep::Swap => match stage {
-                Stage::Cleared(room) => self.swap(party, room, Stage::Swapped(room, self.head)),
-                Stage::PutSwap(tail) => self.swap(party, 0, Stage::PutLink(tail, self.head)),
-                _ => Err((StepError::NotThere, None)),
-            },
-            QueueStep::Link => match stage {
-                Stage::Swapped(room, old) => self.link(party, old, Some(room), Stage::Rest),
-                Stage::PutLink(tail, old) => self.link(party, old, Some(0), Stage::PutRead(tail)),
-                _ => Err((StepError::NotThere, None)),
-            },
-            QueueStep::Take => match stage {
-                Stage::Rest => self.take(party),
-                _ => Err((StepError::NotThere, None)),
-            },
-            QueueStep::ReadNext => match stage {
-                Stage::Holding(tail) => self.look(party, tail),
-                Stage::Second(tail) => self.read(party, tail),
-                Stage::PutRead(tail) => self.read_again(party, tail),
-                _ => Err((StepError::NotThere, None)),
-            },
-            QueueStep::ReadHead => match stage {
-                Stage::StubNull => self.head_stub(party),
-                Stage::Null(tail) => self.head_tail(party, tail),
-                _ => Err((StepError::NotThere, None)),
-            },
-            QueueStep::Give => match stage {
-                Stage::Holding(tail) => self.give(party, tail),
-                _ => Err((StepError::NotThere, None)),
-            },
+        match (stage, step) {
+            (Stage::Rest, Clear(Some(element))) => self.clear(party, element),
+            (Stage::Rest, Take) => self.take(party),
+            (Stage::Cleared(room), Swap) => self.swap(party, room, Stage::Swapped(room, self.head)),
+            (Stage::Swapped(room, old), Link) => self.link(party, old, Some(room), Stage::Rest),
+            (Stage::Holding(tail), ReadNext) => self.look(party, tail),
+            (Stage::Holding(tail), Give) => self.give(party, tail),
+            (Stage::StubNull, ReadHead) => self.head_stub(party),
+            (Stage::Second(tail), ReadNext) => self.read(party, tail),
+            (Stage::Null(tail), ReadHead) => self.head_tail(party, tail),
+            (Stage::PutClear(tail), Clear(None)) => self.link(party, 0, None, Stage::PutSwap(tail)),
+            (Stage::PutSwap(tail), Swap) => self.swap(party, 0, Stage::PutLink(tail, self.head)),
+            (Stage::PutLink(tail, old), Link) => {
+                self.link(party, old, Some(0), Stage::PutRead(tail))
+            }
+            (Stage::PutRead(tail), ReadNext) => self.read_again(party, tail),
+            (_, step) => Err((StepError::NotThere, step.into_element())),
         }
     }
 }
