@@ -158,8 +158,8 @@ module _ {E : Type 0} where
           becomes = subst (λ z. Becomes s k v r.0.view
               record { words = set s.words i n; homes = homes_after homes z a; views = set s.views id r.0.view })
               (sym hand)
-              (subst (λ (z : Homes E × Hand E × List (View E)). Becomes s k v r.0.view
-              record { words = set s.words i n; homes = homes_after z.0 z.1 r.0.act; views = z.2 })
+              (subst (λ (z : Homes E × Hand E × List (View E)). let (at_home, held, views) = z in Becomes s k v r.0.view
+              record { words = set s.words i n; homes = homes_after at_home held r.0.act; views = views })
               (λ j. (h j, c j, set_twice s.views id (view_returned v) r.0.view j))
               (becomes_returned s k id v r.0.view (stepped (table_returned s id v) i n id [] r.0.view r.0.act) back
               r.0.becomes));

@@ -111,7 +111,7 @@ module _ {E : Type 0} where
       k.spells in
       let spells : SpellsWords (bit_of b.0.becomes.now.uses) b.0.becomes.now.chain.rooms (set k.words i 0)
       (set s.words i (get_or s.words i 0)) (set s.views id w) =
-      subst (λ (z : List (ℕ × ℕ) × List ℕ × List ℕ). SpellsWords (bit_of z.0) b.0.becomes.now.chain.rooms z.1 z.2
+      subst (λ (z : List (ℕ × ℕ) × List ℕ × List ℕ). let (uses, plain, words) = z in SpellsWords (bit_of uses) b.0.becomes.now.chain.rooms plain words
       (set s.views id w)) (λ j. (sym b.0.becomes.uses j, ap (λ n. set k.words n 0) index j, words_are j)) spelt in (
         w,
         b.0.act,
@@ -179,7 +179,7 @@ module _ {E : Type 0} (s : TableState E) (k : RuleHolds s) (id : ℕ) (v : View 
       let words_are : s.words ≡ set s.words i (get_or s.words i 0) = sym (set-get_or s.words i 0) in record {
         words = set k.words i (get_or k.words i 0);
         plain = b.now;
-        spells = subst (λ (z : List (ℕ × ℕ) × List ℕ × List ℕ). SpellsWords (bit_of z.0) b.now.chain.rooms z.1 z.2 (set s.views id w)) (λ j. (sym b.uses j, plain_are j, words_are j))
+        spells = subst (λ (z : List (ℕ × ℕ) × List ℕ × List ℕ). let (uses, plain, words) = z in SpellsWords (bit_of uses) b.now.chain.rooms plain words (set s.views id w)) (λ j. (sym b.uses j, plain_are j, words_are j))
             (spells_low (bit_of k.plain.uses) k.plain.chain.rooms b.now.chain.rooms k.words s.words k.words s.words s.views id w (λ _. refl) (λ _. refl) k.spells.long k.spells.head k.spells.right
             (λ j x a. elim (b.rooms j x a) [
               | inl e ↦ inl (
