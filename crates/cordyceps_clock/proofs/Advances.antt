@@ -4,8 +4,8 @@ use Rattle.std.specs.List.{AllByRecursion, filter}
 use Rattle.std.specs.List.Sorted.{IsPermutation, IsStableBy, ties}
 use Rattle.std.proofs.lemmas.Bool.{cases_eq, cases_lt}
 use Rattle.std.proofs.lemmas.List.{get_or-set_same, get_or-set_other}
-use Rattle.std.proofs.lemmas.List.Elements.{filter-append, All-from_recursion, recursion_from_All}
-use Rattle.std.proofs.lemmas.List.Sorted.{All-permutation, IsPermutation-sym, IsPermutation-append_left}
+use Rattle.std.proofs.lemmas.List.Elements.{filter-append}
+use Rattle.std.proofs.lemmas.List.Sorted.{IsPermutation-sym, IsPermutation-append_left}
 use denote.RawPtr.{Ptr}
 use Rattle.cordyceps_base.specs.Element.{Element}
 use Rattle.cordyceps_base.specs.Nodes.{Nodes}
@@ -13,15 +13,13 @@ use Rattle.cordyceps_single.specs.ByKey.{AscendsBy}
 use Rattle.cordyceps_stable.proofs.Classes.{all_append, all_front, all_back, all_weaker}
 use Rattle.cordyceps_clock.specs.Buckets.{bucket_of, last_spot, number_at, row, AreDue, AreLater, IsAdvanced, IsKept, IsFirstBucket, IsSpreading, IsTimed}
 use Rattle.cordyceps_clock.proofs.Numbers.{now_itself, is_now, bucket-le, earlier, stays, falls}
+use Rattle.cordyceps_clock.proofs.Spreads.{permuted}
 use Rattle.cordyceps_clock.proofs.Rows.{row_in, row_out, row_none, row_below, row_two}
 
 module _ {A : Type 0} where
   both : (P Q : A → Type 0) (xs : List A) → AllByRecursion P xs → AllByRecursion Q xs → AllByRecursion (λ x. P x × Q x) xs
   both P Q [] p q = tt
   both P Q (x ∷ xs) p q = ((p.0, q.0), both P Q xs p.1 q.1)
-
-  permuted : (P : A → Type 0) (xs ys : List A) → IsPermutation xs ys → AllByRecursion P xs → AllByRecursion P ys
-  permuted P xs ys h p = recursion_from_All P ys (All-permutation P xs ys h (All-from_recursion P xs p))
 
   ascends_back : (number : A → ℕ) (xs ys : List A) → AscendsBy number (xs ++ ys) → AscendsBy number ys
   ascends_back number [] ys h = h

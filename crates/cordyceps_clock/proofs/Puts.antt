@@ -7,7 +7,7 @@ use denote.RawPtr.{Ptr}
 use Rattle.cordyceps_base.specs.BySpot.{HasSpot, IsTaken, IsPutAfter}
 use Rattle.cordyceps_base.specs.Element.{Element}
 use Rattle.cordyceps_base.specs.Nodes.{Nodes, spots}
-use Rattle.cordyceps_base.specs.Spots.{AreDistinct, IsNew}
+use Rattle.cordyceps_base.specs.Spots.{AreDistinct}
 use Rattle.cordyceps_stable.proofs.Holding.{spot_is_at, unique}
 use Rattle.cordyceps_clock.specs.Buckets.{AreEmpty, IsKept, IsNearest, IsPutIn, IsSet}
 use Rattle.cordyceps_clock.proofs.Rows.{parted, kept_put}
@@ -19,14 +19,6 @@ module _ {X : Type 0} (P : Ptr → Nodes X → Type 0) where
 
 -- ---- a node less
 module _ {X : Type 0} where
-  new_less : (q : Ptr) (b a : Nodes X) (n : Ptr × Element X) → IsNew q (spots (b ++ n ∷ a)) → IsNew q (spots (b ++ a))
-  new_less q [] a n h = h.1
-  new_less q (x ∷ b) a n h = (h.0, new_less q b a n h.1)
-
-  pub distinct_less : (b a : Nodes X) (n : Ptr × Element X) → AreDistinct (spots (b ++ n ∷ a)) → AreDistinct (spots (b ++ a))
-  distinct_less [] a n h = h.1
-  distinct_less (x ∷ b) a n h = (new_less x.0 b a n h.0, distinct_less b a n h.1)
-
   -- what a moved node leaves
   pub left_is : (c done more rest : Nodes X) (p : Ptr) (e o : Element X) → AreDistinct (spots c) → c ≡ done ++ (p, e) ∷ more → IsTaken c p o rest → (e ≡ o) × (rest ≡ done ++ more)
   left_is c done more rest p e o distinct is (before, after, was, left) =

@@ -8,12 +8,12 @@ use Rattle.cordyceps_base.specs.Element.{Element, values}
 use Rattle.cordyceps_base.specs.Nodes.{Nodes, elements, spots, with_item}
 use Rattle.cordyceps_base.specs.Spots.{AreDistinct}
 use Rattle.cordyceps_single.specs.ByKey.{by_key}
-use Rattle.cordyceps_stable.proofs.Holding.{after_taken, first_taken, has_split, left_is_at, spot_is_at, taken_gone}
+use Rattle.cordyceps_stable.proofs.Holding.{after_taken, distinct_less, first_taken, has_split, left_is_at, spot_is_at, taken_gone}
 use Rattle.cordyceps_clock.specs.Buckets.{bucket_of, number_at, AreDue, IsChanged, IsKept, IsMovedIn, IsNearest}
 use Rattle.cordyceps_clock.specs.Buckets.{IsPutIn, IsRenewed, IsSet, IsTimed}
 use Rattle.cordyceps_clock.specs.Clock.{Holds}
 use Rattle.cordyceps_clock.proofs.Pops.{due_left, holds_pushed, holds_removed, timed_pushed}
-use Rattle.cordyceps_clock.proofs.Puts.{distinct_less, left_is, nearest_has, put_after, put_first}
+use Rattle.cordyceps_clock.proofs.Puts.{left_is, nearest_has, put_after, put_first}
 
 module _ {X : Type 0} where
   -- the element that had a value, once another was written

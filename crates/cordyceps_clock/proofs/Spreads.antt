@@ -18,10 +18,10 @@ use Rattle.cordyceps_single.proofs.Preorder.{by_test, ranks}
 use Rattle.cordyceps_single.proofs.Keys.{at_most}
 use Rattle.cordyceps_stable.specs.Arranged.{precedes}
 use Rattle.cordyceps_stable.proofs.Classes.{all_weaker, all_front, all_back, in_class, out_of_class, none_in, tie_parts}
-use Rattle.cordyceps_stable.proofs.Holding.{spot_is_at, unique, taken_gone}
+use Rattle.cordyceps_stable.proofs.Holding.{distinct_less, spot_is_at, unique, taken_gone}
 use Rattle.cordyceps_clock.specs.Buckets.{last_spot, number_at, AreDue, IsKept, IsMovedIn, IsNearest, IsPutIn, IsSet, IsSpreading}
 use Rattle.cordyceps_clock.proofs.Numbers.{earlier}
-use Rattle.cordyceps_clock.proofs.Puts.{distinct_less, left_is}
+use Rattle.cordyceps_clock.proofs.Puts.{left_is}
 use Rattle.cordyceps_clock.proofs.Rows.{Parted, parted, kept_put, row_below}
 
 module _ {X : Type 0} (number : Ptr × Element X → ℕ) where
@@ -153,7 +153,7 @@ module _ {A : Type 0} where
       let back : IsPermutation is mid = subst (λ (l : List A × List A). IsPermutation l.0 l.1) (λ i. (sym (append_assoc low (n ∷ high) ahead) i, n ∷ sym (append_assoc low high ahead) i)) (IsPermutation-middle low n (high ++ ahead)) in
       IsPermutation-trans first was is moved (IsPermutation-trans was mid is (IsPermutation-middle (low ++ high) n ahead) (IsPermutation-sym is mid back))
 
-  permuted : (P : A → Type 0) (xs ys : List A) → IsPermutation xs ys → AllByRecursion P xs → AllByRecursion P ys
+  pub permuted : (P : A → Type 0) (xs ys : List A) → IsPermutation xs ys → AllByRecursion P xs → AllByRecursion P ys
   permuted P xs ys h p = recursion_from_All P ys (All-permutation P xs ys h (All-from_recursion P xs p))
 
 module _ {X : Type 0} (of : X → ℕ) where

@@ -8,14 +8,11 @@ use denote.RawPtr.{Ptr}
 use Rattle.cordyceps_base.specs.BySpot.{HasSpot, IsTaken}
 use Rattle.cordyceps_base.specs.Element.{Element}
 use Rattle.cordyceps_base.specs.Nodes.{Nodes, spots}
-use Rattle.cordyceps_base.specs.Spots.{AreDistinct, IsNew}
+use Rattle.cordyceps_base.specs.Spots.{AreDistinct}
 use Rattle.cordyceps_stable.specs.Agreeing.{HasElementAt, Agrees, IsUpdated}
-use Rattle.cordyceps_stable.proofs.Agreeing.{put_agrees, taken_agrees}
+use Rattle.cordyceps_stable.proofs.Agreeing.{none_some, put_agrees, taken_agrees}
 use Rattle.cordyceps_heap.proofs.Apart.{permuted_distinct}
-use Rattle.cordyceps_stable.proofs.Holding.{has_split, spot_is_at, left_is_at, taken_or_left, taken_gone, joined_is_at, front_is_at}
-
-none_some : (o : Option Ptr) (p : Ptr) → o ≡ None → o ≡ Some p → ⊥
-none_some o p none some = let no : None ≡ Some p = sym none ∙ some in cc
+use Rattle.cordyceps_stable.proofs.Holding.{distinct_less, has_split, spot_is_at, left_is_at, taken_or_left, taken_gone, joined_is_at, front_is_at}
 
 module _ {X : Type 0} where
   contains_at : (b a : List X) (x : X) → Contains (b ++ x ∷ a) x
@@ -51,14 +48,6 @@ module _ {X : Type 0} where
   -- what `pop_front` removes
   pub popped_is_at : (c d : Nodes X) (p : Ptr) (e : Element X) → IsPermutation c ((p, e) ∷ d) → HasElementAt c p e
   popped_is_at c d p e kept = permuted_is_at ((p, e) ∷ d) c p e (IsPermutation-sym c ((p, e) ∷ d) kept) ([], d, refl)
-
-  new_less : (q : Ptr) (b a : Nodes X) (n : Ptr × Element X) → IsNew q (spots (b ++ n ∷ a)) → IsNew q (spots (b ++ a))
-  new_less q [] a n h = h.1
-  new_less q (x ∷ b) a n h = (h.0, new_less q b a n h.1)
-
-  distinct_less : (b a : Nodes X) (n : Ptr × Element X) → AreDistinct (spots (b ++ n ∷ a)) → AreDistinct (spots (b ++ a))
-  distinct_less [] a n h = h.1
-  distinct_less (x ∷ b) a n h = (new_less x.0 b a n h.0, distinct_less b a n h.1)
 
   only_at : (n : Ptr × Element X) (q : Ptr) (o : Element X) → HasElementAt (n ∷ []) q o → (q, o) ≡ n
   only_at n q o ([], a, is) = let first : n ≡ (q, o) = cc in sym first

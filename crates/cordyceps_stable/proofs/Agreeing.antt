@@ -15,7 +15,7 @@ abbrev spot_or : Ptr → Option Ptr → Ptr
 spot_or q None = q
 spot_or q (Some p) = p
 
-none_some : (o : Option Ptr) (p : Ptr) → o ≡ None → o ≡ Some p → ⊥
+pub none_some : (o : Option Ptr) (p : Ptr) → o ≡ None → o ≡ Some p → ⊥
 none_some o p none some = let no : None ≡ Some p = sym none ∙ some in cc
 
 -- what an updated map has at a number

@@ -160,3 +160,13 @@ module _ {X : Type 0} where
   written_lay (n ∷ c) zero w q o (y ∷ b, a, is) = (o, refl, (n ∷ b, a, ap (λ s. n ∷ rest_of s) is))
   written_lay (n ∷ c) (suc k) w q o ([], a, is) = (o, refl, ([], c, ap (λ s. head_or n s ∷ c) is))
   written_lay (n ∷ c) (suc k) w q o (y ∷ b, a, is) = let (e, key, (f, r, on)) = written_lay c k w q o (b, a, ap rest_of is) in (e, key, (n ∷ f, r, ap (λ s. n ∷ s) on))
+
+module _ {X : Type 0} where
+  new_less : (q : Ptr) (b a : Nodes X) (n : Ptr × Element X) → IsNew q (spots (b ++ n ∷ a)) → IsNew q (spots (b ++ a))
+  new_less q [] a n h = h.1
+  new_less q (x ∷ b) a n h = (h.0, new_less q b a n h.1)
+
+  -- with one node less the spots are distinct too
+  pub distinct_less : (b a : Nodes X) (n : Ptr × Element X) → AreDistinct (spots (b ++ n ∷ a)) → AreDistinct (spots (b ++ a))
+  distinct_less [] a n h = h.1
+  distinct_less (x ∷ b) a n h = (new_less x.0 b a n h.0, distinct_less b a n h.1)
