@@ -16,6 +16,7 @@ pub mod PartySeats
 pub mod PoolCalls
 pub mod PoolJoins
 pub mod PoolKeeps
+pub mod Regroups
 pub mod ReturnKeeps
 pub mod RightHolds
 pub mod SeatNames

@@ -1,19 +1,13 @@
--- Parties at rest that are split and joined: what a machine meets stays so.
-use Rattle.std.proofs.Common.{◌≡◌, ◌≢◌, ◌⊎◌, ℕ, zero, suc, List, [], ◌∷◌, ◌++◌, take, drop, Option, Some, None, refl, sym, ap, ◌∙◌, subst, inl, inr, arith}
+-- Rooms that go to another owner: whose the others are stays so.
+use Rattle.std.proofs.Common.{◌≡◌, ◌≢◌, ℕ, zero, suc, List, [], ◌∷◌, ◌++◌, take, drop, refl, sym, ap, ◌∙◌, inl, inr, arith}
 use native.Mathlib.Decide.{ℕ_discrete}
 use Rattle.cordyceps_shared.proofs.Places.{at_take, at_drop, at_either}
-use Rattle.cordyceps_queue.specs.History.{Event}
-use Rattle.cordyceps_queue.specs.Past.{IsSettled}
-use Rattle.cordyceps_queue.specs.declared.cores.stage.Stage.{Stage}
-use Rattle.cordyceps_queue.specs.declared.cores.stage.Stage.TheVariants.{Rest}
 use Rattle.cordyceps_shared.specs.Places.{ItemAt}
-use Rattle.cordyceps_queue.specs.Cores.Meets.{Owner, Shared, Spare, Ready, Unmade, Owes, tail_of, Chain, OwnsRooms, Joined, AtStage, RightIs, Meets}
-use Rattle.cordyceps_queue.specs.Cores.Abstract.{AbstractParty, AbstractMachine, update}
-use Rattle.cordyceps_queue.proofs.CoreTheory.Basics.{none_some, put_same, put_other}
-use Rattle.cordyceps_queue.proofs.CoreTheory.OtherParties.{fits_dealt, taken_with}
-use Rattle.cordyceps_queue.proofs.CoreTheory.ProducerSteps.{spare_shared, ready_spare, spare_unmade, spare_one}
+use Rattle.cordyceps_queue.specs.Cores.Meets.{Owner, Spare, OwnsRooms}
+use Rattle.cordyceps_queue.specs.Cores.Abstract.{update}
+use Rattle.cordyceps_queue.proofs.CoreTheory.Basics.{put_same, put_other}
+use Rattle.cordyceps_queue.proofs.CoreTheory.ProducerSteps.{spare_one}
 
--- ---- rooms that go to another owner
 abbrev pub deal : Owner → List ℕ → (ℕ → Owner) → ℕ → Owner
 deal to [] owner = owner
 deal to (r ∷ rs) owner = update (deal to rs owner) r to
@@ -73,77 +67,3 @@ deal_behind owner k xs ys R apart once = record {
     ]
   ];
 }
-
--- ---- parties that come and go
-module _ {P E : Type 0} (m : AbstractMachine P E) (c : Chain) (h : List (Event P E)) (parties : ℕ → Option (AbstractParty P)) (owner : ℕ → Owner) (Gone : P → Type 0) where
-  -- parties at rest go, and others at rest come in their places or in new ones
-  pub record Regroups : Type 0 where
-    pub known : (q : P) → Dec (Gone q)
-    pub settled : (q : P) → Gone q → IsSettled q h
-    pub fixed : (r : ℕ) (o : Owner) → c.owner r ≡ o → ((j : ℕ) → o ≡ Spare j → ⊥) → owner r ≡ o
-    pub stays : (k : ℕ) (p : AbstractParty P) → m.party k ≡ Some p → (parties k ≡ Some p) ⊎ (Gone p.name × (p.stage ≡ Rest))
-    pub was : (k : ℕ) (p : AbstractParty P) → parties k ≡ Some p → (m.party k ≡ Some p) ⊎ ((p.stage ≡ Rest) × ((q : AbstractParty P) → m.party k ≡ Some q → Gone q.name))
-    pub rooms : (k : ℕ) (p : AbstractParty P) → parties k ≡ Some p → OwnsRooms owner k p.spare
-    pub names : (j k : ℕ) (p q : AbstractParty P) → parties j ≡ Some p → parties k ≡ Some q → p.name ≡ q.name → j ≡ k
-
-  module _ (M : Meets m c h) (G : Regroups) where
-    joined_still : (a b : ℕ) → Joined m.next m.party a b → Joined m.next parties a b
-    joined_still a b (inl l) = inl l
-    joined_still a b (inr o) = inr (
-      o.0,
-      record {
-        by = o.1.by;
-        who = o.1.who;
-        there = elim (G.stays o.1.by o.1.who o.1.there) [
-          | inl e ↦ e
-          | inr g ↦ absurd (subst (λ l. Owes l a b) g.1 o.1.owes)
-        ];
-        owes = o.1.owes;
-      },
-    )
-
-    right_still : (keeper : Option ℕ) → RightIs m.right m.party c.rooms h keeper → RightIs m.right parties c.rooms h keeper
-    right_still None R = R
-    right_still (Some j) R =
-        let there : parties j ≡ Some R.by = elim (G.stays j R.by R.there) [
-          | inl e ↦ e
-          | inr g ↦ absurd (none_some (sym (ap tail_of g.1) ∙ R.has))
-        ] in
-        taken_with R there R.held
-
-    fits_still : (j : ℕ) (q : P) (stage : Stage) → AtStage m.head m.next m.cell c.owner c.keeper c.rooms h j q stage → AtStage m.head m.next m.cell owner c.keeper c.rooms h j q stage
-    fits_still j q stage f = fits_dealt m c h owner j q (λ x e. G.fixed x (Ready j) e (λ b o. ready_spare refl o)) stage f
-
-    -- a party that comes had a name that was gone, or that no party had
-    come_settled : (k : ℕ) (p : AbstractParty P) → parties k ≡ Some p → ((q : AbstractParty P) → m.party k ≡ Some q → Gone q.name) → IsSettled p.name h
-    come_settled k p at gone = elim (G.known p.name) [
-      | yes g ↦ G.settled p.name g
-      | no not ↦ M.strangers p.name (λ j q e s. elim (G.stays j q e) [
-        | inl there ↦ not (subst Gone s (gone q (ap m.party (sym (G.names j k q p there at s)) ∙ e)))
-        | inr g ↦ not (subst Gone s g.0)
-      ])
-    ]
-
-    pub regroups_keep : Meets (record m { party = parties }) (record c { owner = owner }) h
-    regroups_keep = record {
-      legal = M.legal;
-      last = M.last;
-      ends = M.ends;
-      joined = λ i a b ia ib. joined_still a b (M.joined i a b ia ib);
-      once = M.once;
-      shared = λ i x ix. G.fixed x Shared (M.shared i x ix) (λ b e. spare_shared refl (sym e));
-      stub = G.fixed 0 Shared M.stub (λ b e. spare_shared refl (sym e));
-      unmade = λ x lt. G.fixed x Unmade (M.unmade x lt) (λ b e. spare_unmade refl (sym e));
-      holds = M.holds;
-      right = right_still c.keeper M.right;
-      fits = λ k p at. elim (G.was k p at) [
-        | inl e ↦ fits_still k p.name p.stage (M.fits k p e)
-        | inr w ↦ subst (AtStage m.head m.next m.cell owner c.keeper c.rooms h k p.name) (sym w.0) (come_settled k p at w.1)
-      ];
-      rooms = G.rooms;
-      names = G.names;
-      strangers = λ q away. elim (G.known q) [
-        | yes g ↦ G.settled q g
-        | no not ↦ M.strangers q (λ j p e s. elim (G.stays j p e) [ inl there ↦ away j p there s | inr g ↦ not (subst Gone s g.0) ])
-      ];
-    }

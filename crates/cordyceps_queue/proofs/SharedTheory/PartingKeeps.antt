@@ -1,7 +1,7 @@
 -- The rule of a queue's table at the start, and where a party is split in two or takes another in.
-use Rattle.std.proofs.Common.{◌≡◌, ◌≢◌, ◌⊎◌, ℕ, zero, suc, ◌+◌, ◌≤◌, List, [], ◌∷◌, ◌++◌, map, reverse, length, replicate, set, take, drop, Option, Some, None, refl, sym, ap, ◌∙◌, subst, inl, inr, ⊎_elim, arith, length-set, length-append, append-nil, take-append-drop}
+use Rattle.std.proofs.Common.{◌≡◌, ◌≢◌, ◌⊎◌, ℕ, zero, suc, ◌+◌, ◌≤◌, List, [], ◌∷◌, ◌++◌, map, reverse, length, replicate, set, take, drop, Option, Some, None, refl, sym, ap, ◌∙◌, subst, inl, inr, arith, length-set, length-append, append-nil, take-append-drop}
 use Rattle.std.proofs.lemmas.List.{reverse-append}
-use mathlib.Core.Option.{some}
+use mathlib.Core.Option.{some, some-injective}
 use native.Mathlib.Decide.{ℕ_discrete}
 use lib.ListN.{get_elem?, length-map, length-replicate}
 use Rattle.atomic_table.specs.Table.{opening}
@@ -24,21 +24,22 @@ use Rattle.cordyceps_queue.specs.History.{Event, actor}
 use Rattle.cordyceps_shared.specs.Places.{ItemAt}
 use Rattle.cordyceps_queue.specs.Cores.Meets.{Owner, Shared, Spare, Pooled, OwnsRooms, AtStage, Meets}
 use Rattle.cordyceps_queue.specs.Shared.Parting.{view_keeping, view_giving, view_absorbing, view_absorbed, view_without_told}
-use Rattle.cordyceps_queue.specs.Past.{IsLegalReversed, IsSettled}
+use Rattle.cordyceps_queue.specs.Past.{IsLegalReversed}
 use Rattle.cordyceps_queue.specs.Shared.Plays.{LegalReversed}
 use Rattle.cordyceps_shared.specs.FreeChains.{Links, MayJoin, leads}
 use Rattle.cordyceps_shared.proofs.FreeLinks.{links_drop, links_take, links_append}
 use Rattle.cordyceps_queue.specs.Shared.Parts.{AreNew}
 use Rattle.cordyceps_shared.specs.Slots.{Homes, EmptyAtHome}
 use Rattle.cordyceps_queue.specs.Shared.Rule.{TableState, History, link_of, party, party_of, machine_of, PlainHolds}
-use Rattle.cordyceps_queue.specs.Shared.View.{View, knows, name, newcomer, down_from, free_chain, cleared_count, room_count}
+use Rattle.cordyceps_queue.specs.Shared.View.{View, knows, newcomer, down_from, free_chain, cleared_count, room_count}
 use Rattle.cordyceps_queue.specs.Cores.Abstract.{AbstractParty}
-use Rattle.cordyceps_queue.proofs.CoreTheory.Basics.{at_only, some_inj, put_again}
+use Rattle.cordyceps_queue.proofs.CoreTheory.Basics.{at_only, put_again}
 use Rattle.cordyceps_queue.proofs.CoreTheory.NewMachines.{new_owner, is_unmade}
 use Rattle.cordyceps_queue.proofs.CoreTheory.ProducerSteps.{spare_one, spare_pooled}
-use Rattle.cordyceps_queue.proofs.SharedTheory.SeatNames.{party_was, name_known, names_differ}
-use Rattle.cordyceps_queue.proofs.CoreTheory.SplitParties.{deal, deal_else, deal_here, deal_fixed, deal_others, deal_kept, deal_given, deal_behind, Regroups, regroups_keep}
-use Rattle.cordyceps_queue.proofs.SharedTheory.WordsAsMachine.{party_as, party_spelled, core, party_at, rooms_of, parties_put, pool_stays, count_same, spent_else, Stays}
+use Rattle.cordyceps_queue.proofs.SharedTheory.SeatNames.{party_was, names_differ}
+use Rattle.cordyceps_queue.proofs.CoreTheory.SplitParties.{deal, deal_else, deal_here, deal_fixed, deal_others, deal_kept, deal_given, deal_behind}
+use Rattle.cordyceps_queue.proofs.SharedTheory.Regroups.{Regroups, regroups_keep}
+use Rattle.cordyceps_queue.proofs.SharedTheory.WordsAsMachine.{party_spelled, core, party_at, rooms_of, parties_put, pool_stays, count_same, spent_else, Stays}
 
 pub at_down_from : (n i r : ℕ) → ItemAt (down_from n) i r → (i + r ≡ n) × (1 ≤ r)
 at_down_from zero i r a = absurd a
@@ -135,6 +136,9 @@ module _ (E : Type 0) where
       }
 
 -- ---- splitting
+at_rest : {E : Type 0} (views : List (View E)) (id : ℕ) (v : View E) (i : ℕ) (u : View E) → get_elem? views id ≡ some v → v.stage ≡ Rest → i ≡ id → get_elem? views i ≡ some u → u.stage ≡ Rest
+at_rest {E} views id v i u at rest same e = ap (λ (z : View E). z.stage) (some-injective u v (sym e ∙ ap (get_elem? views) same ∙ at)) ∙ rest
+
 module _ {E : Type 0} (s : TableState E) (k : PlainHolds s) (id n : ℕ) (v : View E) (named : v.known.share ≢ []) (rest : v.stage ≡ Rest) (bare : v.back ≡ []) (at : get_elem? s.views id ≡ some v) where
   abbrev left_view : View E
   left_view = view_keeping n v
@@ -151,18 +155,6 @@ module _ {E : Type 0} (s : TableState E) (k : PlainHolds s) (id n : ℕ) (v : Vi
   abbrev owner_cut : ℕ → Owner
   owner_cut = deal (Spare far) (take n v.free) k.chain.owner
 
-  cut_still : (i : ℕ) (u : View E) → i ≢ id → get_elem? s.views i ≡ some u → get_elem? cut_views i ≡ some u
-  cut_still i u ne e = at_longer (set s.views id left_view) (right ∷ []) i u (set_else s.views id i left_view ne ∙ e)
-
-  far_free : (q : AbstractParty Name) → (core s k).party far ≡ Some q → ⊥
-  far_free q e =
-      let w = party_was (get_elem? s.views far) q e in
-      let l = at_length s.views far w.view w.there in
-      let same = length-set s.views id left_view in omega arith
-
-  was_here : (q : AbstractParty Name) → (core s k).party id ≡ Some q → party v ≡ q
-  was_here q e = some_inj (sym (party_at s k id v at named) ∙ e)
-
   free_rooms : OwnsRooms k.chain.owner id v.free
   free_rooms = subst (OwnsRooms k.chain.owner id) (ap (λ l. v.free ++ l) bare ∙ append-nil v.free) (rooms_of s k id v at named)
 
@@ -172,36 +164,21 @@ module _ {E : Type 0} (s : TableState E) (k : PlainHolds s) (id n : ℕ) (v : Vi
   cut_owned : SharesDisjoint knows cut_views k.history
   cut_owned = owned_cut knows s.views k.history id v left_view right at refl refl named k.owned
 
-  abbrev Gone_cut : Name → Type 0
-  Gone_cut q = q ≡ name v
-
-  abbrev Was_cut : ℕ → AbstractParty Name → Type 0
-  Was_cut i p = ((core s k).party i ≡ Some p) ⊎ ((p.stage ≡ Rest) × ((q : AbstractParty Name) → (core s k).party i ≡ Some q → Gone_cut q.name))
-
-  cut_groups : Regroups (core s k) k.chain (reverse (events k.history)) (λ j. party_of (get_elem? cut_views j)) owner_cut Gone_cut
+  cut_groups : Regroups s.views cut_views k.chain owner_cut
   cut_groups = record {
-    known = λ q. name_known q (name v);
-    settled = λ q e. subst (λ x. IsSettled x (reverse (events k.history))) (sym e)
-        (party_as s k id v at named rest);
     fixed = deal_fixed k.chain.owner id (Spare far) (take n v.free) taken;
-    stays = λ i p e. elim (ℕ_discrete i id) [
-      | yes same ↦ let is = was_here p (ap (core s k).party (sym same) ∙ e) in inr (ap (λ (x : AbstractParty Name). x.name) (sym is), ap (λ (x : AbstractParty Name). x.stage) (sym is) ∙ rest)
-      | no ne ↦ let w = party_was (get_elem? s.views i) p e in inl (ap party_of (cut_still i w.view ne w.there ∙ sym w.there) ∙ e)
+    stays = λ i u e. elim (ℕ_discrete i id) [
+      | yes same ↦ inr (at_rest s.views id v i u at rest same e)
+      | no ne ↦ inl (at_longer (set s.views id left_view) (right ∷ []) i u (set_else s.views id i left_view ne ∙ e))
     ];
-    was = λ i p e.
-        let w = party_was (get_elem? cut_views i) p e in
-        subst (Was_cut i) w.is (set_more (λ j u. u.known.share ≢ [] → Was_cut j (party u)) s.views id left_view right
-        (λ _. inr (rest, λ q e. ap (λ (x : AbstractParty Name). x.name) (sym (was_here q e))))
-        (λ _. inr (refl, λ q e. absurd (far_free q e)))
-        (λ j u ne there some_name. inl (party_at s k j u there some_name))
-        i w.view w.there w.named);
-    rooms = λ i p e.
-        let w = party_was (get_elem? cut_views i) p e in
-        subst (λ (q : AbstractParty Name). OwnsRooms owner_cut i q.spare) w.is (set_more (λ j u. u.known.share ≢ [] → OwnsRooms owner_cut j (party u).spare) s.views id left_view right
+    comes = set_more (λ i u. (get_elem? s.views i ≡ some u) ⊎ ((u.stage ≡ Rest) × ((z : View E) → get_elem? s.views i ≡ some z → z.stage ≡ Rest))) s.views id left_view right
+        (inr (rest, λ z e. at_rest s.views id v id z at rest refl e))
+        (inr (refl, λ z e. let l = at_length s.views far z e in let same = length-set s.views id left_view in absurd (omega arith)))
+        (λ i u ne e. inl e);
+    rooms = set_more (λ j u. u.known.share ≢ [] → OwnsRooms owner_cut j (u.free ++ u.back)) s.views id left_view right
         (λ _. subst (OwnsRooms owner_cut id) (sym (ap (λ l. drop n v.free ++ l) bare ∙ append-nil (drop n v.free))) (deal_kept k.chain.owner id v.free free_rooms n (Spare far)))
         (λ _. subst (OwnsRooms owner_cut far) (sym (append-nil (take n v.free))) (deal_given k.chain.owner id v.free free_rooms n far))
-        (λ j u ne there some_name. deal_others k.chain.owner id (Spare far) (take n v.free) taken j (u.free ++ u.back) ne (rooms_of s k j u there some_name))
-        i w.view w.there w.named);
+        (λ j u ne there some_name. deal_others k.chain.owner id (Spare far) (take n v.free) taken j (u.free ++ u.back) ne (rooms_of s k j u there some_name));
     names = names_differ cut_views k.history cut_owned;
   }
 
@@ -213,7 +190,7 @@ module _ {E : Type 0} (s : TableState E) (k : PlainHolds s) (id n : ℕ) (v : Vi
       cell = k.cell;
       chain = record k.chain { owner = owner_cut };
       pool = k.pool;
-      meets = regroups_keep (core s k) k.chain (reverse (events k.history)) (λ j. party_of (get_elem? cut_views j)) owner_cut Gone_cut k.meets cut_groups;
+      meets = regroups_keep s.views cut_views k.chain owner_cut k.cell s.words (reverse (events k.history)) k.meets cut_groups;
       wide = k.wide;
       stub = k.stub;
       full = k.full;
@@ -266,15 +243,6 @@ module _ {E : Type 0} (s : TableState E) (k : PlainHolds s) (id other : ℕ) (v 
   there_first : get_elem? s.views other ≡ some w
   there_first = was_there s.views id other (view_absorbing v w) w apart there
 
-  join_still : (i : ℕ) → i ≢ id → i ≢ other → get_elem? joint i ≡ get_elem? s.views i
-  join_still i ne no_other = set_else (set s.views id (view_absorbing v w)) other i view_absorbed no_other ∙ set_else s.views id i (view_absorbing v w) ne
-
-  first_was : (q : AbstractParty Name) → (core s k).party id ≡ Some q → party v ≡ q
-  first_was q e = some_inj (sym (party_at s k id v at named) ∙ e)
-
-  second_was : (q : AbstractParty Name) → (core s k).party other ≡ Some q → party w ≡ q
-  second_was q e = some_inj (sym (party_at s k other w there_first named_too) ∙ e)
-
   first_rooms : OwnsRooms k.chain.owner id v.free
   first_rooms = subst (OwnsRooms k.chain.owner id) (ap (λ l. v.free ++ l) bare ∙ append-nil v.free) (rooms_of s k id v at named)
 
@@ -284,48 +252,24 @@ module _ {E : Type 0} (s : TableState E) (k : PlainHolds s) (id other : ℕ) (v 
   joint_owned : SharesDisjoint knows joint relabelled_history
   joint_owned = owned_join knows s.views k.history id other v w (view_absorbing v w) view_absorbed at apart there refl refl named k.owned
 
-  abbrev Gone_join : Name → Type 0
-  Gone_join q = (q ≡ name v) ⊎ (q ≡ name w)
-
-  abbrev Was_join : ℕ → AbstractParty Name → Type 0
-  Was_join i p = ((core s k).party i ≡ Some p) ⊎ ((p.stage ≡ Rest) × ((q : AbstractParty Name) → (core s k).party i ≡ Some q → Gone_join q.name))
-
-  -- a party at rest has settled
-  rest_settled : (i : ℕ) (u : View E) → get_elem? s.views i ≡ some u → u.known.share ≢ [] → u.stage ≡ Rest → IsSettled (name u) past
-  rest_settled i u e some_name idle = party_as s k i u e some_name idle
-
-  join_groups : Regroups (core s k) k.chain past (λ j. party_of (get_elem? joint j)) owner_join Gone_join
+  join_groups : Regroups s.views joint k.chain owner_join
   join_groups = record {
-    known = λ q. elim (name_known q (name v)) [
-      | yes e ↦ yes (inl e)
-      | no not ↦ elim (name_known q (name w)) [ yes e ↦ yes (inr e) | no not_too ↦ no (λ g. ⊎_elim not not_too g) ]
-    ];
-    settled = λ q g. ⊎_elim
-        (λ (e : q ≡ name v). subst (λ x. IsSettled x past) (sym e) (rest_settled id v at named rest))
-        (λ (e : q ≡ name w). subst (λ x. IsSettled x past) (sym e) (rest_settled other w there_first named_too rest_too))
-        g;
     fixed = deal_fixed k.chain.owner other (Spare id) w.free second_rooms.own;
-    stays = λ i p e. elim (ℕ_discrete i id) [
-      | yes same ↦ let is = first_was p (ap (core s k).party (sym same) ∙ e) in inr (inl (ap (λ (x : AbstractParty Name). x.name) (sym is)), ap (λ (x : AbstractParty Name). x.stage) (sym is) ∙ rest)
+    stays = λ i u e. elim (ℕ_discrete i id) [
+      | yes same ↦ inr (at_rest s.views id v i u at rest same e)
       | no ne ↦ elim (ℕ_discrete i other) [
-        | yes same ↦ let is = second_was p (ap (core s k).party (sym same) ∙ e) in inr (inr (ap (λ (x : AbstractParty Name). x.name) (sym is)), ap (λ (x : AbstractParty Name). x.stage) (sym is) ∙ rest_too)
-        | no no_other ↦ inl (ap party_of (join_still i ne no_other) ∙ e)
+        | yes same ↦ inr (at_rest s.views other w i u there_first rest_too same e)
+        | no no_other ↦ inl (set_else (set s.views id (view_absorbing v w)) other i view_absorbed no_other ∙ set_else s.views id i (view_absorbing v w) ne ∙ e)
       ]
     ];
-    was = λ i p e.
-        let t = party_was (get_elem? joint i) p e in
-        subst (Was_join i) t.is (two_set (λ j u. u.known.share ≢ [] → Was_join j (party u)) s.views id other (view_absorbing v w) view_absorbed
-        (λ _. inr (refl, λ q e. inl (ap (λ (x : AbstractParty Name). x.name) (sym (first_was q e)))))
-        (λ some_name. absurd (some_name refl))
-        (λ j u ne no_other at some_name. inl (party_at s k j u at some_name))
-        i t.view t.there t.named);
-    rooms = λ i p e.
-        let t = party_was (get_elem? joint i) p e in
-        subst (λ (q : AbstractParty Name). OwnsRooms owner_join i q.spare) t.is (two_set (λ j u. u.known.share ≢ [] → OwnsRooms owner_join j (party u).spare) s.views id other (view_absorbing v w) view_absorbed
+    comes = two_set (λ i u. (get_elem? s.views i ≡ some u) ⊎ ((u.stage ≡ Rest) × ((z : View E) → get_elem? s.views i ≡ some z → z.stage ≡ Rest))) s.views id other (view_absorbing v w) view_absorbed
+        (inr (refl, λ z e. at_rest s.views id v id z at rest refl e))
+        (inr (refl, λ z e. at_rest s.views other w other z there_first rest_too refl e))
+        (λ i u ne no_other e. inl e);
+    rooms = two_set (λ j u. u.known.share ≢ [] → OwnsRooms owner_join j (u.free ++ u.back)) s.views id other (view_absorbing v w) view_absorbed
         (λ _. subst (OwnsRooms owner_join id) (sym (append-nil (v.free ++ w.free))) (deal_behind k.chain.owner id v.free w.free first_rooms (λ i r a free. apart (sym (spare_one free (second_rooms.own i r a)))) second_rooms.once))
         (λ some_name. absurd (some_name refl))
-        (λ j u ne no_other at some_name. deal_others k.chain.owner other (Spare id) w.free second_rooms.own j (u.free ++ u.back) no_other (rooms_of s k j u at some_name))
-        i t.view t.there t.named);
+        (λ j u ne no_other at some_name. deal_others k.chain.owner other (Spare id) w.free second_rooms.own j (u.free ++ u.back) no_other (rooms_of s k j u at some_name));
     names = names_differ joint relabelled_history joint_owned;
   }
 
@@ -338,7 +282,7 @@ module _ {E : Type 0} (s : TableState E) (k : PlainHolds s) (id other : ℕ) (v 
       chain = record k.chain { owner = owner_join };
       pool = k.pool;
       meets = subst (λ l. Meets (machine_of k.cell s.words joint) (record k.chain { owner = owner_join }) l) same_past
-          (regroups_keep (core s k) k.chain past (λ j. party_of (get_elem? joint j)) owner_join Gone_join k.meets join_groups);
+          (regroups_keep s.views joint k.chain owner_join k.cell s.words past k.meets join_groups);
       wide = k.wide;
       stub = k.stub;
       full = k.full;
