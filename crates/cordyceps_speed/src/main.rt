@@ -108,7 +108,7 @@ enum Asked {
     Calls(Table),
     /// Collections at which threads meet.
     Meetings(Table),
-    /// Some rows alone, with so many elements or threads that put in.
+    /// Some rows alone, with a number of elements or of threads that put in.
     Alone(Rows, usize, Table),
 }
 
@@ -268,7 +268,7 @@ fn show_threads<R: Clock + Print + Threads + Wait + Sync>(
     show_meetings(rt, alloc, table)
 }
 
-/// Measures and shows some rows alone, with so many elements or threads that put in. Of a collection with rooms there
+/// Measures and shows some rows alone, with `count` elements or threads that put in. Of a collection with rooms there
 /// are at most as many elements as it may have rooms.
 fn show_alone<R: Clock + Print + Threads + Wait + Sync>(
     rt: &R,

@@ -5,7 +5,7 @@ ghost use Rattle.std.specs.Duration.{as_nanos, max_nanos};
 use std::fmt;
 use std::time::Duration;
 
-/// How long so many operations took, in rounds.
+/// How long a number of operations took, in rounds.
 #[derive(Clone, Copy)]
 pub struct Cost {
     /// The time of all of them.
@@ -29,7 +29,7 @@ impl fmt::Display for Tenths {
     }
 }
 
-/// The time of one of so many operations, in tenths of a nanosecond, rounded down. 0 where there was none.
+/// The time of one of `operations` operations, in tenths of a nanosecond, rounded down. 0 where there was none.
 fn tenths_of(time: Duration, operations: u64) -> u128
     ensures none { operations ≡ 0 → result ≡ 0 }
     ensures some { 0 < operations → result ≡ min (as_nanos time * 10) max_nanos / operations }

@@ -11,7 +11,7 @@ use cordyceps_list::cursor_mut::CursorMut;
 use cordyceps_list::list::List;
 use std::time::Clock;
 
-/// A cursor at an element with so many before it.
+/// A cursor at the element that `moves` others come before.
 fn cursor_at(list: &mut List<Item>, moves: usize) -> CursorMut<'_, Item> {
     let mut cursor = list.cursor_front_mut();
     for _ in 0..moves {

@@ -61,7 +61,7 @@ struct Shared {
 }
 
 impl Shared {
-    /// A free list with nothing in it and so many rooms, and as many blocks.
+    /// A free list with nothing in it and `count` rooms, and as many blocks.
     fn new(alloc: Global, count: usize) -> Result<Shared, Fault>
         requires { count ≤ MAX_ROOMS }
     {
@@ -180,7 +180,7 @@ impl<'a> Bench<Calls> for Own<'a> {
     }
 }
 
-/// Measures a local part with so many blocks.
+/// Measures a local part with `count` blocks.
 fn show_own<R: Clock + Print>(
     rt: &R,
     alloc: Global,
@@ -204,7 +204,7 @@ fn show_own<R: Clock + Print>(
     )
 }
 
-/// Measures free lists, and shows them: a local part with so many blocks, and what is shared, with so many others.
+/// Measures free lists, and shows them: a local part with `local` blocks, and what is shared, with `shared` others.
 /// Returns the sum of the numbers of what came out last.
 pub fn show_free_lists<R: Clock + Print>(
     rt: &R,

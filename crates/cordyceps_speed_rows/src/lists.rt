@@ -147,7 +147,7 @@ struct Lists {
 }
 
 impl Lists {
-    /// Makes so many elements, which wait in the order in which their nodes lie in memory, or are scattered there.
+    /// Makes `count` elements, which wait in the order in which their nodes lie in memory, or are scattered there.
     fn new(alloc: Global, count: usize, is_scattered: bool) -> Result<Lists, Fault> {
         let mut nodes = make_nodes(alloc, count)?;
         let even = with_room(alloc, count)?;

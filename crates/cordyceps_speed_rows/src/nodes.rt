@@ -40,7 +40,7 @@ pub fn make_nodes<L: Kind>(alloc: Global, count: usize) -> Result<Vec<Node<Item,
     Ok(nodes)
 }
 
-/// The sum of the numbers of so many nodes, modulo 2 to the 64. Fails where one is missing: it was dropped, since
+/// The sum of the numbers of `count` nodes, modulo 2 to the 64. Fails where one is missing: it was dropped, since
 /// memory was refused.
 pub fn sum_numbers<L: Kind>(nodes: &[Node<Item, L>], count: usize) -> Result<u64, Fault> {
     if nodes.len() != count {

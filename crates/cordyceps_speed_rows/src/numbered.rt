@@ -17,7 +17,7 @@ use std::time::{Clock, Duration};
 
 /// A collection, the least value first, whose elements are found by their numbers.
 pub trait ByNumber: Drop {
-    /// Makes an empty one, and a table with so many places.
+    /// Makes an empty one, and a table with `count` places.
     fn new(alloc: Global, count: usize) -> Result<Self, Fault>;
 
     /// Inserts an element, where its number has a place in the table that is empty, and drops it elsewhere.

@@ -96,7 +96,7 @@ fn consumer_of(queue: &MpscQueue<Item>, party: Party<Item>) -> Consumer<'_, Item
     }
 }
 
-/// Tries so many times to take an element out, by a call of the consumer each.
+/// Tries `tries` times to take an element out, by a call of the consumer each.
 fn consume_all(consumer: &mut Consumer<'_, Item>, nodes: &mut Vec<QueueNode>, tries: usize)
     requires { length nodes.old.items ≤ consumer.old.rooms }
     ensures seat { (consumer.new.table ≡ consumer.old.table) × (consumer.new.share ≡ consumer.old.share) }
@@ -109,7 +109,7 @@ fn consume_all(consumer: &mut Consumer<'_, Item>, nodes: &mut Vec<QueueNode>, tr
     }
 }
 
-/// Takes so many batches out, of at most so many elements each.
+/// Takes `count` batches out, of at most `most` elements each.
 fn take_batches(
     consumer: &mut Consumer<'_, Item>,
     batches: &mut Vec<Batch<Item>>,
@@ -148,7 +148,7 @@ fn unpack_all(mut batches: Vec<Batch<Item>>, nodes: &mut Vec<QueueNode>)
 }
 
 impl Queues {
-    /// An empty queue with so many rooms, and as many elements.
+    /// An empty queue with `count` rooms, and as many elements.
     fn new(alloc: Global, count: usize) -> Result<Queues, Fault>
         requires { count ≤ MAX_ROOMS }
     {
@@ -174,7 +174,7 @@ impl Queues {
         }
     }
 
-    /// Tries so many times to take an element out, by a call of the queue each.
+    /// Tries `tries` times to take an element out, by a call of the queue each.
     fn dequeue_all(&mut self, tries: usize) {
         for _ in 0..tries {
             if let Ok(node) = self.queue.try_dequeue(&mut self.party) {
@@ -183,7 +183,7 @@ impl Queues {
         }
     }
 
-    /// Puts so many elements in, and takes each out before the next.
+    /// Puts `turns` elements in, and takes each out before the next.
     fn alternate(&mut self, turns: usize) {
         for _ in 0..turns {
             if let Some(node) = self.nodes.pop() {
@@ -221,7 +221,7 @@ impl Queues {
         )
     }
 
-    /// Takes elements out in batches of at most so many, where none wait. Only the takings are measured.
+    /// Takes elements out in batches of at most `most`, where none wait. Only the takings are measured.
     fn take(self, rt: &impl Clock, tries: usize, most: usize) -> Result<(Queues, Duration), Fault>
         requires empty { self.nodes.items ≡ [] }
         requires some { 1 ≤ most }

@@ -28,7 +28,7 @@ fn beyond(number: u64, other: u64) -> u64 {
 }
 
 impl Values {
-    /// The value of the element with a number, of so many.
+    /// The value of the element with the number `id`, of `count` elements.
     pub fn of(self, count: usize, id: u64) -> u64 {
         match self {
             Values::Ascending => id,

@@ -54,7 +54,7 @@ fn append_all(list: &mut List<Item>, parts: &mut Vec<Part>) {
     }
 }
 
-/// Measures splits at a place, so many, each with the append that undoes it.
+/// Measures `splits` splits at a place, each with the append that undoes it.
 pub fn split(rt: &impl Clock, list: &mut List<Item>, at: usize, splits: usize) -> Round {
     let mut stopwatch = Stopwatch::start(rt);
     for _ in 0..splits {

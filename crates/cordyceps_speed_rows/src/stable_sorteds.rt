@@ -122,7 +122,7 @@ struct StableSorteds<C> {
     seen: u64,
 }
 
-/// A collection of so many elements, whose values rise with their numbers.
+/// A collection of `count` elements, whose values rise with their numbers.
 fn ascending<C: ByNumber>(alloc: Global, count: usize) -> Result<C, Fault> {
     let mut nodes = elements_of(alloc, count, Values::Ascending)?;
     let mut made = C::new(alloc, count)?;
@@ -197,7 +197,7 @@ impl<C: ByNumber> Bench<Calls> for StableSorteds<C> {
     }
 }
 
-/// Measures kinds of call with so many elements and such values, and shows them.
+/// Measures kinds of call with `elements` elements and such values, and shows them.
 fn show<R: Clock + Print, C: ByNumber>(
     rt: &R,
     alloc: Global,

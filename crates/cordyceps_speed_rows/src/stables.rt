@@ -35,7 +35,7 @@ impl Model for Numbered {
 }
 
 impl Numbered {
-    /// Makes an empty list, and a table with so many places.
+    /// Makes an empty list, and a table with `count` places.
     fn new(alloc: Global, count: usize) -> Result<Numbered, Fault> {
         let spots = empty_table(alloc, count)?;
         let list = StableList::new();
@@ -99,7 +99,7 @@ impl Numbered {
     }
 }
 
-/// A table with so many places, which are empty.
+/// A table with `count` places, which are empty.
 pub fn empty_table(alloc: Global, count: usize) -> Result<Vec<Option<Spot>>, Fault>
     ensures { IfOk result (λ spots. (k : ℕ) → spot_of spots.items k ≡ None) }
 {

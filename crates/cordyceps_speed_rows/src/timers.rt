@@ -43,7 +43,7 @@ struct WithSpots<C> {
 }
 
 impl<C: ByNumber> WithSpots<C> {
-    /// No timers, and nodes for so many.
+    /// No timers, and nodes for `count` of them.
     fn new(alloc: Global, count: usize) -> Result<WithSpots<C>, Fault> {
         let running = C::new(alloc, count)?;
         let idle = make_nodes(alloc, count)?;
@@ -111,7 +111,7 @@ struct InHeap {
 }
 
 impl InHeap {
-    /// No timers, and room for so many.
+    /// No timers, and room for `count` of them.
     fn new(alloc: Global, count: usize) -> Result<InHeap, Fault> {
         let Ok(running) = BinaryHeap::with_capacity(alloc, count) else {
             return Err(Fault::Memory);
@@ -195,7 +195,7 @@ struct Plan {
 }
 
 impl Plan {
-    /// Plans for so many timers.
+    /// Plans for `count` timers.
     fn new(alloc: Global, count: usize, deadlines: Deadlines) -> Result<Plan, Fault> {
         let started = timers_of(alloc, count, deadlines)?;
         let mut cancelled = timers_of(alloc, count, deadlines)?;
@@ -279,7 +279,7 @@ const RANDOM_MANY: [Entry<Calls>; 4] = [
 const FEW: usize = 1_000;
 
 impl Deadlines {
-    /// What so many timers with these deadlines are measured in.
+    /// What `count` timers with these deadlines are measured in.
     fn kinds(self, count: usize) -> &'static [Entry<Calls>] {
         match self {
             Deadlines::Timeouts => &RISING,
@@ -298,7 +298,7 @@ struct Spotted {
 }
 
 impl Spotted {
-    /// No timers, and nodes for so many.
+    /// No timers, and nodes for `count` of them.
     fn new(alloc: Global, count: usize) -> Result<Spotted, Fault> {
         Ok(Spotted {
             list: WithSpots::new(alloc, count)?,
@@ -340,7 +340,7 @@ impl Bench<Calls> for Planned {
     }
 }
 
-/// Measures so many timers with these deadlines, and shows them. Returns a number over those that came out last.
+/// Measures `count` timers with these deadlines, and shows them. Returns a number over those that came out last.
 fn show<R: Clock + Print>(
     rt: &R,
     alloc: Global,
@@ -358,7 +358,7 @@ fn show<R: Clock + Print>(
     table.measure(rt, planned, count, deadlines.kinds(count))
 }
 
-/// Measures so many timers with deadlines that mostly rise, and as many with any, and shows them. Returns a number over
+/// Measures `count` timers with deadlines that mostly rise, and as many with any, and shows them. Returns a number over
 /// those that came out last.
 pub fn show_timers<R: Clock + Print>(
     rt: &R,

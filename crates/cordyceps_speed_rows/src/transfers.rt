@@ -70,7 +70,7 @@ fn gather(first: StackNode, nodes: &mut Vec<StackNode>) -> Stack<Item>
 }
 
 impl Transfers {
-    /// An empty stack with so many rooms, and as many elements.
+    /// An empty stack with `count` rooms, and as many elements.
     fn new(alloc: Global, count: usize) -> Result<Transfers, Fault>
         requires { count ≤ MAX_ROOMS }
     {

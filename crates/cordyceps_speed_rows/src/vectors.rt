@@ -4,7 +4,7 @@ ghost use Rattle.std.specs.Prelude.{◌≡◌, ◌+◌, ◌≤◌, [], ◌∷◌
 use crate::fault::Fault;
 use std::alloc::Global;
 
-/// An empty vector with room for so many items.
+/// An empty vector with room for `count` items.
 pub fn with_room<T>(alloc: Global, count: usize) -> Result<Vec<T>, Fault>
     ensures { IfOk result (λ room. room.items ≡ []) }
 {

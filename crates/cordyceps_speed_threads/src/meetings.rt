@@ -196,7 +196,7 @@ impl Meeting {
         }
     }
 
-    /// Measures it once, with so many threads that put in.
+    /// Measures it once, with `producers` threads that put in.
     fn measure<R: Threads + Wait + Clock + Sync>(
         self,
         rt: &R,
@@ -233,7 +233,7 @@ const MEETINGS: [Meeting; 10] = [
     Meeting::Channel,
 ];
 
-/// What is counted as one, with so many threads that put in.
+/// What is counted as one, with `producers` threads that put in.
 fn counted(producers: usize) -> &'static str {
     match producers {
         1 => "an element, of 1 thread",
@@ -243,7 +243,7 @@ fn counted(producers: usize) -> &'static str {
     }
 }
 
-/// Measures collections by turns, with so many threads that put in, and shows them.
+/// Measures collections by turns, with `producers` threads that put in, and shows them.
 fn show<R: Threads + Wait + Clock + Sync + Print>(
     rt: &R,
     alloc: Global,
@@ -280,7 +280,7 @@ pub fn show_meetings<R: Threads + Wait + Clock + Sync + Print>(
     Ok(())
 }
 
-/// Measures one collection with so many threads that put in, at least one and at most four, and shows it.
+/// Measures one collection with `producers` threads that put in, at least one and at most four, and shows it.
 pub fn show_meeting<R: Threads + Wait + Clock + Sync + Print>(
     rt: &R,
     alloc: Global,

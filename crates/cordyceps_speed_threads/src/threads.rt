@@ -14,7 +14,7 @@ use std::time::{Clock, Duration};
 
 /// The place of a thread at a collection.
 pub trait Seat {
-    /// A place for another thread, with so many of the rooms, or all where there are fewer.
+    /// A place for another thread, with `rooms` of the rooms, or all where there are fewer.
     fn split(&mut self, rooms: usize) -> Self;
 
     /// The same place for the thread that takes out, which may keep the right to do so.
@@ -29,7 +29,7 @@ pub trait Seat {
     /// Takes out what one try gives, and puts it after the others.
     fn take<R: Wait>(&mut self, rt: &R, taken: &mut Vec<StackNode>);
 
-    /// Gives all rooms to those that have none, if they are so many at least.
+    /// Gives all rooms to those that have none, if there are at least `_least`.
     fn give_back(&mut self, _least: usize) {}
 }
 

@@ -134,7 +134,7 @@ const REPLIES: [Reply; 16] = [
     Ok(QueueAnswer::Done),
 ];
 
-/// Asserts what a replay returned: these replies, and so many steps that it did not take since memory was refused.
+/// Asserts what a replay returned: these replies, and `left` steps that it did not take since memory was refused.
 fn gives(rt: &impl Abort, replayed: &Replay<u64>, replies: &[Reply], left: usize) {
     same(rt, replayed.replies.as_slice(), replies);
     same(rt, replayed.rest.len(), left);

@@ -78,7 +78,7 @@ const PUSHES: [(usize, u64, Result<bool, (StepError, u64)>); 5] = [
     (3, 9, Err((StepError::NotThere, 9))),
 ];
 
-/// Asserts what a replay returned: these replies, and so many steps that it did not take since memory was refused.
+/// Asserts what a replay returned: these replies, and `left` steps that it did not take since memory was refused.
 fn gives(rt: &impl Abort, replayed: &Replay<u64>, replies: &[Reply], left: usize) {
     same(rt, replayed.replies.as_slice(), replies);
     same(rt, replayed.rest.len(), left);

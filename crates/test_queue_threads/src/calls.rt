@@ -73,7 +73,7 @@ pub enum Reply {
     Rooms(usize),
     /// There is no room, and the element came back.
     Full,
-    /// This many rooms were in the pool, and the party has so many now.
+    /// The number of rooms that were in the pool, and the number that the party has now.
     Refilled(usize, usize),
     /// Whether the pool has taken the rooms, and how many the party has now.
     Gave(bool, usize),

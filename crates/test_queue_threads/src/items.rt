@@ -15,7 +15,7 @@ pub fn sum(count: u64, more: u64) -> u64 {
     count.wrapping_add(more)
 }
 
-/// Returns so many times a count, also without a clause.
+/// Returns `count` times `each`. No clause says so, which keeps the proofs of its callers short.
 pub fn times(count: u64, each: u64) -> u64 {
     count.wrapping_mul(each)
 }

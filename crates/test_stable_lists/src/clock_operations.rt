@@ -38,7 +38,7 @@ fn drawn_number(draws: &mut Draws, pairs: &[Due]) -> u64 {
     }
 }
 
-/// Draws a call of a queue that has so many elements for most of the time. A new element has this number.
+/// Draws a call of a queue that has `most` elements for most of the time. A new element has the number `number`.
 fn drawn(draws: &mut Draws, model: &Model, most: usize, number: u64) -> Call {
     let time = drawn_time(draws, model.now, number);
     let some = drawn_number(draws, model.pairs.as_slice());
@@ -173,7 +173,7 @@ fn agree(rt: &impl Abort, alloc: Global, drops: &Drops, run: &mut Run, call: &Ca
     came
 }
 
-/// Makes many calls of a queue that has so many elements for most of the time. At last half of its elements come out,
+/// Makes many calls of a queue that has `most` elements for most of the time. At last half of its elements come out,
 /// and the others are dropped with it.
 fn many_calls(rt: &impl Abort, alloc: Global, most: usize) {
     let drops = made(rt, Drops::new(alloc));

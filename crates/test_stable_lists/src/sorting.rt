@@ -62,7 +62,7 @@ pub fn listed(rt: &impl Abort, alloc: Global, pairs: &[Pair]) -> List<Key> {
     list
 }
 
-/// Returns a list of so many elements, whose keys are drawn, and whose numbers are 0, 1, 2 and so on.
+/// Returns a list of `count` elements, whose keys are drawn, and whose numbers are 0, 1, 2 and so on.
 pub fn drawn(rt: &impl Abort, alloc: Global, count: u64) -> List<Key> {
     let mut draws = Draws::new(1);
     let mut list = List::new();

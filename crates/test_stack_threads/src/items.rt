@@ -27,7 +27,7 @@ pub fn element(rt: &impl Abort, alloc: Global, number: u64, drops: &Drops) -> Ha
     made(rt, counted_node(alloc, number, 0, drops))
 }
 
-/// Returns so many elements, whose numbers begin with this one, which pops first.
+/// Returns `count` elements, whose numbers begin with `first`, which pops first.
 pub fn stock(
     rt: &impl Abort,
     alloc: Global,
@@ -41,7 +41,7 @@ pub fn stock(
     stock
 }
 
-/// Returns so many elements as `stock` does.
+/// Returns `count` elements as `stock` does.
 pub fn batch(
     rt: &impl Abort,
     alloc: Global,
@@ -73,7 +73,7 @@ pub fn pops(rt: &impl Abort, stack: Stack<Counted>, wanted: &[u64]) {
     same(rt, left.is_empty(), true);
 }
 
-/// Asserts that a stack pops so many numbers, of which this one is the first and each other one is below the one
+/// Asserts that a stack pops `count` numbers, of which `first` is the first and each other one is below the one
 /// before, and that it pops no more.
 pub fn falls(rt: &impl Abort, stack: Stack<Counted>, first: u64, count: u64) {
     let mut left = stack;

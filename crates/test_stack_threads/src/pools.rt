@@ -177,7 +177,7 @@ struct Member<'s> {
     takes: Option<u64>,
 }
 
-/// Puts these elements onto others. Returns how many are still to come of so many.
+/// Puts these elements onto others. Returns how many are still to come of `left`.
 fn keep(elements: &mut Stack<Counted>, taken: Stack<Counted>, left: u64) -> u64 {
     let mut left = left;
     for node in taken {

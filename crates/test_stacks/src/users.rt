@@ -116,7 +116,7 @@ impl<'f> Remote<'f> {
         }
     }
 
-    /// Puts so many blocks back by one try, which nobody overtakes, and compares whether nothing was shared before with
+    /// Puts `count` blocks back by one try, which nobody overtakes, and compares whether nothing was shared before with
     /// what is wanted.
     pub fn puts_all(&mut self, rt: &impl Abort, count: usize, blocks: Stack<Counted>, first: bool)
         requires { length blocks ≡ count }
