@@ -10,8 +10,8 @@ use Rattle.cordyceps_shared.proofs.Adding.{plain_own}
 use Rattle.cordyceps_shared.proofs.Ordering.{share_joins}
 use Rattle.cordyceps_shared.proofs.Interleaving.{interleaves_same}
 use Rattle.cordyceps_shared.proofs.Owning.{own_merged}
-use Rattle.cordyceps_shared.proofs.Renaming.{or_false}
-use Rattle.cordyceps_shared.proofs.Seeing.{own_append}
+use Rattle.cordyceps_shared.proofs.EventOwners.{or_false}
+use Rattle.cordyceps_shared.proofs.HistoryMarks.{own_append}
 
 -- ---- what was seen since
 module _ {X : Type 0} where

@@ -1,7 +1,7 @@
 -- Names that are split and joined are in order, and what was clear of them stays so.
 use Rattle.std.proofs.Common.{◌≡◌, List, [], ◌∷◌, ◌++◌, Bool, true, false, cond, refl, sym, ap, ◌∙◌, subst, true≢false}
-use Rattle.cordyceps_shared.proofs.Halving.{halves_earlier, halves_pair, half_parent}
-use Rattle.cordyceps_shared.proofs.Naming.{prefix_longer, joined_some, keeps_some, gives_some}
+use Rattle.cordyceps_shared.proofs.NameHalves.{halves_earlier, halves_pair, half_parent}
+use Rattle.cordyceps_shared.proofs.PartyNames.{prefix_longer, joined_some, keeps_some, gives_some}
 use Rattle.cordyceps_shared.specs.Shares.{Name, is_prefix, earlier, insert_name, insert_names, is_pair, parent, combine_first, combine, join_shares, whole, keeps_half, gives_half, IsBefore, Clear, NamesDisjoint, InOrder, NoPair, IsShare}
 
 no_longer : {A : Type 0} → true ≡ false → A

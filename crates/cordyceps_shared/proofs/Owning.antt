@@ -6,7 +6,7 @@ use Rattle.cordyceps_shared.specs.Knowing.{without_marks, merge_marks, IsPrefixO
 use Rattle.cordyceps_shared.specs.Shares.{Name}
 use Rattle.cordyceps_shared.specs.Standings.{Standing, keeping, giving, Adds, Absorbs}
 use Rattle.cordyceps_shared.proofs.Interleaving.{all_left, all_right}
-use Rattle.cordyceps_shared.proofs.Seeing.{own_append}
+use Rattle.cordyceps_shared.proofs.HistoryMarks.{own_append}
 
 module _ {X : Type 0} where
   pub own_unmarked : (xs : List (Bool × X)) → own (without_marks xs) ≡ []

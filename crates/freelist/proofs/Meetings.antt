@@ -8,7 +8,7 @@ use Rattle.cordyceps_shared.specs.Shares.{Name, whole, keeps_half, join_shares}
 use Rattle.cordyceps_shared.specs.Standings.{new_party, keeping, giving, Knows, Absorbs}
 use Rattle.cordyceps_shared.proofs.Adding.{plain_own}
 use Rattle.cordyceps_shared.proofs.Counting.{tally_append, tally_map, tally_reverse}
-use Rattle.cordyceps_shared.proofs.Halving.{halves_join}
+use Rattle.cordyceps_shared.proofs.NameHalves.{halves_join}
 use Rattle.cordyceps_shared.proofs.Summing.{tally_flat_map, tally_same}
 use Rattle.cordyceps_stack.specs.History.{Event, Legal, held, pushes, taken_elements}
 use Rattle.cordyceps_stack.specs.Shared.Calls.{PartyOf}

@@ -8,7 +8,7 @@ use Rattle.cordyceps_shared.specs.Counts.{tally}
 use Rattle.cordyceps_shared.specs.Histories.{own}
 use Rattle.cordyceps_shared.specs.Shares.{Name, keeps_half, gives_half, join_shares, insert_name}
 use Rattle.cordyceps_shared.specs.Standings.{name_of, keeping, giving, Absorbs}
-use Rattle.cordyceps_shared.proofs.Halving.{halves_join}
+use Rattle.cordyceps_shared.proofs.NameHalves.{halves_join}
 use Rattle.cordyceps_shared.proofs.Knowing.{adds_knows, absorbs_knows, keeps_knows, gives_knows}
 use Rattle.cordyceps_shared.proofs.Owning.{own_split}
 use Rattle.cordyceps_stack.specs.History.{Load, Push, Taken, Legal, actor}

@@ -4,7 +4,7 @@ use Rattle.std.proofs.lemmas.List.{reverse-append, reverse-reverse}
 use Rattle.atomic_table.specs.Seated.{TableId}
 use Rattle.cordyceps_shared.specs.Histories.{plain, own}
 use Rattle.cordyceps_shared.specs.Shares.{Name}
-use Rattle.cordyceps_shared.proofs.Seeing.{own_append}
+use Rattle.cordyceps_shared.proofs.HistoryMarks.{own_append}
 use Rattle.cordyceps_shared.proofs.Adding.{plain_append}
 use Rattle.cordyceps_queue.specs.Shared.Parts.{standing}
 use Rattle.cordyceps_queue.specs.History.{Event, Look}

@@ -5,8 +5,8 @@ use Rattle.atomic_table.specs.Seated.{TableId}
 use Rattle.cordyceps_shared.specs.Histories.{plain, AllOwn}
 use Rattle.cordyceps_shared.specs.Shares.{Name, whole, first_name, IsOf, IsShare}
 use Rattle.cordyceps_shared.proofs.Adding.{whole_adds, plain_own}
-use Rattle.cordyceps_shared.proofs.Tracing.{of_whole}
-use Rattle.cordyceps_shared.proofs.Telling.{grown_then}
+use Rattle.cordyceps_shared.proofs.EventCounts.{of_whole}
+use Rattle.cordyceps_shared.proofs.StepEvents.{grown_then}
 use Rattle.cordyceps_queue.specs.declared.shared.spare.Spare.{Spare}
 use Rattle.cordyceps_queue.specs.declared.shared.table.Tried.{Tried}
 use Rattle.cordyceps_queue.specs.declared.shared.table.Tried.TheVariants as tried

@@ -16,8 +16,8 @@ use Rattle.cordyceps_shared.proofs.Words.{right_set, head_beside_right}
 use Rattle.cordyceps_shared.specs.Histories.{events, of_seat}
 use Rattle.cordyceps_shared.specs.Knowing.{Under}
 use Rattle.cordyceps_shared.specs.Shares.{Name}
-use Rattle.cordyceps_shared.proofs.Telling.{under_append}
-use Rattle.cordyceps_shared.proofs.Seeing.{events_more, plain_marked}
+use Rattle.cordyceps_shared.proofs.StepEvents.{under_append}
+use Rattle.cordyceps_shared.proofs.HistoryMarks.{events_more, plain_marked}
 use Rattle.cordyceps_queue.specs.declared.cores.stage.Stage.{Stage}
 use Rattle.cordyceps_queue.specs.declared.cores.stage.Stage.TheVariants.{Cleared, Holding, Null}
 use Rattle.cordyceps_shared.specs.FreeChains.{end_after}

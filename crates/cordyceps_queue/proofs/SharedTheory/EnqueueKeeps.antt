@@ -11,7 +11,7 @@ use Rattle.cordyceps_shared.specs.Histories.{events, of_seat}
 use Rattle.cordyceps_shared.specs.Knowing.{all_seen}
 use Rattle.cordyceps_shared.specs.Shares.{Name, first_name}
 use Rattle.cordyceps_shared.proofs.Choices.{first_or, rest_from}
-use Rattle.cordyceps_shared.proofs.Telling.{at_length, grown_then}
+use Rattle.cordyceps_shared.proofs.StepEvents.{at_length, grown_then}
 use Rattle.cordyceps_queue.specs.declared.cores.stage.Stage.{Stage}
 use Rattle.cordyceps_queue.specs.declared.cores.stage.Stage.TheVariants.{Rest, Cleared, Swapped}
 use Rattle.cordyceps_shared.specs.FreeChains.{Links, leads}

@@ -5,9 +5,9 @@ use Rattle.cordyceps_shared.specs.Knowing.{Foreign}
 use Rattle.cordyceps_shared.specs.Shares.{Name, IsOf}
 use Rattle.cordyceps_shared.specs.Standings.{name_of}
 use Rattle.cordyceps_shared.proofs.Adding.{plain_append}
-use Rattle.cordyceps_shared.proofs.Seeing.{others_append}
-use Rattle.cordyceps_shared.proofs.Telling.{foreign_front}
-use Rattle.cordyceps_shared.proofs.Tracing.{seen_counts}
+use Rattle.cordyceps_shared.proofs.HistoryMarks.{others_append}
+use Rattle.cordyceps_shared.proofs.StepEvents.{foreign_front}
+use Rattle.cordyceps_shared.proofs.EventCounts.{seen_counts}
 use Rattle.cordyceps_queue.specs.History.{Event, Take, Busy, Look, Free, actor, links_by, swaps_by}
 use Rattle.cordyceps_queue.specs.Laws.{takes_by, frees_by, BusyIsAnothers, BlockedIsAnothers, BlockedTryIsAnothers}
 use Rattle.cordyceps_queue.specs.Shared.Calls.{PartyOf, same_name, Legal, NonePending, Adds, BlockedAfter}

@@ -4,7 +4,7 @@ use mathlib.Core.Bool.{Bool-discrete}
 use mathlib.Core.List.{List-discrete}
 use Rattle.cordyceps_shared.specs.Histories.{plain}
 use Rattle.cordyceps_shared.specs.Shares.{Name, first_name, IsOf}
-use Rattle.cordyceps_shared.proofs.Tracing.{first_of, grown_counts}
+use Rattle.cordyceps_shared.proofs.EventCounts.{first_of, grown_counts}
 use Rattle.cordyceps_queue.specs.History.{Event, Swap, Link, Take, Busy, Look, Out, Empty, Free, actor, holder, swaps_by, links_by, IsPending}
 use Rattle.cordyceps_queue.specs.Laws.{takes_by, frees_by, OneHasRight}
 use Rattle.cordyceps_queue.specs.Shared.Calls.{same_name, Legal, NonePending, NoneHolds}

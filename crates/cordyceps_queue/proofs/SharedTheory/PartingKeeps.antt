@@ -10,15 +10,15 @@ use Rattle.cordyceps_shared.specs.Words as word
 use Rattle.cordyceps_shared.specs.Histories.{events}
 use Rattle.cordyceps_shared.specs.Knowing.{SharesDisjoint}
 use Rattle.cordyceps_shared.specs.Shares.{Name, whole}
-use Rattle.cordyceps_shared.proofs.Changing.{one_set, two_set, set_more, was_there}
+use Rattle.cordyceps_shared.proofs.ChangedItems.{one_set, two_set, set_more, was_there}
 use Rattle.cordyceps_shared.proofs.Counting.{tally_set, tally_snoc}
-use Rattle.cordyceps_shared.proofs.Cutting.{owned_cut, fits_cut}
-use Rattle.cordyceps_shared.proofs.Joining.{owned_join, fits_join}
-use Rattle.cordyceps_shared.proofs.Naming.{keeps_some, gives_some, joined_some}
+use Rattle.cordyceps_shared.proofs.Splits.{owned_cut, fits_cut}
+use Rattle.cordyceps_shared.proofs.Absorbs.{owned_join, fits_join}
+use Rattle.cordyceps_shared.proofs.PartyNames.{keeps_some, gives_some, joined_some}
 use Rattle.cordyceps_shared.proofs.Places.{at_take, empty_new, empty_drop, empty_take, empty_append}
-use Rattle.cordyceps_shared.proofs.Renaming.{relabel, events_relabel}
-use Rattle.cordyceps_shared.proofs.Standing as seats
-use Rattle.cordyceps_shared.proofs.Telling.{at_length, owned_same, fits_forgot}
+use Rattle.cordyceps_shared.proofs.EventOwners.{relabel, events_relabel}
+use Rattle.cordyceps_shared.proofs.Standings as seats
+use Rattle.cordyceps_shared.proofs.StepEvents.{at_length, owned_same, fits_forgot}
 use Rattle.cordyceps_queue.specs.declared.cores.stage.Stage.TheVariants.{Rest, Cleared}
 use Rattle.cordyceps_queue.specs.History.{Event, actor}
 use Rattle.cordyceps_shared.specs.Places.{ItemAt}

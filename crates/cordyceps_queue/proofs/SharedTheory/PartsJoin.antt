@@ -6,7 +6,7 @@ use Rattle.cordyceps_shared.specs.Knowing.{Grown}
 use Rattle.cordyceps_shared.specs.Shares.{Name, first_name}
 use Rattle.cordyceps_shared.proofs.Places.{near_append}
 use Rattle.cordyceps_shared.proofs.Choices.{some_or}
-use Rattle.cordyceps_shared.proofs.Telling.{grown_then}
+use Rattle.cordyceps_shared.proofs.StepEvents.{grown_then}
 use Rattle.cordyceps_queue.specs.declared.cores.stage.Stage.{Stage}
 use Rattle.cordyceps_queue.specs.declared.cores.stage.Stage.TheVariants.{Rest, Holding}
 use Rattle.cordyceps_queue.specs.declared.shared.table.Tried.{Tried}

@@ -8,9 +8,9 @@ use Rattle.cordyceps_shared.specs.Shares.{Name, IsShare}
 use Rattle.cordyceps_shared.specs.Standings.{new_party, Absorbs}
 use Rattle.cordyceps_shared.proofs.Choices.{first_or, rest_from}
 use Rattle.cordyceps_shared.proofs.Adding.{keeps_not_whole, not_whole, plain_unmarked, merged_prefix}
-use Rattle.cordyceps_shared.proofs.Naming.{joined_some, joined_disjoint, keeps_some, gives_some}
+use Rattle.cordyceps_shared.proofs.PartyNames.{joined_some, joined_disjoint, keeps_some, gives_some}
 use Rattle.cordyceps_shared.proofs.Ordering.{whole_share, keeps_share, gives_share, joined_share}
-use Rattle.cordyceps_shared.proofs.Tracing.{of_kept, of_given}
+use Rattle.cordyceps_shared.proofs.EventCounts.{of_kept, of_given}
 use Rattle.cordyceps_queue.specs.Shared.Parts.{standing, IsSeated, HasAbsorbed, TracksEnd}
 use Rattle.cordyceps_queue.specs.declared.shared.spare.Spare.{Spare}
 use Rattle.cordyceps_queue.specs.Shared.Parting.{view_keeping, view_giving, view_absorbing}

@@ -6,7 +6,7 @@ use Rattle.cordyceps_shared.specs.Histories.{plain}
 use Rattle.cordyceps_shared.specs.Shares.{whole, first_name}
 use Rattle.cordyceps_shared.specs.Standings.{known_of, name_of}
 use Rattle.cordyceps_shared.specs.Standings as party
-use Rattle.cordyceps_shared.proofs.Telling.{grown_then}
+use Rattle.cordyceps_shared.proofs.StepEvents.{grown_then}
 use Rattle.cordyceps_shared.proofs.Places.{near_drop}
 use Rattle.cordyceps_shared.specs.Slots.{Near}
 use Rattle.cordyceps_queue.specs.declared.shared.spare.Spare.{Spare}

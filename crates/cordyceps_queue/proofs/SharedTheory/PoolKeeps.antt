@@ -18,13 +18,13 @@ use Rattle.cordyceps_shared.specs.Shares.{Name, whole, first_name}
 use Rattle.cordyceps_shared.specs.Slots.{Homes, Near, EmptyAtHome}
 use Rattle.cordyceps_shared.specs.Words as word
 use Rattle.cordyceps_shared.specs.declared.layout.TheConstants.{POOL, LINKS}
-use Rattle.cordyceps_shared.proofs.Changing.{one_set}
+use Rattle.cordyceps_shared.proofs.ChangedItems.{one_set}
 use Rattle.cordyceps_shared.proofs.Counting.{tally_set, tally_one, tally_only}
 use Rattle.cordyceps_shared.proofs.FreeLinks.{links_at, links_drop, links_take}
 use Rattle.cordyceps_shared.proofs.Places.{at_either, at_end, at_take, at_drop, empty_drop, empty_take}
 use Rattle.cordyceps_shared.proofs.Pools.{none_in_pool, some_in_pool}
-use Rattle.cordyceps_shared.proofs.Seeing.{plain_marked}
-use Rattle.cordyceps_shared.proofs.Telling.{at_length, owned_same, fits_same, only_share, whole_saw, tells}
+use Rattle.cordyceps_shared.proofs.HistoryMarks.{plain_marked}
+use Rattle.cordyceps_shared.proofs.StepEvents.{at_length, owned_same, fits_same, only_share, whole_saw, tells}
 use Rattle.cordyceps_shared.proofs.Words.{pool_set, head_beside_pool, right_beside_pool}
 use Rattle.cordyceps_queue.specs.History.{Event, held, actor}
 use Rattle.cordyceps_queue.specs.Cores.Abstract.{AbstractParty, update}

@@ -7,8 +7,8 @@ use Rattle.atomic_table.specs.Table.{Act, keeps, gives, stepped, homes_after, ca
 use Rattle.atomic_table.specs.Table as table
 use Rattle.atomic_table.proofs.Lists.{set_here, set_else}
 use Rattle.cordyceps_shared.specs.Histories.{events}
-use Rattle.cordyceps_shared.proofs.Changing.{one_set}
-use Rattle.cordyceps_shared.proofs.Telling.{at_length, owned_same, fits_same}
+use Rattle.cordyceps_shared.proofs.ChangedItems.{one_set}
+use Rattle.cordyceps_shared.proofs.StepEvents.{at_length, owned_same, fits_same}
 use Rattle.cordyceps_shared.specs.FreeChains.{MayJoin}
 use Rattle.cordyceps_shared.proofs.FreeLinks.{links_append}
 use Rattle.cordyceps_shared.proofs.Places.{empty_append}

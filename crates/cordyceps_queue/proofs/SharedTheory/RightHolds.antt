@@ -6,7 +6,7 @@ use Rattle.atomic_table.specs.Seated.{TableId}
 use Rattle.cordyceps_shared.specs.Histories.{plain, AllOwn}
 use Rattle.cordyceps_shared.specs.Shares.{Name, whole, first_name, IsOf, IsShare}
 use Rattle.cordyceps_shared.proofs.Adding.{plain_own}
-use Rattle.cordyceps_shared.proofs.Tracing.{of_whole}
+use Rattle.cordyceps_shared.proofs.EventCounts.{of_whole}
 use Rattle.cordyceps_queue.specs.declared.cores.stage.Stage.TheVariants.{Rest, Holding}
 use Rattle.cordyceps_queue.specs.declared.shared.spare.Spare.{Spare}
 use Rattle.cordyceps_queue.specs.declared.shared.table.Tried.{Tried}

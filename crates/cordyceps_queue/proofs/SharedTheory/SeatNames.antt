@@ -11,9 +11,9 @@ use Rattle.cordyceps_shared.specs.Histories.{events, plain}
 use Rattle.cordyceps_shared.specs.Knowing.{Foreign, SharesDisjoint}
 use Rattle.cordyceps_shared.specs.Shares.{Name, covers, first_name, Clear, IsOf}
 use Rattle.cordyceps_shared.proofs.Counting.{tally_two, distinct_few}
-use Rattle.cordyceps_shared.proofs.Naming.{some_cover}
+use Rattle.cordyceps_shared.proofs.PartyNames.{some_cover}
 use Rattle.cordyceps_shared.proofs.Places.{times_at}
-use Rattle.cordyceps_shared.proofs.Standing as seats
+use Rattle.cordyceps_shared.proofs.Standings as seats
 use Rattle.cordyceps_queue.specs.declared.cores.stage.Stage.TheVariants.{Rest}
 use Rattle.cordyceps_queue.specs.Cores.Meets.{RightIs, tail_of}
 use Rattle.cordyceps_queue.specs.History.{Event, actor, links_by, swaps_by}
@@ -29,8 +29,8 @@ use Rattle.cordyceps_queue.proofs.Legality.{told_legal, front_legal, counts, hol
 use Rattle.cordyceps_queue.proofs.PartyOrder.{takes_append, frees_append}
 use Rattle.cordyceps_queue.proofs.SharedTheory.OwnNames.{links_other, swaps_other, takes_other, frees_other, even_frees, not_holder}
 use Rattle.cordyceps_queue.proofs.SharedTheory.WordsAsMachine.{party_as, core, party_at, rooms_of}
-use Rattle.cordyceps_shared.proofs.Telling.{at_length, first_clear}
-use Rattle.cordyceps_shared.proofs.Tracing.{foreign_counts}
+use Rattle.cordyceps_shared.proofs.StepEvents.{at_length, first_clear}
+use Rattle.cordyceps_shared.proofs.EventCounts.{foreign_counts}
 
 named_was : (names : List Name) (p q : AbstractParty Name) → party_if names p ≡ Some q → (names ≢ []) × (p ≡ q)
 named_was [] p q e = absurd (none_some e)

@@ -9,10 +9,10 @@ use Rattle.cordyceps_shared.specs.Histories.{events}
 use Rattle.cordyceps_shared.specs.Places.{ItemAt}
 use Rattle.cordyceps_shared.specs.Words as word
 use Rattle.cordyceps_shared.specs.declared.layout.TheConstants.{LINKS}
-use Rattle.cordyceps_shared.proofs.Changing.{one_set}
+use Rattle.cordyceps_shared.proofs.ChangedItems.{one_set}
 use Rattle.cordyceps_shared.proofs.FreeLinks.{links_retied}
 use Rattle.cordyceps_shared.proofs.Places.{at_end, times_at}
-use Rattle.cordyceps_shared.proofs.Telling.{at_length, owned_same, fits_same}
+use Rattle.cordyceps_shared.proofs.StepEvents.{at_length, owned_same, fits_same}
 use Rattle.cordyceps_shared.proofs.Words.{next_beside_next}
 use Rattle.cordyceps_queue.specs.declared.cores.stage.Stage.TheVariants.{Cleared}
 use Rattle.cordyceps_queue.specs.History.{Event, actor}

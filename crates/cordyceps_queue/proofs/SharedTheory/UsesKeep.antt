@@ -14,7 +14,7 @@ use Rattle.cordyceps_shared.specs.Shares.{Name}
 use Rattle.cordyceps_shared.specs.Slots.{Homes, Near}
 use Rattle.cordyceps_shared.specs.Words as word
 use Rattle.cordyceps_shared.specs.declared.layout.TheConstants.{HEAD, LINKS}
-use Rattle.cordyceps_shared.proofs.Telling.{at_length}
+use Rattle.cordyceps_shared.proofs.StepEvents.{at_length}
 use Rattle.cordyceps_shared.proofs.Words.{next_beside_next}
 use Rattle.cordyceps_queue.specs.declared.cores.stage.Stage.{Stage}
 use Rattle.cordyceps_queue.specs.declared.cores.stage.Stage.TheVariants.{Rest, Cleared, Holding, StubNull, Second, Null, PutRead}

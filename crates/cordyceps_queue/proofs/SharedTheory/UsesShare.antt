@@ -11,11 +11,11 @@ use Rattle.cordyceps_shared.specs.Places.{ItemAt}
 use Rattle.cordyceps_shared.specs.Pools.{LeadsTo}
 use Rattle.cordyceps_shared.specs.Words as word
 use Rattle.cordyceps_shared.specs.declared.layout.TheConstants.{HEAD, RIGHT, LINKS}
-use Rattle.cordyceps_shared.proofs.Changing.{one_set, two_set, set_more, was_there}
+use Rattle.cordyceps_shared.proofs.ChangedItems.{one_set, two_set, set_more, was_there}
 use Rattle.cordyceps_shared.proofs.FreeLinks.{links_at}
-use Rattle.cordyceps_shared.proofs.Naming.{joined_some}
+use Rattle.cordyceps_shared.proofs.PartyNames.{joined_some}
 use Rattle.cordyceps_shared.proofs.Places.{at_end, at_take}
-use Rattle.cordyceps_shared.proofs.Standing as seats
+use Rattle.cordyceps_shared.proofs.Standings as seats
 use Rattle.cordyceps_shared.proofs.Words.{next_set, next_beside_next, pool_beside_next}
 use Rattle.cordyceps_queue.specs.declared.cores.stage.Stage.TheVariants.{Rest}
 use Rattle.cordyceps_queue.specs.History.{actor}

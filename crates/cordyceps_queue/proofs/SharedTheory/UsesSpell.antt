@@ -10,7 +10,7 @@ use Rattle.cordyceps_shared.specs.Pools.{LeadsTo}
 use Rattle.cordyceps_shared.specs.Shares.{Name}
 use Rattle.cordyceps_shared.specs.Words as word
 use Rattle.cordyceps_shared.specs.declared.layout.TheConstants.{LINKS}
-use Rattle.cordyceps_shared.proofs.Changing.{one_set}
+use Rattle.cordyceps_shared.proofs.ChangedItems.{one_set}
 use Rattle.cordyceps_shared.proofs.Words.{next_set, next_beside_next, head_beside_next, right_beside_next}
 use Rattle.cordyceps_queue.specs.declared.cores.stage.Stage.{Stage}
 use Rattle.cordyceps_queue.specs.declared.cores.stage.Stage.TheVariants.{Rest, Cleared, Swapped, Holding, StubNull, Second, Null, PutClear, PutSwap, PutLink, PutRead}

@@ -12,7 +12,7 @@ use Rattle.cordyceps_shared.specs.Shares.{Name}
 use Rattle.cordyceps_shared.specs.Slots.{Homes, Near, Hand}
 use Rattle.cordyceps_shared.specs.Words as word
 use Rattle.cordyceps_shared.specs.declared.layout.TheConstants.{HEAD, RIGHT, LINKS}
-use Rattle.cordyceps_shared.proofs.Telling.{at_length}
+use Rattle.cordyceps_shared.proofs.StepEvents.{at_length}
 use Rattle.cordyceps_shared.proofs.Words.{pool_beside_head, pool_beside_right, pool_beside_next, head_set, right_set, head_beside_right, right_beside_head, next_beside_next}
 use Rattle.cordyceps_queue.specs.declared.cores.stage.Stage.TheVariants.{Rest, Cleared, Swapped, Holding, PutClear, PutSwap, PutLink}
 use Rattle.cordyceps_queue.specs.declared.shared.uses.RoomUse.{RoomUse}

@@ -18,10 +18,10 @@ use Rattle.cordyceps_shared.proofs.Places.{times_at}
 use Rattle.cordyceps_shared.specs.Histories.{events, of_seat}
 use Rattle.cordyceps_shared.specs.Knowing.{Known, Under, all_seen}
 use Rattle.cordyceps_shared.specs.Shares.{Name}
-use Rattle.cordyceps_shared.proofs.Changing.{one_set}
+use Rattle.cordyceps_shared.proofs.ChangedItems.{one_set}
 use Rattle.cordyceps_shared.proofs.Counting.{tally_set}
-use Rattle.cordyceps_shared.proofs.Seeing.{events_more}
-use Rattle.cordyceps_shared.proofs.Telling.{at_length, tells}
+use Rattle.cordyceps_shared.proofs.HistoryMarks.{events_more}
+use Rattle.cordyceps_shared.proofs.StepEvents.{at_length, tells}
 use Rattle.cordyceps_queue.specs.declared.cores.stage.Stage.{Stage}
 use Rattle.cordyceps_queue.specs.declared.cores.stage.Stage.TheVariants.{Rest, Cleared, Swapped, Holding, StubNull, Second, Null, PutClear, PutSwap, PutLink, PutRead}
 use Rattle.cordyceps_queue.specs.History.{Event, actor}

@@ -11,7 +11,7 @@ use Rattle.cordyceps_shared.specs.Shares.{Name, whole, IsShare}
 use Rattle.cordyceps_shared.specs.Standings.{name_of, new_party, Absorbs, GivesBack}
 use Rattle.cordyceps_shared.proofs.Adding.{keeps_not_whole, not_whole, plain_unmarked, merged_prefix, whole_adds}
 use Rattle.cordyceps_shared.proofs.Places.{near_drop, near_take, near_append}
-use Rattle.cordyceps_shared.proofs.Naming.{joined_some, joined_disjoint, keeps_some, gives_some}
+use Rattle.cordyceps_shared.proofs.PartyNames.{joined_some, joined_disjoint, keeps_some, gives_some}
 use Rattle.cordyceps_shared.proofs.Ordering.{whole_share, keeps_share, gives_share, joined_share}
 use Rattle.cordyceps_stack.specs.Shared.Parts as parts
 use Rattle.cordyceps_stack.specs.Shared.Plays as plays

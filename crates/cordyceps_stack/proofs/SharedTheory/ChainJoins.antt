@@ -11,7 +11,7 @@ use Rattle.cordyceps_shared.specs.Slots.{Near}
 use Rattle.cordyceps_shared.specs.declared.free.FreeRooms.{FreeRooms}
 use Rattle.cordyceps_shared.proofs.Adding.{plain_append}
 use Rattle.cordyceps_shared.proofs.Places.{near_take, near_drop}
-use Rattle.cordyceps_shared.proofs.Telling.{grown_then}
+use Rattle.cordyceps_shared.proofs.StepEvents.{grown_then}
 use Rattle.cordyceps_shared.proofs.TrackRooms.{first_room, tracks_keeping}
 use Rattle.cordyceps_stack.specs.History.{Event, Load, held, Legal, actor}
 use Rattle.cordyceps_stack.specs.Cores.Stages.{room_elements}

@@ -18,7 +18,7 @@ use Rattle.cordyceps_shared.specs.declared.layout.TheConstants.{HEAD}
 use Rattle.cordyceps_shared.proofs.Choices.{some_or, first_or, rest_from}
 use Rattle.cordyceps_shared.proofs.Counting.{tally_append, distinct_few}
 use Rattle.cordyceps_shared.proofs.Places.{times_at}
-use Rattle.cordyceps_shared.proofs.Seeing.{marked_append}
+use Rattle.cordyceps_shared.proofs.HistoryMarks.{marked_append}
 use Rattle.cordyceps_shared.proofs.Words.{pool_beside_head}
 use Rattle.cordyceps_stack.specs.History.{Event, Load, Push, actor}
 use Rattle.cordyceps_stack.specs.Shared.Calls.{pushes_of}

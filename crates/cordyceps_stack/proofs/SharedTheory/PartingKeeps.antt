@@ -10,13 +10,13 @@ use Rattle.cordyceps_shared.specs.Words.{head}
 use Rattle.cordyceps_shared.specs.Words as word
 use Rattle.cordyceps_shared.specs.declared.layout.TheConstants.{HEAD, LINKS}
 use Rattle.cordyceps_shared.proofs.Counting.{tally_set, tally_snoc, tally_append, tally_cut}
-use Rattle.cordyceps_shared.proofs.Changing.{two_set, set_more, was_there}
-use Rattle.cordyceps_shared.proofs.Cutting.{owned_cut, fits_cut}
-use Rattle.cordyceps_shared.proofs.Joining.{owned_join, fits_join}
-use Rattle.cordyceps_shared.proofs.Naming.{keeps_some, gives_some, joined_some}
-use Rattle.cordyceps_shared.proofs.Renaming.{renamed_else, relabel, events_relabel, relabel_append, without_relabel}
-use Rattle.cordyceps_shared.proofs.Standing as seats
-use Rattle.cordyceps_shared.proofs.Telling.{owned_same, fits_forgot}
+use Rattle.cordyceps_shared.proofs.ChangedItems.{two_set, set_more, was_there}
+use Rattle.cordyceps_shared.proofs.Splits.{owned_cut, fits_cut}
+use Rattle.cordyceps_shared.proofs.Absorbs.{owned_join, fits_join}
+use Rattle.cordyceps_shared.proofs.PartyNames.{keeps_some, gives_some, joined_some}
+use Rattle.cordyceps_shared.proofs.EventOwners.{renamed_else, relabel, events_relabel, relabel_append, without_relabel}
+use Rattle.cordyceps_shared.proofs.Standings as seats
+use Rattle.cordyceps_shared.proofs.StepEvents.{owned_same, fits_forgot}
 use Rattle.cordyceps_stack.specs.History.{Event, Load, Taken, held, Legal, actor, SomeChange}
 use Rattle.cordyceps_stack.specs.Shared.View.{Idle, View, knows, newcomer, held_rooms, count_with_party, room_count}
 use Rattle.cordyceps_stack.specs.Shared.Words.{History, Since, AtDoing}

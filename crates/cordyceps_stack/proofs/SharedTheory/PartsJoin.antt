@@ -13,7 +13,7 @@ use Rattle.cordyceps_shared.specs.declared.free.FreeRooms.{FreeRooms}
 use Rattle.cordyceps_shared.proofs.Adding.{replicate_more, tail_own}
 use Rattle.cordyceps_shared.proofs.Choices.{first_or}
 use Rattle.cordyceps_shared.proofs.Places.{near_append}
-use Rattle.cordyceps_shared.proofs.Telling.{grown_then}
+use Rattle.cordyceps_shared.proofs.StepEvents.{grown_then}
 use Rattle.cordyceps_shared.proofs.TrackRooms.{first_room, more_than_none, tracks_joined, tracks_alone}
 use Rattle.cordyceps_stack.specs.History.{Event, Load, Push, Taken, Legal, SomeChange, actor}
 use Rattle.cordyceps_stack.specs.Cores.Stages.{room_elements}

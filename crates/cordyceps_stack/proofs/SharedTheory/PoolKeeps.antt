@@ -16,12 +16,12 @@ use Rattle.cordyceps_shared.specs.Pools.{Packs, LeadsTo}
 use Rattle.cordyceps_shared.specs.Shares.{whole}
 use Rattle.cordyceps_shared.specs.Words as word
 use Rattle.cordyceps_shared.specs.declared.layout.TheConstants.{POOL}
-use Rattle.cordyceps_shared.proofs.Changing.{one_set}
+use Rattle.cordyceps_shared.proofs.ChangedItems.{one_set}
 use Rattle.cordyceps_shared.proofs.Counting.{tally_set, tally_only, tally_one, tally_append, tally_cut}
 use Rattle.cordyceps_shared.proofs.Places.{times_some}
 use Rattle.cordyceps_shared.proofs.Pools.{not_null, none_in_pool, some_in_pool}
-use Rattle.cordyceps_shared.proofs.Seeing.{plain_marked}
-use Rattle.cordyceps_shared.proofs.Telling.{at_length, owned_same, fits_same, only_share, whole_saw}
+use Rattle.cordyceps_shared.proofs.HistoryMarks.{plain_marked}
+use Rattle.cordyceps_shared.proofs.StepEvents.{at_length, owned_same, fits_same, only_share, whole_saw}
 use Rattle.cordyceps_shared.proofs.TrackRooms.{with_its_last}
 use Rattle.cordyceps_shared.proofs.Words.{pool_set, head_beside_pool}
 use Rattle.cordyceps_stack.specs.History.{Event, held, actor}

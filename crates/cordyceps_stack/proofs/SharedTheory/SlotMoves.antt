@@ -10,7 +10,7 @@ use Rattle.atomic_table.proofs.Lists.{set_here, set_else}
 use Rattle.cordyceps_shared.specs.Counts.{times}
 use Rattle.cordyceps_shared.specs.FreeChains.{FreeChain, leads, end_after, first_rooms, rest_rooms, joined, with_last, MayJoin, IsTied}
 use Rattle.cordyceps_shared.proofs.Counting.{one_here, one_else}
-use Rattle.cordyceps_shared.proofs.Telling.{at_length}
+use Rattle.cordyceps_shared.proofs.StepEvents.{at_length}
 use Rattle.cordyceps_stack.specs.declared.shared.slot.Slot.{Slot}
 use Rattle.cordyceps_stack.specs.Shared.Slots.{Homes, Hand, start, rooms_of, filled, vacant, in_use, in_use_to, all_vacant, AtHome, last_link}
 

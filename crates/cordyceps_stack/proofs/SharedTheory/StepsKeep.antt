@@ -20,11 +20,11 @@ use Rattle.cordyceps_shared.specs.Words.{head}
 use Rattle.cordyceps_shared.specs.Words as word
 use Rattle.cordyceps_shared.specs.declared.layout.TheConstants.{HEAD}
 use Rattle.cordyceps_shared.proofs.Choices.{some_or, first_or, rest_from}
-use Rattle.cordyceps_shared.proofs.Changing.{one_set}
+use Rattle.cordyceps_shared.proofs.ChangedItems.{one_set}
 use Rattle.cordyceps_shared.proofs.Counting.{tally_set, tally_one, tally_two, tally_append, tally_cut, one_here, distinct_few}
 use Rattle.cordyceps_shared.proofs.Places.{times_some, times_at}
-use Rattle.cordyceps_shared.proofs.Seeing.{marked_append, plain_marked, own_without}
-use Rattle.cordyceps_shared.proofs.Telling.{at_length, owned_same, fits_same, tells}
+use Rattle.cordyceps_shared.proofs.HistoryMarks.{marked_append, plain_marked, own_without}
+use Rattle.cordyceps_shared.proofs.StepEvents.{at_length, owned_same, fits_same, tells}
 use Rattle.cordyceps_shared.proofs.Words.{pool_beside_head}
 use Rattle.cordyceps_shared.proofs.TrackRooms.{last_same}
 use Rattle.cordyceps_stack.specs.declared.shared.slot.Slot.{Slot}

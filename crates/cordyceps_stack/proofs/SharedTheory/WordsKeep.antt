@@ -10,9 +10,9 @@ use Rattle.cordyceps_shared.specs.Histories.{events, of_seat}
 use Rattle.cordyceps_shared.specs.Shares.{Name}
 use Rattle.cordyceps_shared.specs.Words.{head}
 use Rattle.cordyceps_shared.specs.declared.layout.TheConstants.{HEAD}
-use Rattle.cordyceps_shared.proofs.Changing.{one_set}
+use Rattle.cordyceps_shared.proofs.ChangedItems.{one_set}
 use Rattle.cordyceps_shared.proofs.Counting.{tally_set, tally_snoc, tally_append}
-use Rattle.cordyceps_shared.proofs.Seeing.{events_more, without_more}
+use Rattle.cordyceps_shared.proofs.HistoryMarks.{events_more, without_more}
 use Rattle.cordyceps_shared.proofs.Words.{head_set}
 use Rattle.cordyceps_stack.specs.History.{Event, Load, Push, Taken, held, held_after, Legal, IsChange, SomeChange}
 use Rattle.cordyceps_stack.specs.Cores.Stages.{room_elements}

@@ -5,7 +5,7 @@ use Rattle.cordyceps_shared.specs.Histories.{plain, own, others}
 use Rattle.cordyceps_shared.specs.Knowing.{Known, Foreign, Grown}
 use Rattle.cordyceps_shared.specs.Shares.{Name, is_prefix, first_name, keeps_half, gives_half, Clear, IsOf}
 use Rattle.cordyceps_shared.proofs.Adding.{plain_append}
-use Rattle.cordyceps_shared.proofs.Naming.{prefix_longer}
+use Rattle.cordyceps_shared.proofs.PartyNames.{prefix_longer}
 use Rattle.cordyceps_shared.proofs.Ordering.{keeps_clear, gives_clear}
 
 -- ---- the names of a share

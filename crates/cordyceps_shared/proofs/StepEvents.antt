@@ -9,10 +9,10 @@ use Rattle.cordyceps_shared.specs.Shares.{Name, covers, whole, first_name, is_pr
 use Rattle.cordyceps_shared.specs.Counts.{one_if}
 use Rattle.cordyceps_shared.specs.Histories.{events, with_marks, plain, others, NoneOf, AllOwn, AreDisjoint, of_seat}
 use Rattle.cordyceps_shared.specs.Knowing.{Known, Foreign, Under, Agrees, Below, SharesDisjoint, AllAgree, Grown, all_seen}
-use Rattle.cordyceps_shared.proofs.Changing.{one_set}
+use Rattle.cordyceps_shared.proofs.ChangedItems.{one_set}
 use Rattle.cordyceps_shared.proofs.Counting.{tally_set, tally_two}
-use Rattle.cordyceps_shared.proofs.Naming.{some_cover, clear_of}
-use Rattle.cordyceps_shared.proofs.Seeing.{events_more, without_more, marked_append, plain_marked, own_append, own_without, own_of, others_append, others_without, others_of}
+use Rattle.cordyceps_shared.proofs.PartyNames.{some_cover, clear_of}
+use Rattle.cordyceps_shared.proofs.HistoryMarks.{events_more, without_more, marked_append, plain_marked, own_append, own_without, own_of, others_append, others_without, others_of}
 
 pub at_length : {A : Type 0} (l : List A) (i : ℕ) (a : A) → get_elem? l i ≡ some a → i < length l
 at_length [] i a e = absurd (some-ne-none a (sym e))

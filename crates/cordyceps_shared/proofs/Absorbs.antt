@@ -7,12 +7,12 @@ use lib.ListN.{get_elem?}
 use Rattle.cordyceps_shared.specs.Shares.{Name, covers, join_shares}
 use Rattle.cordyceps_shared.specs.Histories.{events, with_marks, plain, NoneOf, AreDisjoint}
 use Rattle.cordyceps_shared.specs.Knowing.{Known, Foreign, Agrees, Below, SharesDisjoint, AllAgree, merge_marks, known_absorbing, known_absorbed}
-use Rattle.cordyceps_shared.proofs.Changing.{two_set, was_there}
+use Rattle.cordyceps_shared.proofs.ChangedItems.{two_set, was_there}
 use Rattle.cordyceps_shared.proofs.Counting.{tally_set}
-use Rattle.cordyceps_shared.proofs.Naming.{join_covers, joined_some, letters}
-use Rattle.cordyceps_shared.proofs.Renaming.{same_first, relabel, events_relabel, relabel_append, marked_relabel, without_relabel, without_gone, below_relabel, merge, length_relabel, length_marked, events_append}
-use Rattle.cordyceps_shared.proofs.Seeing.{plain_marked}
-use Rattle.cordyceps_shared.proofs.Telling.{at_length, foreign_end, foreign_none, foreign_both}
+use Rattle.cordyceps_shared.proofs.PartyNames.{join_covers, joined_some, letters}
+use Rattle.cordyceps_shared.proofs.EventOwners.{same_first, relabel, events_relabel, relabel_append, marked_relabel, without_relabel, without_gone, below_relabel, merge, length_relabel, length_marked, events_append}
+use Rattle.cordyceps_shared.proofs.HistoryMarks.{plain_marked}
+use Rattle.cordyceps_shared.proofs.StepEvents.{at_length, foreign_end, foreign_none, foreign_both}
 use Rattle.cordyceps_shared.proofs.Ordering.{joined_clear}
 
 and_false : (c : Bool) → (c && false) ≡ false

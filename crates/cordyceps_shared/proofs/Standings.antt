@@ -6,9 +6,9 @@ use Rattle.cordyceps_shared.specs.Shares.{Name, covers}
 use Rattle.cordyceps_shared.specs.Histories.{events, with_marks, plain, AllOwn}
 use Rattle.cordyceps_shared.specs.Knowing.{Known, Agrees, SharesDisjoint, AllAgree, IsPrefixOf, IsKnown, newcomer}
 use Rattle.cordyceps_shared.proofs.Counting.{tally_one}
-use Rattle.cordyceps_shared.proofs.Renaming.{same_first, events_append}
-use Rattle.cordyceps_shared.proofs.Seeing.{marked_append, plain_marked}
-use Rattle.cordyceps_shared.proofs.Telling.{all_own, whole_without}
+use Rattle.cordyceps_shared.proofs.EventOwners.{same_first, events_append}
+use Rattle.cordyceps_shared.proofs.HistoryMarks.{marked_append, plain_marked}
+use Rattle.cordyceps_shared.proofs.StepEvents.{all_own, whole_without}
 
 -- the only item of a list
 pub only : {A : Type 0} (a b : A) (j : ℕ) → get_elem? (a ∷ []) j ≡ some b → (j ≡ 0) × (a ≡ b)

@@ -5,11 +5,11 @@ use lib.ListN.{get_elem?}
 use Rattle.cordyceps_shared.specs.Shares.{Name, covers, keeps_half, gives_half}
 use Rattle.cordyceps_shared.specs.Histories.{events, with_marks, NoneOf}
 use Rattle.cordyceps_shared.specs.Knowing.{Known, Agrees, Below, SharesDisjoint, AllAgree, without_marks, known_keeping, known_giving}
-use Rattle.cordyceps_shared.proofs.Changing.{set_more}
+use Rattle.cordyceps_shared.proofs.ChangedItems.{set_more}
 use Rattle.cordyceps_shared.proofs.Counting.{tally_set, tally_snoc}
-use Rattle.cordyceps_shared.proofs.Naming.{split_covers, keeps_some, gives_some}
+use Rattle.cordyceps_shared.proofs.PartyNames.{split_covers, keeps_some, gives_some}
 use Rattle.cordyceps_shared.proofs.Ordering.{keeps_clear, gives_clear}
-use Rattle.cordyceps_shared.proofs.Telling.{below_without, foreign_to}
+use Rattle.cordyceps_shared.proofs.StepEvents.{below_without, foreign_to}
 
 module _ {X : Type 0} where
   -- a party that has no event marks none
