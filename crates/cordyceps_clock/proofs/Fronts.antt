@@ -15,10 +15,10 @@ use Rattle.cordyceps_stable.specs.Agreeing.{HasElementAt}
 use Rattle.cordyceps_stable.specs.Arranged.{precedes}
 use Rattle.cordyceps_stable.proofs.Classes.{all_append, all_back, all_weaker}
 use Rattle.cordyceps_stable.proofs.Holding.{unique}
+use Rattle.cordyceps_stable.proofs.Firsts.{first_of}
 use Rattle.cordyceps_clock.specs.Buckets.{number_at, IsFirstBucket, IsTimed}
 use Rattle.cordyceps_clock.specs.Clock.{Holds}
 use Rattle.cordyceps_clock.proofs.Numbers.{earlier}
-use Rattle.cordyceps_clock.proofs.Pops.{first_out}
 use Rattle.cordyceps_clock.proofs.Spreads.{before, stable_put, times_rank}
 
 module _ {X : Type 0} (of : X → ℕ) (now k : ℕ) (ends : List (Option Ptr)) (c : Nodes X) (least : ℕ) (p : Ptr) (len : ℕ) (small : now < 2 ^ 64) (timed : IsTimed of now ends c) (b : IsFirstBucket of now k c least p len) where
@@ -51,5 +51,5 @@ module _ {X : Type 0} (of : X → ℕ) (now k : ℕ) (ends : List (Option Ptr)) 
       let later_none = all_append (λ y. Lt y (p, x) ≡ false) after b.others (all_weaker (λ n. (number_at of now n ≡ k) × (least ≤ of n.1.value)) (λ y. Lt y (p, x) ≡ false) (λ y q. not_less (of y.1.value) (of x.value) (omega (arith, q.1, due))) after own.1) (beyond x due own.0.0 fits.1) in
       let passed = all_weaker (λ n. least < of n.1.value) (λ y. Lt (p, x) y ≡ true) (λ y q. before of (p, x) y (omega (arith, q, due))) low over in
       let first = stable_put Lt (times_rank of) a [] low (after ++ b.others) (p, x) passed (subst (IsStableBy Lt a) whole h) in
-      let out = first_out Lt (times_rank of) (low ++ (after ++ b.others)) a (p, x) first (all_append (λ y. Lt y (p, x) ≡ false) low (after ++ b.others) earlier_none later_none) in
+      let out = first_of Lt (times_rank of) [] (low ++ (after ++ b.others)) a (p, x) first tt (all_append (λ y. Lt y (p, x) ≡ false) low (after ++ b.others) earlier_none later_none) in
       (out.0, subst (λ (o : Element X). IsEarliestLeast Lt a (p, o) out.0) (sym same) out.1.0)

@@ -4,7 +4,8 @@ use Rattle.cordyceps_base.specs.DoubleLines.{flat}
 use Rattle.cordyceps_base.proofs.Segments.{sole_element}
 use Rattle.cordyceps_heap.specs.Heap.{Heaped, Holds, settled}
 use Rattle.cordyceps_heap.proofs.Held.{taken_flat}
-use Rattle.cordyceps_heap.proofs.Least.{first_out, least_there, least_out}
+use Rattle.cordyceps_base.proofs.LineSpots.{first_is_taken}
+use Rattle.cordyceps_heap.proofs.Least.{least_there, least_out}
 use Rattle.cordyceps_heap.proofs.Said.{first_said}
 use Rattle.cordyceps_heap.proofs.Settled.{as_many, has_last, none_fresh, one_shorter, settled_distinct, taken_kept}
 use Rattle.cordyceps_heap.proofs.stable_heap.StableHeap.pop_front.Goals as goal
@@ -17,12 +18,12 @@ take_first-one-requires-clause-some g c =
 pub push-requires : goal.push-requires
 push-requires g c =
     let (p, e, one, out) = c.take_first-one.ensures in let sorted = c.settle_for_least-line.new.lines in let left = c.take_first-one.new.self in let k = c.settle_for_least-line.result in
-    let n = as_many sorted left p e (first_out sorted left k p e out) in let room = c.settle_for_least-line.ensures.room in omega (arith, n, room)
+    let n = as_many sorted left p e (first_is_taken sorted left k p e out) in let room = c.settle_for_least-line.ensures.room in omega (arith, n, room)
 
 pub invariant_of-self : goal.invariant_of-self
 invariant_of-self g c =
     let (p, e, one, out) = c.take_first-one.ensures in let sorted = c.settle_for_least-line.new.lines in let left = c.take_first-one.new.self in let k = c.settle_for_least-line.result in
-    let gone = first_out sorted left k p e out in let n = as_many sorted left p e gone in let room = c.settle_for_least-line.ensures.room in
+    let gone = first_is_taken sorted left k p e out in let n = as_many sorted left p e gone in let room = c.settle_for_least-line.ensures.room in
     let now : settled c.push.new.self ≡ left = none_fresh c.push.new.self left c.empty.result c.push.ensures c.empty.ensures in
     let kept = taken_kept (flat (settled c.self.inside.lines)) (flat sorted) (flat left) p e c.settle_for_least-line.ensures.kept (taken_flat sorted left p e gone) in (
       one_shorter (flat (settled c.self.inside.lines)) (flat left) (p, e) c.self.inside.len kept c.self.invariant.0 ∙ ap (λ s. length (flat s)) (sym now),
@@ -40,7 +41,7 @@ returns-clause-taken g c =
     let same = sole_element c.take_first-one.result p q e c.only.result one only ∙ sym c.from_ptr.ensures in
     let gone = first_said sorted sorted left left k p e o refl same refl out in
     let now : settled c.push.new.self ≡ left = none_fresh c.push.new.self left c.empty.result c.push.ensures c.empty.ensures in
-    let kept = taken_kept (flat (settled c.self.inside.lines)) (flat sorted) (flat left) p o c.settle_for_least-line.ensures.kept (taken_flat sorted left p o (first_out sorted left k p o gone)) in (
+    let kept = taken_kept (flat (settled c.self.inside.lines)) (flat sorted) (flat left) p o c.settle_for_least-line.ensures.kept (taken_flat sorted left p o (first_is_taken sorted left k p o gone)) in (
       p,
       subst (λ s. IsPermutation (flat s) ((p, o) ∷ flat (settled c.push.new.self))) view (subst (λ s. IsPermutation (flat (settled c.self.inside.lines)) ((p, o) ∷ flat s)) (sym now) kept),
       λ cmp a by h.
