@@ -2,11 +2,11 @@
 use Rattle.std.proofs.Common.{◌≡◌, ℕ, suc, ◌+◌, ◌-◌, ◌<◌, List, [], ◌∷◌, ◌++◌, length, reverse, refl, ap, sym, ◌∙◌, subst, inl, inr, arith}
 use Rattle.std.proofs.lemmas.List.{reverse-reverse}
 use Rattle.cordyceps_queue.specs.History as told
-use Rattle.cordyceps_queue.specs.History.{Event, Swap, Link, Take, Busy, Look, Out, Empty, Free, one_if_dec, swaps_by, links_by, looks_by}
+use Rattle.cordyceps_queue.specs.History.{Event, Swap, Link, Take, Busy, Look, Out, Empty, Free, is_swap, is_link, is_look, looks_by}
 use Rattle.cordyceps_queue.specs.Past as past
 use Rattle.cordyceps_queue.specs.Past.{IsOpen, HasLooked}
 use Rattle.cordyceps_queue.proofs.CoreTheory.Basics.{open_from}
-use Rattle.cordyceps_queue.proofs.HistoryEnds.{swaps_by-reverse, links_by-reverse, looks_by-reverse}
+use Rattle.cordyceps_queue.proofs.HistoryEnds.{count-reverse}
 use Rattle.cordyceps_queue.proofs.Legality.{one_same, one_other, came_of, went_of, front_legal, turned_split, turned_at, counts, settled_or_open, stood, stands, not_by}
 use Rattle.cordyceps_queue.proofs.CoreTheory.HolderSteps.{was_now}
 
@@ -19,12 +19,12 @@ module _ {P E : Type 0} (same : Discrete P) where
       let came : length (told.came (reverse S.before)) ≡ length (told.went h) + n = ap length (came_of (reverse S.before) ∙ ap past.came_reversed (reverse-reverse S.before)) ∙ S.there ∙ ap (λ l. length l + n) (sym (went_of h)) in
       record {
         by = q;
-        pending = ap suc (sym (links_by-reverse same q h)) ∙ (counts same (reverse h) legal q).1 (open_from (reverse h) q n pending) ∙ swaps_by-reverse same q h;
+        pending = ap suc (sym (count-reverse same is_link q h)) ∙ (counts same (reverse h) legal q).1 (open_from (reverse h) q n pending) ∙ count-reverse same is_swap q h;
         past = reverse S.before;
         element = S.element;
         later = reverse S.later;
         is = sym (reverse-reverse h) ∙ turned_at (reverse h) S.later S.before (Swap q S.element) S.is;
-        last = swaps_by-reverse same q S.later ∙ S.last;
+        last = count-reverse same is_swap q S.later ∙ S.last;
         held_there = omega (arith, came);
         near = omega (arith, came);
       }
@@ -36,10 +36,10 @@ module _ {P E : Type 0} (same : Discrete P) where
       let came : length (past.came_reversed (reverse B.past)) ≡ length (past.went_reversed (reverse h)) + n =
       ap length (sym (came_of B.past)) ∙ (let l = B.held_there in let e : length (told.came B.past) ≡ length (told.went h) + n = omega arith in e) ∙ ap (λ l. length l + n) (went_of h) in
       let unlinked : IsOpen B.by (reverse h) = elim (settled_or_open same (reverse h) B.by) [
-        | inl s ↦ let c = (counts same (reverse h) legal B.by).0 s in let l = links_by-reverse same B.by h in let w = swaps_by-reverse same B.by h in let e = B.pending in absurd (omega arith)
+        | inl s ↦ let c = (counts same (reverse h) legal B.by).0 s in let l = count-reverse same is_link B.by h in let w = count-reverse same is_swap B.by h in let e = B.pending in absurd (omega arith)
         | inr o ↦ o
       ] in
-      let at = stands same (reverse B.later) (reverse B.past) B.by B.element n (subst past.IsLegalReversed is legal) (subst (IsOpen B.by) is unlinked) (swaps_by-reverse same B.by B.later ∙ B.last)
+      let at = stands same (reverse B.later) (reverse B.past) B.by B.element n (subst past.IsLegalReversed is legal) (subst (IsOpen B.by) is unlinked) (count-reverse same is_swap B.by B.later ∙ B.last)
       (subst (λ g. length (past.came_reversed (reverse B.past)) ≡ length (past.went_reversed g) + n) is came) in
       (B.by, n, (let l = B.near in omega arith), subst (past.IsPendingAt B.by n) (sym is) at)
 
@@ -121,8 +121,8 @@ module _ {P E : Type 0} (same : Discrete P) where
         past = reverse C.before;
         later = reverse C.later;
         is = sym (reverse-reverse h) ∙ turned_split (reverse h) C.later C.before C.is;
-        looked = let l = looked_counts q C.before C.looked in omega (arith, looks_by-reverse same q C.before);
-        last = looks_by-reverse same q C.later ∙ C.none;
+        looked = let l = looked_counts q C.before C.looked in omega (arith, count-reverse same is_look q C.before);
+        last = count-reverse same is_look q C.later ∙ C.none;
         blocked = told_blocked (reverse C.before) front (subst past.IsBlockedReversed (sym back) C.blocked);
       }
 
@@ -130,5 +130,5 @@ module _ {P E : Type 0} (same : Discrete P) where
   past_was_blocked h legal q W =
       let is : reverse h ≡ reverse W.later ++ reverse W.past = turned_split h W.past W.later W.is in
       let front : past.IsLegalReversed (reverse W.past) = front_legal (reverse W.later) (reverse W.past) (subst past.IsLegalReversed is legal) in
-      let looked : 0 < looks_by same q (reverse W.past) = let l = W.looked in omega (arith, looks_by-reverse same q W.past) in
-      subst (past.WasBlockedReversed q) (sym is) (uncut q (reverse W.later) (reverse W.past) (looks_by-reverse same q W.later ∙ W.last) (counts_looked q (reverse W.past) looked) (past_blocked W.past front W.blocked))
+      let looked : 0 < looks_by same q (reverse W.past) = let l = W.looked in omega (arith, count-reverse same is_look q W.past) in
+      subst (past.WasBlockedReversed q) (sym is) (uncut q (reverse W.later) (reverse W.past) (count-reverse same is_look q W.later ∙ W.last) (counts_looked q (reverse W.past) looked) (past_blocked W.past front W.blocked))

@@ -1,12 +1,13 @@
 -- Legal and blocked histories are the same, read from either end.
 use Rattle.std.proofs.Common.{◌≡◌, ◌≢◌, ℕ, suc, ◌+◌, ◌⊎◌, List, [], ◌∷◌, ◌++◌, length, reverse, drop, refl, ap, sym, ◌∙◌, subst, inl, inr, append_assoc, append-nil, length-append, arith}
 use Rattle.std.proofs.lemmas.List.{reverse-append, reverse-reverse, append_cancel_left}
+use Rattle.std.proofs.lemmas.List.Concat.{flat_map-append}
 use Rattle.std.proofs.Math.Seq.{drop-append_seam}
 use Rattle.cordyceps_queue.specs.History as told
-use Rattle.cordyceps_queue.specs.History.{Event, Swap, Link, Take, Busy, Look, Out, Empty, Free, one_if_dec, swaps_by, links_by, looks_by, IsPending, MayFollow}
+use Rattle.cordyceps_queue.specs.History.{Event, Swap, Link, Take, Busy, Look, Out, Empty, Free, comes, goes, is_swap, is_link, one_if_dec, swaps_by, links_by, IsPending, MayFollow}
 use Rattle.cordyceps_queue.specs.Past as past
 use Rattle.cordyceps_queue.specs.Past.{IsSettled, IsOpen, IsPendingAt, HasLooked, MayCome}
-use Rattle.cordyceps_queue.proofs.HistoryEnds.{reverse-cons, came-append, went-append, came-reverse, went-reverse, holder-reverse, swaps_by-append, links_by-append, swaps_by-reverse, links_by-reverse, in_order}
+use Rattle.cordyceps_queue.proofs.HistoryEnds.{reverse-cons, came-reverse, went-reverse, holder-reverse, count-append, count-reverse, in_order}
 
 pub one_same : {A : Type 0} (d : Dec A) → A → one_if_dec d ≡ 1
 one_same (yes a) x = refl
@@ -108,8 +109,8 @@ module _ {P E : Type 0} (same : Discrete P) where
   -- as many links as swaps, or one fewer
   even_or_one : (h : List (Event P E)) → past.IsLegalReversed (reverse h) → (q : P) → (links_by same q h ≡ swaps_by same q h) ⊎ IsPending same q h
   even_or_one h legal q =
-      let l : links_by same q (reverse h) ≡ links_by same q h = links_by-reverse same q h in
-      let s : swaps_by same q (reverse h) ≡ swaps_by same q h = swaps_by-reverse same q h in
+      let l : links_by same q (reverse h) ≡ links_by same q h = count-reverse same is_link q h in
+      let s : swaps_by same q (reverse h) ≡ swaps_by same q h = count-reverse same is_swap q h in
       elim (settled_or_open (reverse h) q) [
         | inl a ↦ inl (sym l ∙ (counts (reverse h) legal q).0 a ∙ s)
         | inr b ↦ inr (ap suc (sym l) ∙ (counts (reverse h) legal q).1 b ∙ s)
@@ -138,8 +139,8 @@ module _ {P E : Type 0} (same : Discrete P) where
   module _ (g : List (Event P E)) (legal : past.IsLegalReversed g) (x : Event P E) (L : told.IsLegal same (reverse g ++ x ∷ [])) where
     links_with : (q : P) → (links_by same q g + links_by same q (x ∷ []) ≡ swaps_by same q g + swaps_by same q (x ∷ [])) ⊎ (suc (links_by same q g + links_by same q (x ∷ [])) ≡ swaps_by same q g + swaps_by same q (x ∷ []))
     links_with q =
-        let l : links_by same q (reverse g ++ x ∷ []) ≡ links_by same q g + links_by same q (x ∷ []) = links_by-append same q (reverse g) (x ∷ []) ∙ ap (λ n. n + links_by same q (x ∷ [])) (links_by-reverse same q g) in
-        let s : swaps_by same q (reverse g ++ x ∷ []) ≡ swaps_by same q g + swaps_by same q (x ∷ []) = swaps_by-append same q (reverse g) (x ∷ []) ∙ ap (λ n. n + swaps_by same q (x ∷ [])) (swaps_by-reverse same q g) in
+        let l : links_by same q (reverse g ++ x ∷ []) ≡ links_by same q g + links_by same q (x ∷ []) = count-append same is_link q (reverse g) (x ∷ []) ∙ ap (λ n. n + links_by same q (x ∷ [])) (count-reverse same is_link q g) in
+        let s : swaps_by same q (reverse g ++ x ∷ []) ≡ swaps_by same q g + swaps_by same q (x ∷ []) = count-append same is_swap q (reverse g) (x ∷ []) ∙ ap (λ n. n + swaps_by same q (x ∷ [])) (count-reverse same is_swap q g) in
         elim (L.links (reverse g ++ x ∷ []) [] (sym (append-nil (reverse g ++ x ∷ []))) q) [
           | inl a ↦ inl (sym l ∙ a ∙ s)
           | inr b ↦ inr (ap suc (sym l) ∙ b ∙ s)
@@ -165,8 +166,8 @@ module _ {P E : Type 0} (same : Discrete P) where
   came_next g legal (Look p) L = sym (held_by g legal (Look p) L) ∙ may g legal (Look p) L
   came_next g legal (Out p e) L =
       let w = L.in_order (reverse g ++ Out p e ∷ []) [] (sym (append-nil (reverse g ++ Out p e ∷ []))) in
-      let out : told.went (reverse g ++ Out p e ∷ []) ≡ past.went_reversed g ++ e ∷ [] = went-append (reverse g) (Out p e ∷ []) ∙ ap (λ l. l ++ e ∷ []) (went-reverse g) in
-      let all : told.came (reverse g ++ Out p e ∷ []) ≡ past.came_reversed g = came-append (reverse g) (Out p e ∷ []) ∙ append-nil (told.came (reverse g)) ∙ came-reverse g in
+      let out : told.went (reverse g ++ Out p e ∷ []) ≡ past.went_reversed g ++ e ∷ [] = flat_map-append goes (reverse g) (Out p e ∷ []) ∙ ap (λ l. l ++ e ∷ []) (went-reverse g) in
+      let all : told.came (reverse g ++ Out p e ∷ []) ≡ past.came_reversed g = flat_map-append comes (reverse g) (Out p e ∷ []) ∙ append-nil (told.came (reverse g)) ∙ came-reverse g in
       let both : past.went_reversed g ++ past.held_reversed g ≡ past.went_reversed g ++ e ∷ w.0 = in_order P E g legal ∙ sym all ∙ sym w.1 ∙ ap (λ l. l ++ w.0) out ∙ append_assoc (past.went_reversed g) (e ∷ []) w.0 in
       (sym (held_by g legal (Out p e) L) ∙ may g legal (Out p e) L, w.0, append_cancel_left (past.went_reversed g) (past.held_reversed g) (e ∷ w.0) both)
   came_next g legal (Empty p) L =

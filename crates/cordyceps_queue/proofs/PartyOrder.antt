@@ -1,13 +1,13 @@
 -- What every legal history says of producers and of the holder; and that of two swaps of the right at most one gets it.
-use Rattle.std.proofs.Common.{◌≡◌, ◌+◌, ◌⊎◌, List, [], ◌∷◌, ◌++◌, map, take, drop, reverse, length, Option, Some, None, refl, ap, sym, ◌∙◌, subst, inl, inr, append-nil, arith}
-use Rattle.std.proofs.lemmas.List.{take-append-drop, take-map, drop-map}
+use Rattle.std.proofs.Common.{◌≡◌, ◌⊎◌, List, [], ◌∷◌, ◌++◌, map, take, drop, reverse, length, Option, Some, None, refl, ap, sym, ◌∙◌, subst, inl, inr, append-nil, arith}
+use Rattle.std.proofs.lemmas.List.{take-append-drop, take-map, drop-map, map-append}
 use Rattle.std.proofs.Math.Seq.{take-append_seam, drop-append_seam}
-use Rattle.cordyceps_queue.specs.History.{Event, Swap, Link, Take, Busy, Look, Out, Empty, Free, IsLegal, came, went, held, holder}
-use Rattle.cordyceps_queue.specs.Laws.{first_if, sends_in, sent_by, put_in_by, takes_by, frees_by, HasRight, ProducersInOrder, OneHolder}
+use Rattle.cordyceps_queue.specs.History.{Event, Swap, Link, Take, Busy, Look, Out, Empty, Free, IsLegal, actor, comes, came, went, held, holder, is_take, is_free}
+use Rattle.cordyceps_queue.specs.Laws.{first_if, sends_in, sent_by, takes_by, frees_by, HasRight, ProducersInOrder, OneHolder}
 use Rattle.cordyceps_queue.specs.Past as past
 use Rattle.cordyceps_queue.proofs.CoreTheory.Basics.{some_inj, none_some}
 use Rattle.cordyceps_queue.proofs.BothWays.{legal_both_ways}
-use Rattle.cordyceps_queue.proofs.HistoryEnds.{reverse-cons}
+use Rattle.cordyceps_queue.proofs.HistoryEnds.{count-reverse}
 use Rattle.cordyceps_queue.proofs.Legality.{one_same, one_other, front_legal, holder_of, turned_split}
 
 first_append : {A E : Type 0} (d : Dec A) (e : E) (es fs : List E) → first_if d e (es ++ fs) ≡ first_if d e es ++ fs
@@ -15,65 +15,20 @@ first_append (yes a) e es fs = refl
 first_append (no n) e es fs = refl
 
 module _ {P E : Type 0} where
+  map_sent : (p : P) (es : List E) → map (λ (s : P × E). s.1) (map (λ e. (p, e)) es) ≡ es
+  map_sent p [] = refl
+  map_sent p (e ∷ es) = ap (λ l. e ∷ l) (map_sent p es)
+
   came_sent : (h : List (Event P E)) → map (λ x. x.1) (sends_in h) ≡ came h
   came_sent [] = refl
-  came_sent (Swap p e ∷ h) = ap (λ l. e ∷ l) (came_sent h)
-  came_sent (Link p ∷ h) = came_sent h
-  came_sent (Take p ∷ h) = came_sent h
-  came_sent (Busy p ∷ h) = came_sent h
-  came_sent (Look p ∷ h) = came_sent h
-  came_sent (Out p e ∷ h) = came_sent h
-  came_sent (Empty p ∷ h) = came_sent h
-  came_sent (Free p ∷ h) = came_sent h
+  came_sent (x ∷ h) =
+      map-append (λ s. s.1) (map (λ e. (actor x, e)) (comes x)) (sends_in h) ∙ ap (λ l. l ++ map (λ s. s.1) (sends_in h)) (map_sent (actor x) (comes x)) ∙ ap (λ l. comes x ++ l) (came_sent h)
 
 module _ {P E : Type 0} (same : Discrete P) (q : P) where
   sent_by_append : (xs ys : List (P × E)) → sent_by same q (xs ++ ys) ≡ sent_by same q xs ++ sent_by same q ys
   sent_by_append [] ys = refl
   sent_by_append (x ∷ xs) ys =
       ap (first_if (same q x.0) x.1) (sent_by_append xs ys) ∙ first_append (same q x.0) x.1 (sent_by same q xs) (sent_by same q ys)
-
-  put_in : (h : List (Event P E)) → sent_by same q (sends_in h) ≡ put_in_by same q h
-  put_in [] = refl
-  put_in (Swap p e ∷ h) = ap (first_if (same q p) e) (put_in h)
-  put_in (Link p ∷ h) = put_in h
-  put_in (Take p ∷ h) = put_in h
-  put_in (Busy p ∷ h) = put_in h
-  put_in (Look p ∷ h) = put_in h
-  put_in (Out p e ∷ h) = put_in h
-  put_in (Empty p ∷ h) = put_in h
-  put_in (Free p ∷ h) = put_in h
-
-  pub takes_append : (h t : List (Event P E)) → takes_by same q (h ++ t) ≡ takes_by same q h + takes_by same q t
-  takes_append [] t = omega arith
-  takes_append (Take p ∷ h) t = let r = takes_append h t in omega arith
-  takes_append (Swap p e ∷ h) t = takes_append h t
-  takes_append (Link p ∷ h) t = takes_append h t
-  takes_append (Busy p ∷ h) t = takes_append h t
-  takes_append (Look p ∷ h) t = takes_append h t
-  takes_append (Out p e ∷ h) t = takes_append h t
-  takes_append (Empty p ∷ h) t = takes_append h t
-  takes_append (Free p ∷ h) t = takes_append h t
-
-  pub frees_append : (h t : List (Event P E)) → frees_by same q (h ++ t) ≡ frees_by same q h + frees_by same q t
-  frees_append [] t = omega arith
-  frees_append (Free p ∷ h) t = let r = frees_append h t in omega arith
-  frees_append (Swap p e ∷ h) t = frees_append h t
-  frees_append (Link p ∷ h) t = frees_append h t
-  frees_append (Take p ∷ h) t = frees_append h t
-  frees_append (Busy p ∷ h) t = frees_append h t
-  frees_append (Look p ∷ h) t = frees_append h t
-  frees_append (Out p e ∷ h) t = frees_append h t
-  frees_append (Empty p ∷ h) t = frees_append h t
-
-  takes_reverse : (g : List (Event P E)) → takes_by same q (reverse g) ≡ takes_by same q g
-  takes_reverse [] = refl
-  takes_reverse (x ∷ g) =
-      ap (takes_by same q) (reverse-cons x g) ∙ (let r = takes_reverse g in omega (arith, takes_append (reverse g) (x ∷ []), takes_append (x ∷ []) g))
-
-  frees_reverse : (g : List (Event P E)) → frees_by same q (reverse g) ≡ frees_by same q g
-  frees_reverse [] = refl
-  frees_reverse (x ∷ g) =
-      ap (frees_by same q) (reverse-cons x g) ∙ (let r = frees_reverse g in omega (arith, frees_append (reverse g) (x ∷ []), frees_append (x ∷ []) g))
 
   -- the counts of the holder, and of any other party
   counted : (g : List (Event P E)) → past.IsLegalReversed g
@@ -120,7 +75,7 @@ producers_in_order P E same h before later legal e =
       gone = sym (take-map (λ x. x.1) n (sends_in before)) ∙ ap (take n) (came_sent before ∙ sym i.1) ∙ take-append_seam (went before) i.0;
       kept = sym (drop-map (λ x. x.1) n (sends_in before)) ∙ ap (drop n) (came_sent before);
       all = all;
-      each = λ q. sym (sent_by_append same q (take n (sends_in before)) (drop n (sends_in before))) ∙ ap (sent_by same q) all ∙ put_in same q before;
+      each = λ q. sym (sent_by_append same q (take n (sends_in before)) (drop n (sends_in before))) ∙ ap (sent_by same q) all;
     }
 
 pub one_holder : (P E : Type 0) → OneHolder P E
@@ -135,12 +90,12 @@ one_holder P E same h before later legal e =
     has : past.IsLegalReversed (reverse before) → (q : P) → holder before ≡ Some q → HasRight same q before
     has l q is =
         let r = (counted same q (reverse before) l).0 (sym (holder_of before) ∙ is) in
-        omega (arith, takes_reverse same q before, frees_reverse same q before)
+        omega (arith, count-reverse same is_take q before, count-reverse same is_free q before)
 
     even : past.IsLegalReversed (reverse before) → (q : P) → (holder before ≡ Some q → ⊥) → frees_by same q before ≡ takes_by same q before
     even l q no_right =
         let r = (counted same q (reverse before) l).1 (λ is. no_right (holder_of before ∙ is)) in
-        omega (arith, takes_reverse same q before, frees_reverse same q before)
+        omega (arith, count-reverse same is_take q before, count-reverse same is_free q before)
 
     counts : past.IsLegalReversed (reverse before) → (q : P) → HasRight same q before ⊎ (frees_by same q before ≡ takes_by same q before)
     counts l q = elim (is_of same (holder before) q) [ inl is ↦ inl (has l q is) | inr no_right ↦ inr (even l q no_right) ]

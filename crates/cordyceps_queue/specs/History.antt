@@ -1,6 +1,6 @@
 -- The history of a queue: what its parties, of any type of names P, did to it, the oldest event first.
-use Rattle.std.specs.Prelude.{◌≡◌, ℕ, suc, ◌+◌, ◌<◌, ◌≤◌, ◌≢◌, ◌⊎◌, List, [], ◌∷◌, ◌++◌, drop, length, Option, Some}
-use Rattle.std.specs.Prelude.{None}
+use Rattle.std.specs.Prelude.{◌≡◌, ℕ, suc, ◌+◌, ◌<◌, ◌≤◌, ◌≢◌, ◌⊎◌, List, [], ◌∷◌, ◌++◌, drop, length, flat_map}
+use Rattle.std.specs.Prelude.{Option, Some, None, Bool, true, false}
 
 pub data Event (P E : Type 0) : Type 0 where
   -- the party put its element last, and later made the one before lead to it
@@ -33,16 +33,21 @@ module _ {P E : Type 0} where
   actor (Empty p) = p
   actor (Free p) = p
 
+  -- the elements that an event puts in, and those that it takes out
+  abbrev pub comes : Event P E → List E
+  comes (Swap p e) = e ∷ []
+  comes _ = []
+
+  abbrev pub goes : Event P E → List E
+  goes (Out p e) = e ∷ []
+  goes _ = []
+
   -- the elements that were put in, and those that came out
   abbrev pub came : List (Event P E) → List E
-  came [] = []
-  came (Swap p e ∷ h) = e ∷ came h
-  came (_ ∷ h) = came h
+  came h = flat_map comes h
 
   abbrev pub went : List (Event P E) → List E
-  went [] = []
-  went (Out p e ∷ h) = e ∷ went h
-  went (_ ∷ h) = went h
+  went h = flat_map goes h
 
   -- what came in without what went out, oldest first
   abbrev pub held : List (Event P E) → List E
@@ -76,21 +81,47 @@ abbrev pub one_if_dec : {A : Type 0} → Dec A → ℕ
 one_if_dec (yes a) = 1
 one_if_dec (no n) = 0
 
+-- one more than n, if it is both
+abbrev pub more_if : {A : Type 0} → Bool → Dec A → ℕ → ℕ
+more_if true d n = one_if_dec d + n
+more_if false d n = n
+
+module _ {P E : Type 0} where
+  -- the kinds of events that are counted
+  abbrev pub is_swap : Event P E → Bool
+  is_swap (Swap p e) = true
+  is_swap _ = false
+
+  abbrev pub is_link : Event P E → Bool
+  is_link (Link p) = true
+  is_link _ = false
+
+  abbrev pub is_look : Event P E → Bool
+  is_look (Look p) = true
+  is_look _ = false
+
+  abbrev pub is_take : Event P E → Bool
+  is_take (Take p) = true
+  is_take _ = false
+
+  abbrev pub is_free : Event P E → Bool
+  is_free (Free p) = true
+  is_free _ = false
+
 module _ {P E : Type 0} (same : Discrete P) where
+  -- how many events of this kind are the party's
+  abbrev pub count_of : (Event P E → Bool) → P → List (Event P E) → ℕ
+  count_of kind q [] = 0
+  count_of kind q (x ∷ h) = more_if (kind x) (same q (actor x)) (count_of kind q h)
+
   abbrev pub swaps_by : P → List (Event P E) → ℕ
-  swaps_by q [] = 0
-  swaps_by q (Swap p e ∷ h) = one_if_dec (same q p) + swaps_by q h
-  swaps_by q (_ ∷ h) = swaps_by q h
+  swaps_by q h = count_of is_swap q h
 
   abbrev pub links_by : P → List (Event P E) → ℕ
-  links_by q [] = 0
-  links_by q (Link p ∷ h) = one_if_dec (same q p) + links_by q h
-  links_by q (_ ∷ h) = links_by q h
+  links_by q h = count_of is_link q h
 
   abbrev pub looks_by : P → List (Event P E) → ℕ
-  looks_by q [] = 0
-  looks_by q (Look p ∷ h) = one_if_dec (same q p) + looks_by q h
-  looks_by q (_ ∷ h) = looks_by q h
+  looks_by q h = count_of is_look q h
 
   -- the party has one link fewer than swaps
   abbrev pub IsPending : P → List (Event P E) → Type 0

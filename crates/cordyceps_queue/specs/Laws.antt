@@ -1,12 +1,13 @@
 -- What every legal history says, and that histories say the same read from either end.
-use Rattle.std.specs.Prelude.{◌≡◌, ℕ, suc, ◌+◌, ◌⊎◌, List, [], ◌∷◌, ◌++◌, map, reverse, Bool, true, Some, Err, ◌↔◌}
+use Rattle.std.specs.Prelude.{◌≡◌, ℕ, suc, ◌⊎◌, List, [], ◌∷◌, ◌++◌, map, flat_map, reverse, Bool, true}
+use Rattle.std.specs.Prelude.{Some, Err, ◌↔◌}
 use Rattle.cordyceps_shared.specs.Histories.{plain}
 use Rattle.cordyceps_shared.specs.Shares.{Name, IsOf}
 use Rattle.cordyceps_shared.specs.Standings.{name_of}
 use Rattle.cordyceps_queue.specs.declared.cores.steps.TryDequeueError.TheVariants as error
 use Rattle.cordyceps_queue.specs.Shared.Calls.{PartyOf, Legal, NonePending, NoneHolds, Adds, Dequeues, Consumes}
 use Rattle.cordyceps_queue.specs.History as told
-use Rattle.cordyceps_queue.specs.History.{Event, Swap, Take, Busy, Free, went, held, holder, one_if_dec}
+use Rattle.cordyceps_queue.specs.History.{Event, Take, Busy, actor, comes, went, held, holder, count_of, is_take, is_free}
 use Rattle.cordyceps_queue.specs.Past as past
 
 -- legal by the conditions on every prefix, or event by event
@@ -32,9 +33,7 @@ first_if (no n) e es = es
 module _ {P E : Type 0} where
   -- the elements that came in, each with the party that put it in
   abbrev pub sends_in : List (Event P E) → List (P × E)
-  sends_in [] = []
-  sends_in (Swap p e ∷ h) = (p, e) ∷ sends_in h
-  sends_in (_ ∷ h) = sends_in h
+  sends_in h = flat_map (λ x. map (λ e. (actor x, e)) (comes x)) h
 
 module _ {P E : Type 0} (same : Discrete P) where
   -- those of them that one party put in
@@ -44,9 +43,7 @@ module _ {P E : Type 0} (same : Discrete P) where
 
   -- the elements that one party put in, in its order
   abbrev pub put_in_by : P → List (Event P E) → List E
-  put_in_by q [] = []
-  put_in_by q (Swap p e ∷ h) = first_if (same q p) e (put_in_by q h)
-  put_in_by q (_ ∷ h) = put_in_by q h
+  put_in_by q h = sent_by q (sends_in h)
 
   -- what came out was put in by these parties, and what is held by those: of each party, what came out, in the order in
   -- which it did, and then what is held, is what that party put in, in its order
@@ -60,14 +57,10 @@ module _ {P E : Type 0} (same : Discrete P) where
 
   -- how often the party took the right, and how often it gave it back
   abbrev pub takes_by : P → List (Event P E) → ℕ
-  takes_by q [] = 0
-  takes_by q (Take p ∷ h) = one_if_dec (same q p) + takes_by q h
-  takes_by q (_ ∷ h) = takes_by q h
+  takes_by q h = count_of same is_take q h
 
   abbrev pub frees_by : P → List (Event P E) → ℕ
-  frees_by q [] = 0
-  frees_by q (Free p ∷ h) = one_if_dec (same q p) + frees_by q h
-  frees_by q (_ ∷ h) = frees_by q h
+  frees_by q h = count_of same is_free q h
 
   -- it took the right once more than it gave it back
   abbrev pub HasRight : P → List (Event P E) → Type 0

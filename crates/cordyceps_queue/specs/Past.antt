@@ -1,7 +1,7 @@
 -- Histories read from their newest event back: what was before an event is the rest of the list. These forms go by
 -- recursion on that list, and say the same as those of History on the list reversed.
 use Rattle.std.specs.Prelude.{◌≡◌, ℕ, suc, ◌<◌, ◌≢◌, ◌⊎◌, List, [], ◌∷◌, ◌++◌, drop, length, Option, Some, None}
-use Rattle.cordyceps_queue.specs.History.{Event, Swap, Link, Take, Busy, Look, Out, Empty, Free}
+use Rattle.cordyceps_queue.specs.History.{Event, Swap, Link, Take, Busy, Look, Out, Empty, Free, holder_after}
 
 -- the elements that came in, oldest first
 abbrev pub came_reversed : {P E : Type 0} → List (Event P E) → List E
@@ -24,9 +24,7 @@ held_reversed (_ ∷ h) = held_reversed h
 
 abbrev pub holder_reversed : {P E : Type 0} → List (Event P E) → Option P
 holder_reversed [] = None
-holder_reversed (Take p ∷ h) = Some p
-holder_reversed (Free p ∷ h) = None
-holder_reversed (_ ∷ h) = holder_reversed h
+holder_reversed (x ∷ h) = holder_after (holder_reversed h) x
 
 -- each swap of the party has its link
 abbrev pub IsSettled : {P E : Type 0} → P → List (Event P E) → Type 0

@@ -1,12 +1,12 @@
 -- A party and a room more.
-use Rattle.std.proofs.Common.{◌≡◌, ℕ, suc, List, [], Option, Some, None, refl, sym, ap, ◌∙◌, inl, inr, arith}
+use Rattle.std.proofs.Common.{◌≡◌, ◌≢◌, ℕ, suc, List, [], Option, Some, None, refl, sym, ap, ◌∙◌, arith}
 use Rattle.cordyceps_queue.specs.History.{Event}
 use Rattle.cordyceps_queue.specs.declared.cores.stage.Stage.TheVariants.{Rest}
 use Rattle.cordyceps_queue.specs.Cores.Abstract.{AbstractParty, AbstractMachine, update, insert_room, add_party, add_room}
-use Rattle.cordyceps_queue.specs.Cores.Meets.{Owner, Spare, Ready, Unmade, Chain, OwnsRooms, Joined, IsStranger, AtStage, RightIs, Meets}
+use Rattle.cordyceps_queue.specs.Cores.Meets.{Owner, Spare, Ready, Unmade, Chain, OwnsRooms, IsStranger, AtStage, Meets}
 use Rattle.cordyceps_queue.specs.Cores.StepKeeps.{AddsKeep}
 use Rattle.cordyceps_queue.proofs.CoreTheory.Basics.{owner_else, owns_else, none_some, put_other, put_all}
-use Rattle.cordyceps_queue.proofs.CoreTheory.OtherParties.{fits_dealt, goes_dealt, taken_with}
+use Rattle.cordyceps_queue.proofs.CoreTheory.OtherParties.{fits_dealt, goes_dealt, joined_yet, right_yet}
 use Rattle.cordyceps_queue.proofs.CoreTheory.StepLeaves.{chain_dealt, joined_still, moves_on, right_kept, rooms_on}
 use Rattle.cordyceps_queue.proofs.CoreTheory.ProducerSteps.{spare_unmade, ready_unmade, shared_unmade}
 use Rattle.cordyceps_queue.proofs.CoreTheory.ChainShrinks.{owns_insert}
@@ -22,28 +22,21 @@ module _ {P E : Type 0} (m : AbstractMachine P E) (c : Chain) (h : List (Event P
     still : (j : ℕ) (p : AbstractParty P) → m.party j ≡ Some p → parties j ≡ Some p
     still j p e = put_other m.party k (Some added_party) j (λ s. none_some (sym absent ∙ ap m.party (sym s) ∙ e)) ∙ e
 
-    joined_yet : (a b : ℕ) → Joined m.next m.party a b → Joined m.next parties a b
-    joined_yet a b (inl l) = inl l
-    joined_yet a b (inr o) =
-        let d = o.1 in
-        inr (o.0, record { by = d.by; who = d.who; there = still d.by d.who d.there; owes = d.owes })
-
-    right_still : (keeper : Option ℕ) → RightIs m.right m.party c.rooms h keeper → RightIs m.right parties c.rooms h keeper
-    right_still None R = R
-    right_still (Some j) R = taken_with R (still j R.by R.there) R.held
+    stays : (j : ℕ) (p : AbstractParty P) → m.party j ≡ Some p → p.stage ≢ Rest → parties j ≡ Some p
+    stays j p e busy = still j p e
 
     party_keeps : Meets (add_party m k name) c h
     party_keeps = record {
       legal = M.legal;
       last = M.last;
       ends = M.ends;
-      joined = λ i a b ia ib. joined_yet a b (M.joined i a b ia ib);
+      joined = λ i a b ia ib. joined_yet stays m.next a b (M.joined i a b ia ib);
       once = M.once;
       shared = M.shared;
       stub = M.stub;
       unmade = M.unmade;
       holds = M.holds;
-      right = right_still c.keeper M.right;
+      right = right_yet stays m.right c.rooms h c.keeper M.right;
       fits = put_all (λ j q. AtStage m.head m.next m.cell c.owner c.keeper c.rooms h j q.name q.stage) m.party k added_party (λ j q ne eq. M.fits j q eq) (M.strangers name fresh);
       rooms = put_all (λ j q. OwnsRooms c.owner j q.spare) m.party k added_party (λ j q ne eq. M.rooms j q eq) (record { own = λ i r a. absurd a; once = λ i j r a b. absurd a });
       names = λ i j x y ei ej. put_all (λ i x. x.name ≡ y.name → i ≡ j) m.party k added_party

@@ -9,14 +9,14 @@ use Rattle.cordyceps_queue.specs.declared.cores.steps.QueueStep.TheVariants as s
 use Rattle.cordyceps_queue.specs.declared.cores.steps.QueueAnswer.{QueueAnswer}
 use Rattle.cordyceps_queue.specs.declared.cores.steps.QueueAnswer.TheVariants as answer
 use Rattle.cordyceps_queue.specs.declared.cores.steps.TryDequeueError.TheVariants as error
-use Rattle.cordyceps_queue.specs.History.{Event, Take, Busy, Look, Free, came, went, held, holder, IsBlocked}
+use Rattle.cordyceps_queue.specs.History.{Event, Take, Busy, Look, Free, came, went, held, holder, IsBlocked, comes, goes}
 use Rattle.cordyceps_queue.specs.Past as past
 use Rattle.cordyceps_queue.specs.Cores.Machine.{Machine, Outcome, events_of, after_step_at, after_step, take}
 use Rattle.cordyceps_queue.specs.Cores.CoreMeets.{right_word, party_at, abstract_of, CoreMeets}
 use Rattle.cordyceps_queue.specs.Cores.Alone.{found_of, may_dequeue, tries, gives_back, takes_first, after_dequeue_at, after_dequeue, try_events, dequeue_events, Finds, LooksBlocked}
 use Rattle.cordyceps_queue.proofs.CoreTheory.Basics.{some_inj, some_none}
 use Rattle.cordyceps_queue.proofs.Blocked.{told_blocked, past_blocked}
-use Rattle.cordyceps_queue.proofs.HistoryEnds.{came-append, went-append}
+use Rattle.std.proofs.lemmas.List.Concat.{flat_map-append}
 use Rattle.cordyceps_queue.proofs.CoreTheory.DequeueSteps.{free_right}
 use Rattle.cordyceps_queue.proofs.CoreTheory.HolderSteps.{keeping}
 use Rattle.cordyceps_queue.proofs.Legality.{holder_of}
@@ -27,7 +27,7 @@ use Rattle.cordyceps_queue.proofs.CoreTheory.AloneTry.{IsFinal, step_met, tries_
 
 module _ {E : Type 0} where
   pub held_take : (h : List (Event ℕ E)) (p : ℕ) → held (h ++ Take p ∷ []) ≡ held h
-  held_take h p = ap (λ w. drop (length w) (came (h ++ Take p ∷ []))) (went-append h (Take p ∷ []) ∙ append-nil (went h)) ∙ ap (drop (length (went h))) (came-append h (Take p ∷ []) ∙ append-nil (came h))
+  held_take h p = ap (λ w. drop (length w) (came (h ++ Take p ∷ []))) (flat_map-append goes h (Take p ∷ []) ∙ append-nil (went h)) ∙ ap (drop (length (went h))) (flat_map-append comes h (Take p ∷ []) ∙ append-nil (came h))
 
   -- what is blocked just after the right was taken was blocked before it
   blocked_take : (h : List (Event ℕ E)) (p : ℕ) (m : Machine E) → CoreMeets (h ++ Take p ∷ []) m → IsBlocked ℕ_discrete (h ++ Take p ∷ []) → IsBlocked ℕ_discrete h

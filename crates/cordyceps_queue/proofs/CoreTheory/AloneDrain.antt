@@ -11,13 +11,13 @@ use Rattle.cordyceps_queue.specs.declared.cores.steps.QueueAnswer.{QueueAnswer}
 use Rattle.cordyceps_queue.specs.declared.cores.steps.QueueAnswer.TheVariants as answer
 use Rattle.cordyceps_queue.specs.declared.cores.steps.TryDequeueError.{TryDequeueError}
 use Rattle.cordyceps_queue.specs.declared.cores.steps.TryDequeueError.TheVariants as error
-use Rattle.cordyceps_queue.specs.History.{Event, Take, Busy, Look, Out, Free, held, holder, swaps_by, links_by, IsBlocked, outs}
+use Rattle.cordyceps_queue.specs.History.{Event, Take, Busy, Look, Out, Free, held, holder, swaps_by, links_by, IsBlocked, outs, is_swap, is_link}
 use Rattle.cordyceps_queue.specs.Past as past
 use Rattle.cordyceps_queue.specs.Cores.Machine.{Machine, Outcome, events_of, after_step_at, after_step, take}
 use Rattle.cordyceps_queue.specs.Cores.CoreMeets.{CoreMeets}
 use Rattle.cordyceps_queue.specs.Cores.Alone.{found_of, may_dequeue, tries, try_events, Finds}
 use Rattle.cordyceps_queue.specs.Cores.Drain.{Drained, drain_goes_on, after_drain, hands_back, drains_first, after_drain_at, batch_of, oldest, NobodyPending, NobodyElse, drain_events, batch_events, last_look, Stops, Drains}
-use Rattle.cordyceps_queue.proofs.HistoryEnds.{swaps_by-append, links_by-append}
+use Rattle.cordyceps_queue.proofs.HistoryEnds.{count-append}
 use Rattle.cordyceps_queue.proofs.CoreTheory.AloneDequeue.{held_take, still_blocked, no_right, holds_right}
 use Rattle.cordyceps_queue.proofs.Legality.{held_of}
 use Rattle.cordyceps_shared.proofs.ListWrites.{slice_get-set_same}
@@ -247,7 +247,7 @@ module _ {E : Type 0} where
       ap Ok (sym (take_all n (e ∷ es) few)) ∙ sym (ap (oldest n) s)
   stops_oldest h p n stage es rest (Some error.Inconsistent) some first few s still mine =
       let l = last_look p stage es in
-      absurd (still s.by (omega (arith, s.pending, swaps_by-append ℕ_discrete s.by h l, links_by-append ℕ_discrete s.by h l, last_swap s.by p stage es, last_link s.by p stage es)))
+      absurd (still s.by (omega (arith, s.pending, count-append ℕ_discrete is_swap s.by h l, count-append ℕ_discrete is_link s.by h l, last_swap s.by p stage es, last_link s.by p stage es)))
   stops_oldest h p n stage es rest (Some error.Busy) some first few s still mine = let (_, by, held, other) = s in absurd (other (mine by held))
 
   pub oldest_law : (h : List (Event ℕ E)) (m : Machine E) (p n : ℕ) → CoreMeets h m → may_dequeue (slice_get m.parties p) ≡ true → 1 ≤ n → NobodyPending h → NobodyElse h p →

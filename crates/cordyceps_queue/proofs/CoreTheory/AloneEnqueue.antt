@@ -7,13 +7,13 @@ use Rattle.cordyceps_queue.specs.declared.cores.stage.Stage.{Stage}
 use Rattle.cordyceps_queue.specs.declared.cores.stage.Stage.TheVariants.{Rest, Cleared, Swapped}
 use Rattle.cordyceps_queue.specs.declared.cores.steps.QueueStep.TheVariants as step
 use Rattle.cordyceps_queue.specs.declared.cores.steps.QueueAnswer.TheVariants as answer
-use Rattle.cordyceps_queue.specs.History.{Event, Swap, Link, came, went, held}
+use Rattle.cordyceps_queue.specs.History.{Event, Swap, Link, came, went, held, comes, goes}
 use Rattle.cordyceps_shared.specs.Rooms.{element_in}
 use Rattle.cordyceps_queue.specs.Cores.Machine.{Machine, least_free, comes_in, with_element, after_step_at, after_step, clear, swap, link}
 use Rattle.cordyceps_queue.specs.Cores.CoreMeets.{CoreMeets, core_step}
 use Rattle.cordyceps_queue.specs.Cores.Alone.{is_rest, is_ready, enqueue_steps}
 use Rattle.cordyceps_shared.proofs.Choices.{both_from, some_from}
-use Rattle.cordyceps_queue.proofs.HistoryEnds.{came-append, went-append}
+use Rattle.std.proofs.lemmas.List.Concat.{flat_map-append}
 use Rattle.cordyceps_shared.proofs.ListWrites.{slice_get-set_same, slice_get-change_same}
 use Rattle.cordyceps_queue.proofs.CoreTheory.ListWrites.{get_within}
 use Rattle.cordyceps_queue.proofs.CoreTheory.RoomsAtStages.{free_within}
@@ -29,8 +29,8 @@ module _ {E : Type 0} where
   held_last h m p e was =
       let w = was.legal.in_order h [] (sym (append-nil h)) in
       let le : length (went h) ≤ length (came h) = omega (arith, ap length w.1, length-append (went h) w.0) in
-      ap (λ l. drop (length l) (came (h ++ Swap p e ∷ Link p ∷ []))) (went-append h (Swap p e ∷ Link p ∷ []) ∙ append-nil (went h))
-      ∙ ap (drop (length (went h))) (came-append h (Swap p e ∷ Link p ∷ [])) ∙ drop-append-le (length (went h)) (came h) (e ∷ []) le
+      ap (λ l. drop (length l) (came (h ++ Swap p e ∷ Link p ∷ []))) (flat_map-append goes h (Swap p e ∷ Link p ∷ []) ∙ append-nil (went h))
+      ∙ ap (drop (length (went h))) (flat_map-append comes h (Swap p e ∷ Link p ∷ [])) ∙ drop-append-le (length (went h)) (came h) (e ∷ []) le
 
   module _ (h : List (Event ℕ E)) (m : Machine E) (p : ℕ) (e : E) (was : CoreMeets h m) (r : ℕ) (at : slice_get m.parties p ≡ Some Rest) (free : least_free p m.rooms ≡ Some r) where
     abbrev cleared_machine : Machine E

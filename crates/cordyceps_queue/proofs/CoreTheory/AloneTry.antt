@@ -9,7 +9,7 @@ use Rattle.cordyceps_queue.specs.declared.cores.steps.QueueStep.{QueueStep}
 use Rattle.cordyceps_queue.specs.declared.cores.steps.QueueStep.TheVariants as step
 use Rattle.cordyceps_queue.specs.declared.cores.steps.QueueAnswer.{QueueAnswer}
 use Rattle.cordyceps_queue.specs.declared.cores.steps.QueueAnswer.TheVariants as answer
-use Rattle.cordyceps_queue.specs.History.{Event, Look, Out, Empty, came, went, held, IsBlocked, WasBlocked}
+use Rattle.cordyceps_queue.specs.History.{Event, Look, Out, Empty, came, went, held, IsBlocked, WasBlocked, comes, goes}
 use Rattle.cordyceps_shared.specs.Rooms.{element_in, next_in}
 use Rattle.cordyceps_queue.specs.Cores.Machine.{Machine, Outcome, events_of, acts, after_step_at, look, read, read_again, hand_out, head_stub, head_tail}
 use Rattle.cordyceps_queue.specs.Cores.CoreMeets.{CoreMeets, IsSound, Says, AnswerSays}
@@ -17,7 +17,7 @@ use Rattle.cordyceps_queue.specs.Cores.Alone.{next_step, found_of, goes_on, trie
 use Rattle.cordyceps_queue.proofs.CoreTheory.Basics.{none_some, suc_zero}
 use Rattle.cordyceps_queue.specs.Past as past
 use Rattle.cordyceps_queue.proofs.Blocked.{told_blocked, past_was_blocked}
-use Rattle.cordyceps_queue.proofs.HistoryEnds.{came-append, went-append}
+use Rattle.std.proofs.lemmas.List.Concat.{flat_map-append}
 use Rattle.cordyceps_shared.proofs.ListWrites.{slice_get-set_same}
 use Rattle.cordyceps_queue.proofs.CoreTheory.CoreKeeps.{core_steps}
 use Rattle.cordyceps_queue.proofs.CoreTheory.RoomsAtStages.{holding_full, second_full, put_read_full}
@@ -136,7 +136,7 @@ module _ {E : Type 0} where
     pub holds : (t : ℕ) × (slice_get out.0.parties p ≡ Some (Holding t))
 
   held_look : (h : List (Event ℕ E)) (p : ℕ) → held (h ++ Look p ∷ []) ≡ held h
-  held_look h p = ap (λ w. drop (length w) (came (h ++ Look p ∷ []))) (went-append h (Look p ∷ []) ∙ append-nil (went h)) ∙ ap (drop (length (went h))) (came-append h (Look p ∷ []) ∙ append-nil (came h))
+  held_look h p = ap (λ w. drop (length w) (came (h ++ Look p ∷ []))) (flat_map-append goes h (Look p ∷ []) ∙ append-nil (went h)) ∙ ap (drop (length (went h))) (flat_map-append comes h (Look p ∷ []) ∙ append-nil (came h))
 
   held_so_far : (h : List (Event ℕ E)) (p : ℕ) (stage : Stage) → held (h ++ so_far p stage) ≡ held h
   held_so_far h p (Holding t) = ap held (append-nil h)

@@ -46,6 +46,18 @@ pub taken_with : {P E : Type 0} {right : ℕ} {party party' : ℕ → Option (Ab
 taken_with r there held =
     record { zero_is = r.zero_is; by = r.by; tail = r.tail; there = there; has = r.has; held = held }
 
+-- neighbours are joined and the right is where it was, among parties of which all but those at rest are there still
+module _ {P : Type 0} {party party' : ℕ → Option (AbstractParty P)} (stays : (j : ℕ) (p : AbstractParty P) → party j ≡ Some p → p.stage ≢ Rest → party' j ≡ Some p) where
+  pub joined_yet : (next : ℕ → Option ℕ) (a b : ℕ) → Joined next party a b → Joined next party' a b
+  joined_yet next a b (inl l) = inl l
+  joined_yet next a b (inr (null, o)) =
+      let there = stays o.by o.who o.there (λ rests. subst (λ l. Owes l a b) rests o.owes) in
+      inr (null, record { by = o.by; who = o.who; there = there; owes = o.owes })
+
+  pub right_yet : {E : Type 0} (right : ℕ) (rooms : List ℕ) (h : List (Event P E)) (keeper : Option ℕ) → RightIs right party rooms h keeper → RightIs right party' rooms h keeper
+  right_yet right rooms h None r = r
+  right_yet right rooms h (Some j) r = taken_with r (stays j r.by r.there (λ rests. none_some (sym (ap tail_of rests) ∙ r.has))) r.held
+
 module _ {P E : Type 0} (party : ℕ → Option (AbstractParty P)) (k : ℕ) (p q : AbstractParty P) (at : party k ≡ Some p) where
   -- a party without the right
   pub right_put : (right : ℕ) (rooms : List ℕ) (h : List (Event P E)) (keeper : Option ℕ) → tail_of p.stage ≡ None → RightIs right party rooms h keeper → RightIs right (update party k (Some q)) rooms h keeper

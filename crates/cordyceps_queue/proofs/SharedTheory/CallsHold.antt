@@ -13,14 +13,14 @@ use Rattle.cordyceps_queue.specs.declared.shared.table.Tried.TheVariants as trie
 use Rattle.cordyceps_queue.specs.declared.cores.steps.TryDequeueError.TheVariants as error
 use Rattle.cordyceps_queue.specs.Shared.Parts.{standing, IsSeated, Dequeued, TracksEnd}
 use Rattle.cordyceps_queue.specs.History as told
-use Rattle.cordyceps_queue.specs.History.{Event, Swap, Link, Take, Busy, Look, Out, Empty, Free, actor}
+use Rattle.cordyceps_queue.specs.History.{Event, Swap, Link, Take, Busy, Look, Out, Empty, Free, actor, is_swap, is_link}
 use Rattle.cordyceps_queue.specs.Shared.Plays.{SeatState, Sees, IsResting}
 use Rattle.cordyceps_queue.specs.Shared.Plays as seen
 use Rattle.cordyceps_queue.specs.Shared.Rule.{IsTable}
 use Rattle.cordyceps_queue.specs.Shared.Calls.{same_name, Legal, Adds, BlockedAfter, Enqueues, Dequeues}
 use Rattle.cordyceps_queue.specs.Shared.View.{View, name, free_chain}
 use Rattle.cordyceps_queue.proofs.CoreTheory.Basics.{none_some}
-use Rattle.cordyceps_queue.proofs.HistoryEnds.{links_by-append, swaps_by-append}
+use Rattle.cordyceps_queue.proofs.HistoryEnds.{count-append}
 use Rattle.cordyceps_queue.proofs.Legality.{told_legal}
 use Rattle.cordyceps_queue.proofs.SharedTheory.BlockedLook.{looked_blocked}
 use Rattle.cordyceps_queue.proofs.SharedTheory.OwnNames.{Balanced, even_links, linked_after, unheld_after}
@@ -119,7 +119,7 @@ module _ {E : Type 0} where
   whole_even z m spare s is q = even_links q (plain m.0.known.seen) s.legal (s.linked q (subst (λ ns. IsOf ns q) (sym is) (of_whole q)))
 
   look_even : (n : Name) (h : List (Event Name E)) → AllLinked h → AllLinked (h ++ Take n ∷ Look n ∷ [])
-  look_even n h e q = links_by-append same_name q h (Take n ∷ Look n ∷ []) ∙ (ap (λ x. x + 0) (e q) ∙ sym (swaps_by-append same_name q h (Take n ∷ Look n ∷ [])))
+  look_even n h e q = count-append same_name is_link q h (Take n ∷ Look n ∷ []) ∙ (ap (λ x. x + 0) (e q) ∙ sym (count-append same_name is_swap q h (Take n ∷ Look n ∷ [])))
 
   pub even_open : (h : List (Event Name E)) (q : Name) → AllLinked h → told.IsPending same_name q h → ⊥
   even_open h q e p = let same = e q in omega arith

@@ -8,12 +8,11 @@ use Rattle.cordyceps_shared.proofs.Adding.{plain_append}
 use Rattle.cordyceps_shared.proofs.HistoryMarks.{others_append}
 use Rattle.cordyceps_shared.proofs.StepEvents.{foreign_front}
 use Rattle.cordyceps_shared.proofs.EventCounts.{seen_counts}
-use Rattle.cordyceps_queue.specs.History.{Event, Take, Busy, Look, Free, actor, links_by, swaps_by}
+use Rattle.cordyceps_queue.specs.History.{Event, Take, Busy, Look, Free, actor, links_by, swaps_by, is_swap, is_link, is_take, is_free}
 use Rattle.cordyceps_queue.specs.Laws.{takes_by, frees_by, BusyIsAnothers, BlockedIsAnothers, BlockedTryIsAnothers}
 use Rattle.cordyceps_queue.specs.Shared.Calls.{PartyOf, same_name, Legal, NonePending, Adds, BlockedAfter}
-use Rattle.cordyceps_queue.proofs.HistoryEnds.{links_by-append, swaps_by-append}
-use Rattle.cordyceps_queue.proofs.PartyOrder.{takes_append, frees_append}
-use Rattle.cordyceps_queue.proofs.SharedTheory.OwnNames.{links_other, swaps_other, takes_other, frees_other, even_links, even_frees, not_holder}
+use Rattle.cordyceps_queue.proofs.HistoryEnds.{count-append, count_of_other}
+use Rattle.cordyceps_queue.proofs.SharedTheory.OwnNames.{even_links, even_frees, not_holder}
 
 module _ {X : Type 0} where
   -- what a party has seen by its only event since
@@ -83,8 +82,8 @@ module _ {E : Type 0} where
         holds = held.1;
         another = λ of.
             let even = even_frees by (plain u.seen) legal (none by of) in
-            let frees = seen_counts (λ h. frees_by same_name by h) (frees_append same_name by) actor by (frees_other by) u.share of u.seen t.front foreign in
-            let takes = seen_counts (λ h. takes_by same_name by h) (takes_append same_name by) actor by (takes_other by) u.share of u.seen t.front foreign in
+            let frees = seen_counts (λ h. frees_by same_name by h) (count-append same_name is_free by) actor by (count_of_other same_name is_free by) u.share of u.seen t.front foreign in
+            let takes = seen_counts (λ h. takes_by same_name by h) (count-append same_name is_take by) actor by (count_of_other same_name is_take by) u.share of u.seen t.front foreign in
             let no_frees = ap (λ h. frees_by same_name by h) t.none in
             let no_takes = ap (λ h. takes_by same_name by h) t.none in
             not_holder by (plain past) before (omega arith) held.1;
@@ -99,8 +98,8 @@ module _ {E : Type 0} where
       let t = longer u.seen g.rest b.past b.later es some (sym g.is ∙ b.is) b.adds in
       let foreign = foreign_front actor u.share (others t.more) (others b.later) (subst (λ z. Foreign actor u.share z) (ap others t.rest_is ∙ others_append t.more b.later) g.foreign) in
       let even = even_links q (plain u.seen) legal (none q of) in
-      let links = ap (λ z. links_by same_name q (plain z)) t.past_is ∙ seen_counts (λ h. links_by same_name q h) (links_by-append same_name q) actor q (links_other q) u.share of u.seen t.more foreign in
-      let swaps = ap (λ z. swaps_by same_name q (plain z)) t.past_is ∙ seen_counts (λ h. swaps_by same_name q h) (swaps_by-append same_name q) actor q (swaps_other q) u.share of u.seen t.more foreign in
+      let links = ap (λ z. links_by same_name q (plain z)) t.past_is ∙ seen_counts (λ h. links_by same_name q h) (count-append same_name is_link q) actor q (count_of_other same_name is_link q) u.share of u.seen t.more foreign in
+      let swaps = ap (λ z. swaps_by same_name q (plain z)) t.past_is ∙ seen_counts (λ h. swaps_by same_name q h) (count-append same_name is_swap q) actor q (count_of_other same_name is_swap q) u.share of u.seen t.more foreign in
       let no_links = ap (λ h. links_by same_name q h) t.mine in
       let no_swaps = ap (λ h. swaps_by same_name q h) t.mine in
       let zero_of = nothing_of q in

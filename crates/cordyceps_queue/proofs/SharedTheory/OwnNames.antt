@@ -1,20 +1,20 @@
 -- What a party's names did, by what the party has seen: none is pending, and none has the right but in a consumer.
-use Rattle.std.proofs.Common.{◌≡◌, ◌≢◌, ◌+◌, suc, List, [], ◌∷◌, Some, refl, sym, ap, ◌∙◌, subst, arith, append-nil, inl, inr}
+use Rattle.std.proofs.Common.{◌≡◌, ◌≢◌, ◌+◌, suc, List, [], ◌∷◌, Bool, Some, refl, sym, ap, ◌∙◌, subst, arith, append-nil, inl, inr}
 use mathlib.Core.Bool.{Bool-discrete}
 use mathlib.Core.List.{List-discrete}
 use Rattle.cordyceps_shared.specs.Histories.{plain}
 use Rattle.cordyceps_shared.specs.Shares.{Name, first_name, IsOf}
 use Rattle.cordyceps_shared.proofs.EventCounts.{first_of, grown_counts}
-use Rattle.cordyceps_queue.specs.History.{Event, Swap, Link, Take, Busy, Look, Out, Empty, Free, actor, holder, swaps_by, links_by, IsPending}
+use Rattle.cordyceps_queue.specs.History.{Event, Take, Free, actor, holder, swaps_by, links_by, IsPending, is_swap, is_link, is_take, is_free, count_of}
 use Rattle.cordyceps_queue.specs.Laws.{takes_by, frees_by, OneHasRight}
 use Rattle.cordyceps_queue.specs.Shared.Calls.{same_name, Legal, NonePending, NoneHolds}
 use Rattle.cordyceps_queue.specs.Shared.Plays.{Sees}
 use Rattle.cordyceps_queue.specs.Shared.Plays as seen
 use Rattle.cordyceps_queue.specs.Shared.View.{View, name}
 use Rattle.cordyceps_queue.proofs.CoreTheory.Basics.{some_inj}
-use Rattle.cordyceps_queue.proofs.HistoryEnds.{links_by-append, swaps_by-append}
+use Rattle.cordyceps_queue.proofs.HistoryEnds.{count-append, count_of_other}
 use Rattle.cordyceps_queue.proofs.Legality.{one_same, one_other, told_legal}
-use Rattle.cordyceps_queue.proofs.PartyOrder.{takes_append, frees_append, one_holder}
+use Rattle.cordyceps_queue.proofs.PartyOrder.{one_holder}
 
 module _ {E : Type 0} where
   -- as many links as swaps, and the right given back as often as it was taken, of each name
@@ -26,47 +26,6 @@ module _ {E : Type 0} where
   Neutral es = (q : Name) → (links_by same_name q es ≡ swaps_by same_name q es) × ((frees_by same_name q es ≡ 0) × (takes_by same_name q es ≡ 0))
 
   module _ (q : Name) where
-    -- ---- events that carry another name
-    pub links_other : (x : Event Name E) → actor x ≢ q → links_by same_name q (x ∷ []) ≡ 0
-    links_other (Link p) n = let none = one_other (same_name q p) (λ e. n (sym e)) in omega arith
-    links_other (Swap p e) n = refl
-    links_other (Take p) n = refl
-    links_other (Busy p) n = refl
-    links_other (Look p) n = refl
-    links_other (Out p e) n = refl
-    links_other (Empty p) n = refl
-    links_other (Free p) n = refl
-
-    pub swaps_other : (x : Event Name E) → actor x ≢ q → swaps_by same_name q (x ∷ []) ≡ 0
-    swaps_other (Swap p e) n = let none = one_other (same_name q p) (λ c. n (sym c)) in omega arith
-    swaps_other (Link p) n = refl
-    swaps_other (Take p) n = refl
-    swaps_other (Busy p) n = refl
-    swaps_other (Look p) n = refl
-    swaps_other (Out p e) n = refl
-    swaps_other (Empty p) n = refl
-    swaps_other (Free p) n = refl
-
-    pub takes_other : (x : Event Name E) → actor x ≢ q → takes_by same_name q (x ∷ []) ≡ 0
-    takes_other (Take p) n = let none = one_other (same_name q p) (λ e. n (sym e)) in omega arith
-    takes_other (Swap p e) n = refl
-    takes_other (Link p) n = refl
-    takes_other (Busy p) n = refl
-    takes_other (Look p) n = refl
-    takes_other (Out p e) n = refl
-    takes_other (Empty p) n = refl
-    takes_other (Free p) n = refl
-
-    pub frees_other : (x : Event Name E) → actor x ≢ q → frees_by same_name q (x ∷ []) ≡ 0
-    frees_other (Free p) n = let none = one_other (same_name q p) (λ e. n (sym e)) in omega arith
-    frees_other (Swap p e) n = refl
-    frees_other (Link p) n = refl
-    frees_other (Take p) n = refl
-    frees_other (Busy p) n = refl
-    frees_other (Look p) n = refl
-    frees_other (Out p e) n = refl
-    frees_other (Empty p) n = refl
-
     -- ---- what the counts of a legal history say
     pub even_links : (h : List (Event Name E)) → Legal h → (IsPending same_name q h → ⊥) → links_by same_name q h ≡ swaps_by same_name q h
     even_links h l not = elim (l.links h [] (sym (append-nil h)) q) [ inl e ↦ e | inr p ↦ absurd (not p) ]
@@ -88,17 +47,8 @@ module _ {E : Type 0} where
 
     -- ---- what a party adds, and others do not, of its names
     module _ (v w : View E) (es : List (Event Name E)) (g : Sees v es w) (of : IsOf v.known.share q) where
-      links_more : links_by same_name q (plain w.known.seen) ≡ links_by same_name q (plain v.known.seen) + links_by same_name q es
-      links_more = grown_counts (λ h. links_by same_name q h) (links_by-append same_name q) actor q links_other seen.LegalReversed v.known w.known es g of
-
-      swaps_more : swaps_by same_name q (plain w.known.seen) ≡ swaps_by same_name q (plain v.known.seen) + swaps_by same_name q es
-      swaps_more = grown_counts (λ h. swaps_by same_name q h) (swaps_by-append same_name q) actor q swaps_other seen.LegalReversed v.known w.known es g of
-
-      takes_more : takes_by same_name q (plain w.known.seen) ≡ takes_by same_name q (plain v.known.seen) + takes_by same_name q es
-      takes_more = grown_counts (λ h. takes_by same_name q h) (takes_append same_name q) actor q takes_other seen.LegalReversed v.known w.known es g of
-
-      frees_more : frees_by same_name q (plain w.known.seen) ≡ frees_by same_name q (plain v.known.seen) + frees_by same_name q es
-      frees_more = grown_counts (λ h. frees_by same_name q h) (frees_append same_name q) actor q frees_other seen.LegalReversed v.known w.known es g of
+      count_more : (kind : Event Name E → Bool) → count_of same_name kind q (plain w.known.seen) ≡ count_of same_name kind q (plain v.known.seen) + count_of same_name kind q es
+      count_more kind = grown_counts (count_of same_name kind q) (count-append same_name kind q) actor q (count_of_other same_name kind q) seen.LegalReversed v.known w.known es g of
 
   -- ---- what holds after events of its own
   now_legal : (v w : View E) (es : List (Event Name E)) → Sees v es w → Legal (plain w.known.seen)
@@ -112,8 +62,8 @@ module _ {E : Type 0} where
   linked_after v w es g l none even q of p =
       let o = of_before v w es q g of in
       let before = even_links q (plain v.known.seen) l (none q o) in
-      let links = links_more q v w es g o in
-      let swaps = swaps_more q v w es g o in
+      let links = count_more q v w es g o is_link in
+      let swaps = count_more q v w es g o is_swap in
       let more = even q in
       absurd (omega arith)
 
@@ -122,8 +72,8 @@ module _ {E : Type 0} where
   unheld_after v w es g l none even q of =
       let o = of_before v w es q g of in
       let before = even_frees q (plain v.known.seen) l (none q o) in
-      let frees = frees_more q v w es g o in
-      let takes = takes_more q v w es g o in
+      let frees = count_more q v w es g o is_free in
+      let takes = count_more q v w es g o is_take in
       let more = even q in
       not_holder q (plain w.known.seen) (now_legal v w es g) (omega arith)
 
@@ -134,8 +84,8 @@ module _ {E : Type 0} where
       let es : List (Event Name E) = Take n ∷ [] in
       let o = first_of v.known.share some_name in
       let before = even_frees n (plain v.known.seen) l (none n o) in
-      let frees = frees_more n v w es g o in
-      let takes = takes_more n v w es g o in
+      let frees = count_more n v w es g o is_free in
+      let takes = count_more n v w es g o is_take in
       let one = one_same (same_name n n) refl in
       is_holder n (plain w.known.seen) (now_legal v w es g) (omega arith) ∙ ap (λ ns. Some (first_name ns)) (sym g.share)
 
@@ -146,8 +96,8 @@ module _ {E : Type 0} where
       let n = name v in
       let o = first_of v.known.share some_name in
       let before = took_more n (plain v.known.seen) l has in
-      let frees = frees_more n v w es g o in
-      let takes = takes_more n v w es g o in
+      let frees = count_more n v w es g o is_free in
+      let takes = count_more n v w es g o is_take in
       let none = nothing n in
       is_holder n (plain w.known.seen) (now_legal v w es g) (omega arith) ∙ ap (λ ns. Some (first_name ns)) (sym g.share)
 
@@ -157,8 +107,8 @@ module _ {E : Type 0} where
       let n = name v in
       let es : List (Event Name E) = Free n ∷ [] in
       let o = of_before v w es q g of in
-      let frees = frees_more q v w es g o in
-      let takes = takes_more q v w es g o in
+      let frees = count_more q v w es g o is_free in
+      let takes = count_more q v w es g o is_take in
       not_holder q (plain w.known.seen) (now_legal v w es g) (elim (List-discrete Bool-discrete q n) [
         | yes e ↦
             let before = took_more q (plain v.known.seen) l (has ∙ ap (λ m. Some m) (sym e)) in

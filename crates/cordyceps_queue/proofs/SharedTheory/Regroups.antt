@@ -1,5 +1,5 @@
 -- Parties at rest go, and others at rest come in their places or in new ones: what the machine meets stays so.
-use Rattle.std.proofs.Common.{◌≡◌, ◌≢◌, ◌⊎◌, ℕ, List, [], ◌++◌, Option, Some, None, refl, sym, ap, ◌∙◌, subst, inl, inr, arith}
+use Rattle.std.proofs.Common.{◌≡◌, ◌≢◌, ◌⊎◌, ℕ, List, [], ◌++◌, Option, Some, refl, sym, ap, ◌∙◌, subst, inl, inr, arith}
 use mathlib.Core.Option.{some}
 use lib.ListN.{get_elem?}
 use Rattle.cordyceps_shared.specs.Shares.{Name}
@@ -8,11 +8,10 @@ use Rattle.cordyceps_queue.specs.declared.cores.stage.Stage.TheVariants.{Rest}
 use Rattle.cordyceps_queue.specs.History.{Event}
 use Rattle.cordyceps_queue.specs.Past.{IsSettled}
 use Rattle.cordyceps_queue.specs.Cores.Abstract.{AbstractParty, AbstractMachine}
-use Rattle.cordyceps_queue.specs.Cores.Meets.{Owner, Shared, Spare, Ready, Unmade, Owes, Chain, Joined, OwnsRooms, AtStage, RightIs, Meets, tail_of}
+use Rattle.cordyceps_queue.specs.Cores.Meets.{Owner, Shared, Spare, Ready, Unmade, Chain, OwnsRooms, AtStage, Meets}
 use Rattle.cordyceps_queue.specs.Shared.Rule.{party_of, machine_of}
 use Rattle.cordyceps_queue.specs.Shared.View.{View}
-use Rattle.cordyceps_queue.proofs.CoreTheory.Basics.{none_some}
-use Rattle.cordyceps_queue.proofs.CoreTheory.OtherParties.{fits_dealt, taken_with}
+use Rattle.cordyceps_queue.proofs.CoreTheory.OtherParties.{fits_dealt, joined_yet, right_yet}
 use Rattle.cordyceps_queue.proofs.CoreTheory.ProducerSteps.{spare_shared, ready_spare, spare_unmade}
 use Rattle.cordyceps_queue.proofs.Legality.{counts, settled_or_open}
 use Rattle.cordyceps_queue.proofs.SharedTheory.SeatNames.{party_was, name_known}
@@ -52,35 +51,21 @@ module _ {E : Type 0} (was now : List (View E)) (c : Chain) (owner : ℕ → Own
           let odd = count.1 unlinked in absurd (omega arith))
     ]
 
-    joined_still : (a b : ℕ) → Joined m.next m.party a b → Joined m.next m'.party a b
-    joined_still a b (inl l) = inl l
-    joined_still a b (inr o) = inr (
-      o.0,
-      record {
-        by = o.1.by;
-        who = o.1.who;
-        there = elim (party_stays o.1.by o.1.who o.1.there) [ inl e ↦ e | inr r ↦ absurd (subst (λ l. Owes l a b) r o.1.owes) ];
-        owes = o.1.owes;
-      },
-    )
-
-    right_still : (keeper : Option ℕ) → RightIs m.right m.party c.rooms h keeper → RightIs m.right m'.party c.rooms h keeper
-    right_still None R = R
-    right_still (Some j) R =
-        taken_with R (elim (party_stays j R.by R.there) [ inl e ↦ e | inr r ↦ absurd (none_some (sym (ap tail_of r) ∙ R.has)) ]) R.held
+    stays : (i : ℕ) (p : AbstractParty Name) → m.party i ≡ Some p → p.stage ≢ Rest → m'.party i ≡ Some p
+    stays i p e busy = elim (party_stays i p e) [ inl there ↦ there | inr rests ↦ absurd (busy rests) ]
 
     pub regroups_keep : Meets m' (record c { owner = owner }) h
     regroups_keep = record {
       legal = M.legal;
       last = M.last;
       ends = M.ends;
-      joined = λ i a b ia ib. joined_still a b (M.joined i a b ia ib);
+      joined = λ i a b ia ib. joined_yet stays m.next a b (M.joined i a b ia ib);
       once = M.once;
       shared = λ i x ix. G.fixed x Shared (M.shared i x ix) (λ b e. spare_shared refl (sym e));
       stub = G.fixed 0 Shared M.stub (λ b e. spare_shared refl (sym e));
       unmade = λ x lt. G.fixed x Unmade (M.unmade x lt) (λ b e. spare_unmade refl (sym e));
       holds = M.holds;
-      right = right_still c.keeper M.right;
+      right = right_yet stays m.right c.rooms h c.keeper M.right;
       fits = λ k p e.
           let w = party_was (get_elem? now k) p e in
           elim (G.comes k w.view w.there) [

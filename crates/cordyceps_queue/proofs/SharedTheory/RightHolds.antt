@@ -13,14 +13,14 @@ use Rattle.cordyceps_queue.specs.declared.shared.table.Tried.{Tried}
 use Rattle.cordyceps_queue.specs.declared.shared.table.Tried.TheVariants as tried
 use Rattle.cordyceps_queue.specs.declared.cores.steps.TryDequeueError.TheVariants as error
 use Rattle.cordyceps_queue.specs.Shared.Parts.{standing, IsSeated, IsConsuming, AsksRight, Tries, TracksEnd}
-use Rattle.cordyceps_queue.specs.History.{Event, Take, Busy, Look, Out, Empty, Free}
+use Rattle.cordyceps_queue.specs.History.{Event, Take, Busy, Look, Out, Empty, Free, is_swap, is_link}
 use Rattle.cordyceps_queue.specs.Shared.Plays.{SeatState, Sees, IsResting, IsHolding, MovesTo}
 use Rattle.cordyceps_queue.specs.Shared.Rule.{IsTable}
 use Rattle.cordyceps_queue.specs.Shared.Calls.{same_name, BlockedAfter, TakesRight, FindsBusy, GivesRight, Consumes}
 use Rattle.cordyceps_queue.specs.Shared.View.{View, name, all_rooms}
 use Rattle.cordyceps_queue.specs.declared.cores.stage.Stage.{Stage}
 use Rattle.cordyceps_queue.proofs.SharedTheory.PartsJoin.{bare_rooms, moved_rooms}
-use Rattle.cordyceps_queue.proofs.HistoryEnds.{links_by-append, swaps_by-append}
+use Rattle.cordyceps_queue.proofs.HistoryEnds.{count-append}
 use Rattle.cordyceps_queue.proofs.Legality.{told_legal}
 use Rattle.cordyceps_queue.proofs.SharedTheory.CallsHold.{front_own, adds, seated_after, whole_right, AllLinked, even_open}
 use Rattle.cordyceps_queue.proofs.SharedTheory.OwnNames.{Neutral, even_links, linked_after, held_taken, held_after, unheld_given}
@@ -150,7 +150,7 @@ module _ {E : Type 0} where
 
   -- ---- a whole party's try is certain
   looked_even : (n : Name) (h : List (Event Name E)) → AllLinked h → AllLinked (h ++ Look n ∷ [])
-  looked_even n h e q = links_by-append same_name q h (Look n ∷ []) ∙ (ap (λ x. x + 0) (e q) ∙ sym (swaps_by-append same_name q h (Look n ∷ [])))
+  looked_even n h e q = count-append same_name is_link q h (Look n ∷ []) ∙ (ap (λ x. x + 0) (e q) ∙ sym (count-append same_name is_swap q h (Look n ∷ [])))
 
   pub consuming_clear : (z z' : TableId) (slots tail now : ℕ) (m k : SeatState E) (spare : Spare) → IsConsuming z tail m spare → z' ≡ z → Tries (Look (name m.0) ∷ []) slots m k now tried.Inconsistent → m.0.known.share ≡ whole → ⊥
   consuming_clear z z' slots tail now m k spare c at a is =

@@ -16,7 +16,7 @@ use Rattle.cordyceps_shared.proofs.Places.{times_at}
 use Rattle.cordyceps_shared.proofs.Standings as seats
 use Rattle.cordyceps_queue.specs.declared.cores.stage.Stage.TheVariants.{Rest}
 use Rattle.cordyceps_queue.specs.Cores.Meets.{RightIs, tail_of}
-use Rattle.cordyceps_queue.specs.History.{Event, actor, links_by, swaps_by}
+use Rattle.cordyceps_queue.specs.History.{Event, actor, links_by, swaps_by, is_swap, is_link, is_take, is_free}
 use Rattle.cordyceps_queue.specs.Laws.{takes_by, frees_by}
 use Rattle.cordyceps_queue.specs.Shared.Calls.{same_name, Legal, NonePending, NoneHolds}
 use Rattle.cordyceps_queue.specs.Past.{holder_reversed, IsSettled, IsLegalReversed}
@@ -24,10 +24,9 @@ use Rattle.cordyceps_queue.specs.Shared.Rule.{TableState, History, party, party_
 use Rattle.cordyceps_queue.specs.Shared.View.{View, knows, name}
 use Rattle.cordyceps_queue.specs.Cores.Abstract.{AbstractParty}
 use Rattle.cordyceps_queue.proofs.CoreTheory.Basics.{some_inj, none_some, times_once, at_more}
-use Rattle.cordyceps_queue.proofs.HistoryEnds.{links_by-append, swaps_by-append, links_by-reverse, swaps_by-reverse}
+use Rattle.cordyceps_queue.proofs.HistoryEnds.{count-append, count-reverse, count_of_other}
 use Rattle.cordyceps_queue.proofs.Legality.{told_legal, front_legal, counts, holder_of}
-use Rattle.cordyceps_queue.proofs.PartyOrder.{takes_append, frees_append}
-use Rattle.cordyceps_queue.proofs.SharedTheory.OwnNames.{links_other, swaps_other, takes_other, frees_other, even_frees, not_holder}
+use Rattle.cordyceps_queue.proofs.SharedTheory.OwnNames.{even_frees, not_holder}
 use Rattle.cordyceps_queue.proofs.SharedTheory.WordsAsMachine.{party_as, core, party_at, rooms_of}
 use Rattle.cordyceps_shared.proofs.StepEvents.{at_length, first_clear}
 use Rattle.cordyceps_shared.proofs.EventCounts.{foreign_counts}
@@ -149,11 +148,11 @@ module _ {E : Type 0} (s : TableState E) (k : PlainHolds s) (id : ℕ) (v : View
   rest_linked q of p =
       let h = events k.history in
       let even : links_by same_name q h ≡ swaps_by same_name q h =
-      sym (links_by-reverse same_name q h) ∙ ((counts same_name (reverse h) k.meets.legal q).0 (settled q of) ∙ swaps_by-reverse same_name q h) in
-      let links = ap (λ z. links_by same_name q z) all_is ∙ links_by-append same_name q (plain v.known.seen) (events later) in
-      let swaps = ap (λ z. swaps_by same_name q z) all_is ∙ swaps_by-append same_name q (plain v.known.seen) (events later) in
-      let no_links = foreign_counts (λ z. links_by same_name q z) (links_by-append same_name q) actor q (links_other q) v.known.share of (events later) foreign in
-      let no_swaps = foreign_counts (λ z. swaps_by same_name q z) (swaps_by-append same_name q) actor q (swaps_other q) v.known.share of (events later) foreign in
+      sym (count-reverse same_name is_link q h) ∙ ((counts same_name (reverse h) k.meets.legal q).0 (settled q of) ∙ count-reverse same_name is_swap q h) in
+      let links = ap (λ z. links_by same_name q z) all_is ∙ count-append same_name is_link q (plain v.known.seen) (events later) in
+      let swaps = ap (λ z. swaps_by same_name q z) all_is ∙ count-append same_name is_swap q (plain v.known.seen) (events later) in
+      let no_links = foreign_counts (λ z. links_by same_name q z) (count-append same_name is_link q) actor q (count_of_other same_name is_link q) v.known.share of (events later) foreign in
+      let no_swaps = foreign_counts (λ z. swaps_by same_name q z) (count-append same_name is_swap q) actor q (count_of_other same_name is_swap q) v.known.share of (events later) foreign in
       absurd (omega arith)
 
   pub rest_unheld : NoneHolds v.known.share (plain v.known.seen)
@@ -161,8 +160,8 @@ module _ {E : Type 0} (s : TableState E) (k : PlainHolds s) (id : ℕ) (v : View
   rest_unheld q of =
       let h = events k.history in
       let even = even_frees q h legal (λ e. not_kept q of k.chain.keeper _ k.chain.rooms k.meets.right (sym (holder_of h) ∙ e)) in
-      let frees = ap (λ z. frees_by same_name q z) all_is ∙ frees_append same_name q (plain v.known.seen) (events later) in
-      let takes = ap (λ z. takes_by same_name q z) all_is ∙ takes_append same_name q (plain v.known.seen) (events later) in
-      let no_frees = foreign_counts (λ z. frees_by same_name q z) (frees_append same_name q) actor q (frees_other q) v.known.share of (events later) foreign in
-      let no_takes = foreign_counts (λ z. takes_by same_name q z) (takes_append same_name q) actor q (takes_other q) v.known.share of (events later) foreign in
+      let frees = ap (λ z. frees_by same_name q z) all_is ∙ count-append same_name is_free q (plain v.known.seen) (events later) in
+      let takes = ap (λ z. takes_by same_name q z) all_is ∙ count-append same_name is_take q (plain v.known.seen) (events later) in
+      let no_frees = foreign_counts (λ z. frees_by same_name q z) (count-append same_name is_free q) actor q (count_of_other same_name is_free q) v.known.share of (events later) foreign in
+      let no_takes = foreign_counts (λ z. takes_by same_name q z) (count-append same_name is_take q) actor q (count_of_other same_name is_take q) v.known.share of (events later) foreign in
       not_holder q (plain v.known.seen) seen_legal (omega arith)

@@ -1,5 +1,5 @@
 -- What a step leaves of the bits of the uses: which rooms a party names, and how a change of a word is spelt.
-use Rattle.std.proofs.Common.{◌≡◌, ◌≢◌, ◌⊎◌, ℕ, zero, suc, ◌+◌, ◌*◌, ◌<◌, List, [], ◌∷◌, ◌++◌, length, reverse, set, Option, Some, None, refl, sym, ap, ◌∙◌, subst, inl, inr, arith, length-set}
+use Rattle.std.proofs.Common.{◌≡◌, ◌≢◌, ◌⊎◌, ℕ, zero, suc, ◌+◌, ◌*◌, ◌<◌, List, [], ◌++◌, length, reverse, set, Option, Some, None, refl, sym, ap, ◌∙◌, subst, inl, inr, arith, length-set}
 use mathlib.Core.Option.{some}
 use native.Mathlib.Decide.{ℕ_discrete}
 use lib.ListN.{get_elem?}
@@ -20,7 +20,7 @@ use Rattle.cordyceps_queue.specs.Cores.Meets.{Owner, Spare, Ready, Chain, Joined
 use Rattle.cordyceps_queue.specs.Shared.Bits.{IsBit, IsFreeLink, IsLink, IsOld, IsRead, IsRight, Spells, SpellsFree, Knows, Begun, KeepsUse, SpellsWords}
 use Rattle.cordyceps_queue.specs.Shared.Rule.{TableState, link_of, PlainHolds}
 use Rattle.cordyceps_queue.specs.Shared.View.{View, name}
-use Rattle.cordyceps_queue.proofs.CoreTheory.Basics.{some_inj, none_some, some_none, suc_inj, zero_suc, at_within, put_same, put_other}
+use Rattle.cordyceps_queue.proofs.CoreTheory.Basics.{some_inj, none_some, some_none, suc_inj, zero_suc, at_one, at_within, put_same, put_other}
 use Rattle.cordyceps_queue.proofs.CoreTheory.DequeueSteps.{free_right}
 use Rattle.cordyceps_queue.proofs.CoreTheory.HolderSteps.{at_some}
 use Rattle.cordyceps_queue.proofs.CoreTheory.ProducerSteps.{spare_shared, ready_shared, ready_spare}
@@ -86,13 +86,8 @@ module _ {P E : Type 0} (m : AbstractMachine P E) (c : Chain) (h : List (Event P
     | no ne ↦ from (at_some c.rooms (suc i) (let l = M.last.long in let w = at_within c.rooms i x a in omega arith))
   ]
     where
-      one : {A : Type 0} (xs : List A) (i : ℕ) (a b : A) → ItemAt xs i a → ItemAt xs i b → a ≡ b
-      one [] i a b p q = absurd p
-      one (z ∷ zs) zero a b p q = p ∙ sym q
-      one (z ∷ zs) (suc i) a b p q = one zs i a b p q
-
       same : i ≡ M.last.at → x ≡ m.head
-      same e = one c.rooms i x m.head a (subst (λ n. ItemAt c.rooms n m.head) (sym e) M.last.head_at)
+      same e = at_one c.rooms i x m.head a (subst (λ n. ItemAt c.rooms n m.head) (sym e) M.last.head_at)
 
       by : (b : ℕ) → Joined m.next m.party x b → b ≡ y
       by b (inl l) = some_inj (sym l ∙ linked)

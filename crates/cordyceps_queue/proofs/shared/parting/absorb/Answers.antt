@@ -1,4 +1,10 @@
-use Rattle.std.proofs.Common.{rules, sym, ap, ◌∙◌}
+use Rattle.std.proofs.Common.{rules, sym, ap, ◌∙◌, subst}
+use Rattle.cordyceps_shared.specs.Histories.{plain}
+use Rattle.cordyceps_shared.specs.Knowing.{Known}
+use Rattle.cordyceps_queue.specs.Shared.Calls.{NonePending}
+use Rattle.cordyceps_queue.specs.Shared.Parting.{view_absorbing}
+use Rattle.cordyceps_queue.specs.Shared.Plays.{SeatState}
+use Rattle.cordyceps_queue.proofs.SharedTheory.StepTells.{told}
 use Rattle.cordyceps_queue.proofs.SharedTheory.UsesShare.{joins, learns}
 use Rattle.cordyceps_queue.proofs.shared.parting.absorb.Goals as goal
 
@@ -28,3 +34,11 @@ load-requires g c =
 
 pub returns-clause-tracks : goal.returns-clause-tracks
 returns-clause-tracks g c = search rules
+
+pub returns-clause-linked : goal.returns-clause-linked
+returns-clause-linked g c =
+    let view = c.append.ensures.relinked.view in
+    let (_, _, joined) = c.join_seat.ensures in
+    subst (λ (k : Known _). NonePending k.share (plain k.seen))
+        (ap (λ (m : SeatState _). m.0.known) joined ∙ ap (λ v. (view_absorbing v c.args.other.me.0).known) view)
+        (told c.load.ensures).linked
