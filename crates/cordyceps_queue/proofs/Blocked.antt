@@ -78,39 +78,26 @@ module _ {P E : Type 0} (same : Discrete P) where
   cut_now : (q : P) (g : List (Event P E)) → HasLooked q g → past.IsBlockedReversed g → Cut q g
   cut_now q g l b = record { later = []; before = g; is = refl; none = refl; looked = l; blocked = b }
 
-  cut_on : (q : P) (x : Event P E) (g : List (Event P E)) → ((l : List (Event P E)) → looks_by same q l ≡ 0 → looks_by same q (x ∷ l) ≡ 0) → Cut q g → Cut q (x ∷ g)
-  cut_on q x g on C = record { later = x ∷ C.later; before = C.before; is = ap (λ l. x ∷ l) C.is; none = on C.later C.none; looked = C.looked; blocked = C.blocked }
+  no_look : (q : P) (x : Event P E) (l : List (Event P E)) → past.IsNoLook q x → looks_by same q (x ∷ l) ≡ looks_by same q l
+  no_look q (Look p) l other = let z = one_other (same q p) other in omega arith
+  no_look q _ l other = refl
 
   cut : (q : P) (g : List (Event P E)) → past.WasBlockedReversed q g → Cut q g
   cut q [] w = absurd w
-  cut q (Look p ∷ g) (inl w) = cut_now q (Look p ∷ g) w.0 w.1
-  cut q (Look p ∷ g) (inr w) = cut_on q (Look p) g (λ l s. let z = one_other (same q p) w.0 in omega arith) (cut q g w.1)
-  cut q (Swap p e ∷ g) (inl w) = cut_now q (Swap p e ∷ g) w.0 w.1
-  cut q (Swap p e ∷ g) (inr w) = cut_on q (Swap p e) g (λ l s. s) (cut q g w)
-  cut q (Link p ∷ g) (inl w) = cut_now q (Link p ∷ g) w.0 w.1
-  cut q (Link p ∷ g) (inr w) = cut_on q (Link p) g (λ l s. s) (cut q g w)
-  cut q (Take p ∷ g) (inl w) = cut_now q (Take p ∷ g) w.0 w.1
-  cut q (Take p ∷ g) (inr w) = cut_on q (Take p) g (λ l s. s) (cut q g w)
-  cut q (Busy p ∷ g) (inl w) = cut_now q (Busy p ∷ g) w.0 w.1
-  cut q (Busy p ∷ g) (inr w) = cut_on q (Busy p) g (λ l s. s) (cut q g w)
-  cut q (Out p e ∷ g) (inl w) = cut_now q (Out p e ∷ g) w.0 w.1
-  cut q (Out p e ∷ g) (inr w) = cut_on q (Out p e) g (λ l s. s) (cut q g w)
-  cut q (Empty p ∷ g) (inl w) = cut_now q (Empty p ∷ g) w.0 w.1
-  cut q (Empty p ∷ g) (inr w) = cut_on q (Empty p) g (λ l s. s) (cut q g w)
-  cut q (Free p ∷ g) (inl w) = cut_now q (Free p ∷ g) w.0 w.1
-  cut q (Free p ∷ g) (inr w) = cut_on q (Free p) g (λ l s. s) (cut q g w)
+  cut q (x ∷ g) (inl w) = cut_now q (x ∷ g) w.0 w.1
+  cut q (x ∷ g) (inr w) =
+      let c = cut q g w.1 in
+      record { later = x ∷ c.later; before = c.before; is = ap (λ l. x ∷ l) c.is; none = no_look q x c.later w.0 ∙ c.none; looked = c.looked; blocked = c.blocked }
+
+  is_no_look : (q : P) (x : Event P E) (l : List (Event P E)) → looks_by same q (x ∷ l) ≡ 0 → past.IsNoLook q x
+  is_no_look q (Look p) l none = not_by same q p (looks_by same q l) none
+  is_no_look q _ l none = tt
 
   uncut : (q : P) (later before : List (Event P E)) → looks_by same q later ≡ 0 → HasLooked q before → past.IsBlockedReversed before → past.WasBlockedReversed q (later ++ before)
   uncut q [] before none l b = was_now q before l b
-  uncut q (Look p ∷ later) before none l b =
-      let ne = not_by same q p (looks_by same q later) none in let z = one_other (same q p) ne in inr (ne, uncut q later before (omega arith) l b)
-  uncut q (Swap p e ∷ later) before none l b = inr (uncut q later before none l b)
-  uncut q (Link p ∷ later) before none l b = inr (uncut q later before none l b)
-  uncut q (Take p ∷ later) before none l b = inr (uncut q later before none l b)
-  uncut q (Busy p ∷ later) before none l b = inr (uncut q later before none l b)
-  uncut q (Out p e ∷ later) before none l b = inr (uncut q later before none l b)
-  uncut q (Empty p ∷ later) before none l b = inr (uncut q later before none l b)
-  uncut q (Free p ∷ later) before none l b = inr (uncut q later before none l b)
+  uncut q (x ∷ later) before none l b =
+      let other = is_no_look q x later none in
+      inr (other, uncut q later before (sym (no_look q x later other) ∙ none) l b)
 
   pub told_was_blocked : (h : List (Event P E)) → past.IsLegalReversed (reverse h) → (q : P) → past.WasBlockedReversed q (reverse h) → told.WasBlocked same q h
   told_was_blocked h legal q w =

@@ -57,12 +57,16 @@ HasLooked q [] = ⊥
 HasLooked q (Look p ∷ h) = (q ≡ p) ⊎ HasLooked q h
 HasLooked q (_ ∷ h) = HasLooked q h
 
+-- the event is no look by the party
+abbrev pub IsNoLook : {P E : Type 0} → P → Event P E → Type 0
+IsNoLook q (Look p) = q ≢ p
+IsNoLook q _ = Unit {0}
+
 -- some prefix that contains the last look of the party is blocked
 abbrev pub WasBlockedReversed : {P E : Type 0} → P → List (Event P E) → Type 0
 WasBlockedReversed q [] = ⊥
-WasBlockedReversed q (Look p ∷ h) =
-    (HasLooked q (Look p ∷ h) × IsBlockedReversed (Look p ∷ h)) ⊎ ((q ≢ p) × WasBlockedReversed q h)
-WasBlockedReversed q (x ∷ h) = (HasLooked q (x ∷ h) × IsBlockedReversed (x ∷ h)) ⊎ WasBlockedReversed q h
+WasBlockedReversed q (x ∷ h) =
+    (HasLooked q (x ∷ h) × IsBlockedReversed (x ∷ h)) ⊎ (IsNoLook q x × WasBlockedReversed q h)
 
 -- what has to hold just before an event
 abbrev pub MayCome : {P E : Type 0} → Event P E → List (Event P E) → Type 0

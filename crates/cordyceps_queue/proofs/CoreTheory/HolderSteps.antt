@@ -18,14 +18,7 @@ use Rattle.cordyceps_queue.proofs.CoreTheory.StepLeaves.{chain_of, joined_still,
 -- blocked now, and the party has looked
 pub was_now : {P E : Type 0} (q : P) (h : List (Event P E)) → HasLooked q h → IsBlockedReversed h → WasBlockedReversed q h
 was_now q [] l b = absurd l
-was_now q (Event.Look p ∷ h) l b = inl (l, b)
-was_now q (Event.Swap p e ∷ h) l b = inl (l, b)
-was_now q (Event.Link p ∷ h) l b = inl (l, b)
-was_now q (Event.Take p ∷ h) l b = inl (l, b)
-was_now q (Event.Busy p ∷ h) l b = inl (l, b)
-was_now q (Event.Out p e ∷ h) l b = inl (l, b)
-was_now q (Event.Empty p ∷ h) l b = inl (l, b)
-was_now q (Event.Free p ∷ h) l b = inl (l, b)
+was_now q (x ∷ h) l b = inl (l, b)
 
 rank_within : (xs : List ℕ) (i : ℕ) → rank xs i ≤ i
 rank_within xs zero = omega arith

@@ -124,7 +124,7 @@ module _ {P E : Type 0} (m : AbstractMachine P E) (c : Chain) (h : List (Event P
     newly : (q : P) (t : ℕ) → ItemAt c.rooms 0 t → HasLooked q h → ((m.head ≢ t) → WasBlockedReversed q h) → WasBlockedReversed q (Event.Swap p.name e ∷ h)
     newly q t first looked before = elim (ℕ_discrete m.head t) [
       | yes same ↦ inl (looked, (p.name, length (held_reversed h), alone m c h M t first same, inl (refl, refl)))
-      | no ne ↦ inr (before ne)
+      | no ne ↦ inr (tt, before ne)
     ]
 
     swap_goes : (j : ℕ) (q : P) → j ≢ k → q ≢ p.name → GoesOn m (swap_head m k p r (Swapped r m.head)) c chain_after_swap h (Event.Swap p.name e ∷ h) j q
@@ -211,7 +211,7 @@ module _ {P E : Type 0} (m : AbstractMachine P E) (c : Chain) (h : List (Event P
           let mine = subst (λ n. IsPendingAt p.name (rank c.rooms (suc n)) h) (sym s) link.pending in
           ne (pending_one h q p.name (rank c.rooms (suc f.at)) f.pending mine) in
           open_with f (stays_none o (not_old f.at o f.old_at apart) f.null) (ne, f.pending);
-      right = λ _. right_stays refl (λ l. l) inr
+      right = λ _. right_stays refl (λ l. l) (λ w. inr (tt, w))
           (λ out. stays_none 0 (λ s. out link.at (subst (ItemAt c.rooms link.at) (sym s) link.old_at)))
           (λ i o here stub.
           let apart : i ≢ link.at = λ s.
@@ -254,7 +254,7 @@ module _ {P E : Type 0} (m : AbstractMachine P E) (c : Chain) (h : List (Event P
     settled = λ s. s;
     ready = λ x f. ready_with f f.settled f.ready f.null f.full;
     opened = λ x o f. open_with f f.null f.pending;
-    right = λ _. right_stays refl (λ l. l) inr (λ _ n. n) (λ _ _ _ _ n. n);
+    right = λ _. right_stays refl (λ l. l) (λ w. inr (tt, w)) (λ _ n. n) (λ _ _ _ _ n. n);
   }
 
   -- the right is out with another party
