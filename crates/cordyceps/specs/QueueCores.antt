@@ -10,7 +10,7 @@ pub use Rattle.cordyceps_queue.specs.declared.cores.steps.TryDequeueError.TheVar
 pub use Rattle.cordyceps_queue.specs.Cores.Machine.{Machine, Answered, after_step, is_there, step_element, step_events}
 pub use Rattle.cordyceps_queue.specs.Cores.CoreMeets.{core_step, new_machine, with_party, with_room}
 pub use Rattle.cordyceps_queue.specs.Cores.Alone.{enqueue_steps, is_ready, may_dequeue, after_dequeue, found_of}
-pub use Rattle.cordyceps_queue.specs.Cores.Drain.{may_drain, after_drain_at, batch_of, batch_as_list}
+pub use Rattle.cordyceps_queue.specs.Cores.Drain.{may_drain, after_batch, came_out, stop_of, batch_of, batch_as_list}
 pub use Rattle.cordyceps_queue.specs.Cores.Alone
 pub use Rattle.cordyceps_queue.specs.Cores.CoreMeets
 pub use Rattle.cordyceps_queue.specs.Cores.Drain

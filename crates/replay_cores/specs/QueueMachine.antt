@@ -14,7 +14,7 @@ use Rattle.cordyceps_queue.specs.declared.cores.steps.TryDequeueError.TheVariant
 use Rattle.cordyceps_queue.specs.Cores.Machine.{Answered, after_step}
 use Rattle.cordyceps_queue.specs.Cores.CoreMeets.{core_step, new_machine, with_party, with_room}
 use Rattle.cordyceps_queue.specs.Cores.Alone.{enqueue_steps, is_ready, may_dequeue, after_dequeue, found_of}
-use Rattle.cordyceps_queue.specs.Cores.Drain.{may_drain, after_drain_at, batch_of}
+use Rattle.cordyceps_queue.specs.Cores.Drain.{may_drain, after_batch, came_out, stop_of, batch_of}
 use Rattle.cordyceps_queue.specs.Cores.Machine as cores
 use Rattle.replay_driver.specs.Script.{Machine}
 use Rattle.replay_cores.specs.Commands.{core_commands_machine}
@@ -63,7 +63,7 @@ tries_once m p = let out = after_dequeue m p in (out.0, reply_to_try (found_of o
 
 -- a party's tries for up to n items, and what they took out
 abbrev pub takes_batch : Core → ℕ → ℕ → Core × CoreLine
-takes_batch m p n = let d = after_drain_at p n m (slice_get m.parties p) in (d.0, reply_to_batch (batch_of d.1 d.2))
+takes_batch m p n = let d = after_batch p n m in (d.0, reply_to_batch (batch_of (came_out d) (stop_of d)))
 
 -- the core after a command, and the reply
 abbrev pub step : Core → QueueCommand → Core × CoreLine

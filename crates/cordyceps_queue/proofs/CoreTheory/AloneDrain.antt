@@ -16,7 +16,7 @@ use Rattle.cordyceps_queue.specs.Past as past
 use Rattle.cordyceps_queue.specs.Cores.Machine.{Machine, Outcome, events_of, after_step_at, after_step, take}
 use Rattle.cordyceps_queue.specs.Cores.CoreMeets.{CoreMeets}
 use Rattle.cordyceps_queue.specs.Cores.Alone.{found_of, may_dequeue, tries, try_events, Finds}
-use Rattle.cordyceps_queue.specs.Cores.Drain.{Drained, drain_goes_on, after_drain, hands_back, drains_first, after_drain_at, batch_of, oldest, NobodyPending, NobodyElse, drain_events, batch_events, last_look, Stops, Drains}
+use Rattle.cordyceps_queue.specs.Cores.Drain.{Drained, came_out, stop_of, drain_goes_on, after_drain, hands_back, drains_first, after_drain_at, batch_of, oldest, NobodyPending, NobodyElse, drain_events, batch_events, last_look, Stops, Drains}
 use Rattle.cordyceps_queue.proofs.HistoryEnds.{count-append}
 use Rattle.cordyceps_queue.proofs.CoreTheory.AloneDequeue.{held_take, still_blocked, no_right, holds_right}
 use Rattle.cordyceps_queue.proofs.Legality.{held_of}
@@ -25,13 +25,6 @@ use Rattle.cordyceps_queue.proofs.CoreTheory.CoreKeeps.{core_steps}
 use Rattle.cordyceps_queue.proofs.CoreTheory.AloneTry.{IsFinal, step_met, tries_law}
 
 module _ {E : Type 0} where
-  -- the elements that came out, and why no more did
-  abbrev pub came_out : Drained E → List E
-  came_out d = d.1
-
-  abbrev pub stop_of : Drained E → Option TryDequeueError
-  stop_of d = let (_, _, stop) = d in stop
-
   -- what a holder's tries come to
   pub record Law (h : List (Event ℕ E)) (p n : ℕ) (t : ℕ) (d : Drained E) : Type 0 where
     pub meets : CoreMeets (h ++ drain_events p (came_out d) (stop_of d)) d.0

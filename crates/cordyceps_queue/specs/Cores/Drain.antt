@@ -1,6 +1,6 @@
 -- Several tries that one party runs alone, one after the other, and what their call returns.
 use Rattle.std.specs.Prelude.{◌≡◌, ◌≢◌, ℕ, zero, suc, ◌-◌, ◌≤◌, Bool, true, false, List, [], ◌∷◌, ◌++◌, length, take}
-use Rattle.std.specs.Prelude.{count_by, vec_items, Option, Some, None, Result, Ok, Err, Vec}
+use Rattle.std.specs.Prelude.{count_by, slice_get, vec_items, Option, Some, None, Result, Ok, Err, Vec}
 use native.Mathlib.Decide.{ℕ_discrete}
 use Rattle.cordyceps_shared.specs.Rooms.{occupied}
 use Rattle.cordyceps_queue.specs.declared.cores.stage.Stage.{Stage}
@@ -11,6 +11,7 @@ use Rattle.cordyceps_queue.specs.declared.cores.steps.TryDequeueError.{TryDequeu
 use Rattle.cordyceps_queue.specs.declared.cores.steps.TryDequeueError.TheVariants as error
 use Rattle.cordyceps_queue.specs.History.{Event, Take, Busy, Look, Free, held, holder, IsPending, IsBlocked, outs}
 use Rattle.cordyceps_queue.specs.Cores.Machine.{Machine, Answered, after_step}
+use Rattle.cordyceps_queue.specs.Cores.CoreMeets.{CoreMeets}
 use Rattle.cordyceps_queue.specs.Cores.Alone.{may_dequeue, found_of, tries, try_events}
 
 -- a machine, the elements that came out, oldest first, and why the last try gave none, if it did
@@ -35,6 +36,13 @@ module _ {E : Type 0} where
   drain_goes_on next m (Ok e) = let d = next m in record d { 1 = e ∷ d.1 }
   drain_goes_on next m (Err why) = (m, [], Some why)
 
+  -- the elements that came out, and why the last try gave none
+  abbrev pub came_out : Drained E → List E
+  came_out d = d.1
+
+  abbrev pub stop_of : Drained E → Option TryDequeueError
+  stop_of d = let (_, _, stop) = d in stop
+
   -- tries of a holder, until n elements came out or a try gave none
   abbrev pub after_drain : ℕ → ℕ → Machine E → Drained E
   after_drain p zero m = (m, [], None)
@@ -52,6 +60,10 @@ module _ {E : Type 0} where
   abbrev pub after_drain_at : ℕ → ℕ → Machine E → Option Stage → Drained E
   after_drain_at p n m (Some Rest) = let out = after_step m p step.Take in drains_first p n out.0 out.1
   after_drain_at p n m stage = after_drain p n m
+
+  -- what a call by this party comes to
+  abbrev pub after_batch : ℕ → ℕ → Machine E → Drained E
+  after_batch p n m = after_drain_at p n m (slice_get m.parties p)
 
   -- the result: the elements, or why there is none
   abbrev pub batch_of : List E → Option TryDequeueError → Result (List E) TryDequeueError
@@ -108,3 +120,9 @@ module _ {E : Type 0} where
     pub front : held h ≡ es ++ rest
     pub few : length es ≤ n
     pub stops : Stops h p n stage es stop
+
+  -- a call on the machine m, after which it is k: the history goes on by the call's events, and what it took
+  pub record TakesBatch (h : List (Event ℕ E)) (p n : ℕ) (m k : Machine E) : Type 0 where
+    pub meets :
+        let d = after_batch p n m in CoreMeets (h ++ batch_events p (slice_get m.parties p) (came_out d) (stop_of d)) k
+    pub took : let d = after_batch p n m in Drains h p n (slice_get m.parties p) (came_out d) (stop_of d)

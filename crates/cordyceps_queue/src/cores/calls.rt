@@ -2,7 +2,7 @@
 ghost use Rattle.std.specs.Prelude.{◌≡◌, ◌≢◌, ◌++◌, ◌↔◌, ◌≤◌, ℕ, [], List, Some, Err, slice_get, length, IfOk, IfErr, OnOk, OnErr, IsFalse, is_ok};
 ghost use Rattle.cordyceps_base.specs.Runs.{after};
 ghost use Rattle.cordyceps_queue.specs.Cores.Alone.{is_ready, may_dequeue, enqueue_steps, after_dequeue, found_of, dequeue_events, Enqueued, Finds, LooksBlocked};
-ghost use Rattle.cordyceps_queue.specs.Cores.Drain.{may_drain, after_drain_at, batch_as_list, batch_of, batch_events, oldest, NobodyPending, NobodyElse, Drains};
+ghost use Rattle.cordyceps_queue.specs.Cores.Drain.{may_drain, after_batch, came_out, stop_of, batch_as_list, batch_of, oldest, NobodyPending, NobodyElse, TakesBatch};
 ghost use Rattle.cordyceps_queue.specs.History.{Event, holder, held};
 ghost use Rattle.cordyceps_queue.specs.Cores.Machine.{after_step, is_there, step_element, step_events};
 ghost use Rattle.cordyceps_queue.specs.Cores.CoreMeets.{CoreMeets, AnswerSays, core_step, new_machine, with_party, with_room};
@@ -199,13 +199,10 @@ impl<E: Drop> QueueCore<E> {
             ↔ IsFalse (may_drain max (slice_get self.old.parties party)) }
         ensures err { OnErr result (self.new ≡ self.old) }
         ensures ok { IfOk result (λ batch.
-            let d = after_drain_at party max self.old (slice_get self.old.parties party) in
-            (self.new ≡ d.0) × (batch_as_list batch ≡ batch_of d.1 d.2)) }
-        ensures history { OnOk result
-            (let d = after_drain_at party max self.old (slice_get self.old.parties party) in (h : List (Event ℕ E))
-            → CoreMeets h self.old
-            → CoreMeets (h ++ batch_events party (slice_get self.old.parties party) d.1 d.2) self.new
-            × Drains h party max (slice_get self.old.parties party) d.1 d.2) }
+            let d = after_batch party max self.old in
+            (self.new ≡ d.0) × (batch_as_list batch ≡ batch_of (came_out d) (stop_of d))) }
+        ensures history { OnOk result ((h : List (Event ℕ E)) → CoreMeets h self.old
+            → TakesBatch h party max self.old self.new) }
         ensures all { IfOk result (λ batch. (h : List (Event ℕ E)) → CoreMeets h self.old
             → NobodyPending h
             → NobodyElse h party

@@ -2,8 +2,8 @@ use Rattle.std.proofs.Common.{◌≡◌, true, ap, sym, ◌∙◌, subst, arith}
 use Rattle.std.specs.Prelude.{slice_get}
 use Rattle.cordyceps_queue.specs.Cores.Alone.{may_dequeue}
 use Rattle.cordyceps_queue.specs.Cores.CoreMeets.{CoreMeets}
-use Rattle.cordyceps_queue.specs.Cores.Drain.{batch_of}
-use Rattle.cordyceps_queue.proofs.CoreTheory.AloneDrain.{came_out, stop_of, batch_law, oldest_law, held_law}
+use Rattle.cordyceps_queue.specs.Cores.Drain.{came_out, stop_of, batch_of}
+use Rattle.cordyceps_queue.proofs.CoreTheory.AloneDrain.{batch_law, oldest_law, held_law}
 use Rattle.cordyceps_queue.proofs.CoreTheory.HeldCount.{room_enough}
 use Rattle.cordyceps_queue.proofs.cores.calls.QueueCore.take_linked.Goals as goal
 
@@ -24,7 +24,7 @@ returns-clause-history g c = λ h was.
     let m = c.self.inside.machine in
     let may : may_dequeue (slice_get m.parties c.args.party) ≡ true = sym c.may_dequeue.ensures ∙ c.if-not-may_dequeue.false in
     let W = batch_law c.args.max h m c.args.party (subst (CoreMeets h) (sym c.self.view_is) was) may in
-    rw (ap (λ d. d.0) c.take_batch-stop.ensures, ← c.self.view_is) (W.meets, W.took)
+    rw (ap (λ d. d.0) c.take_batch-stop.ensures, ← c.self.view_is) (record { meets = W.meets; took = W.took })
 
 pub returns-clause-all : goal.returns-clause-all
 returns-clause-all g c = λ h was still mine.
