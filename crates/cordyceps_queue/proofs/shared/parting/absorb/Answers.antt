@@ -40,5 +40,5 @@ returns-clause-linked g c =
     let view = c.append.ensures.relinked.view in
     let (_, _, joined) = c.join_seat.ensures in
     subst (λ (k : Known _). NonePending k.share (plain k.seen))
-        (ap (λ (m : SeatState _). m.0.known) joined ∙ ap (λ v. (view_absorbing v c.args.other.me.0).known) view)
-        (told c.load.ensures).linked
+    (ap (λ (m : SeatState _). m.0.known) joined ∙ ap (λ v. (view_absorbing v c.args.other.me.0).known) view)
+    (told c.load.ensures).linked
