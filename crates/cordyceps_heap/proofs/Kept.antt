@@ -12,17 +12,17 @@ use Rattle.cordyceps_base.specs.Spots.{AreDistinct}
 use Rattle.cordyceps_stable.specs.Agreeing.{HasElementAt, Agrees, IsUpdated}
 use Rattle.cordyceps_stable.proofs.Agreeing.{none_some, put_agrees, taken_agrees}
 use Rattle.cordyceps_heap.proofs.Apart.{permuted_distinct}
-use Rattle.cordyceps_stable.proofs.Holding.{distinct_less, has_split, spot_is_at, left_is_at, taken_or_left, taken_gone, joined_is_at, front_is_at}
+use Rattle.cordyceps_stable.proofs.Holding.{distinct_less, has_split, spot_is_at, taken_is_at, left_is_at, taken_or_left, taken_gone, joined_is_at, front_is_at}
 
 module _ {X : Type 0} where
   contains_at : (b a : List X) (x : X) → Contains (b ++ x ∷ a) x
   contains_at [] a x = (0, omega arith, refl)
-  contains_at (y ∷ b) a x = let on = contains_at b a x in let within = on.1 in (suc on.0, omega (arith, within), on.2)
+  contains_at (y ∷ b) a x = let (k, within, at) = contains_at b a x in (suc k, omega (arith, within), at)
 
   contained_at : (c : List X) (x : X) → Contains c x → (b : List X) × (a : List X) × (c ≡ b ++ x ∷ a)
   contained_at [] x (k, within, at) = absurd (omega (arith, within))
   contained_at (y ∷ c) x (zero, within, at) = ([], c, ap (λ z. z ∷ c) at)
-  contained_at (y ∷ c) x (suc k, within, at) = let on = contained_at c x (k, omega (arith, within), at) in (y ∷ on.0, on.1, ap (λ s. y ∷ s) on.2)
+  contained_at (y ∷ c) x (suc k, within, at) = let (before, after, is) = contained_at c x (k, omega (arith, within), at) in (y ∷ before, after, ap (λ s. y ∷ s) is)
 
 module _ {X : Type 0} where
   -- what lies in a heap lies there in any order of its nodes
@@ -99,7 +99,7 @@ module _ {X : Type 0} where
         ];
         listed = λ q x lies. elim (joined_is_at rest (n ∷ []) q x (permuted_is_at d (rest ++ n ∷ []) q x (IsPermutation-sym (rest ++ n ∷ []) d kept) lies)) as (λ _. f x.id ≡ Some q) [
           | inl on ↦ was.listed q x (left_is_at c rest p q e x taken on)
-          | inr on ↦ let is = only_at n q x on in ap (λ (y : Ptr × Element X). f y.1.id) is ∙ ap f same ∙ was.listed p e (taken.0, taken.1, taken.2) ∙ ap (λ (y : Ptr × Element X). Some y.0) (sym is)
+          | inr on ↦ let is = only_at n q x on in ap (λ (y : Ptr × Element X). f y.1.id) is ∙ ap f same ∙ was.listed p e (taken_is_at c rest p e taken) ∙ ap (λ (y : Ptr × Element X). Some y.0) (sym is)
         ];
         distinct = distinct;
       }

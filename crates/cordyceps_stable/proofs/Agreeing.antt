@@ -9,7 +9,7 @@ use Rattle.cordyceps_base.specs.Nodes.{Nodes, spots, with_item}
 use Rattle.cordyceps_base.specs.Spots.{AreDistinct}
 use Rattle.cordyceps_base.proofs.Places.{spots-with_item}
 use Rattle.cordyceps_stable.specs.Agreeing.{HasElementAt, Agrees, IsUpdated}
-use Rattle.cordyceps_stable.proofs.Holding.{spot_is_at, unique, taken_gone, left_is_at, taken_or_left, first_taken, moved_is_at, written_lies, written_lay}
+use Rattle.cordyceps_stable.proofs.Holding.{spot_is_at, taken_is_at, unique, taken_gone, left_is_at, taken_or_left, first_taken, moved_is_at, written_lies, written_lay}
 
 abbrev spot_or : Ptr → Option Ptr → Ptr
 spot_or q None = q
@@ -46,7 +46,7 @@ module _ {X : Type 0} where
   put_agrees f g c d p e was fresh up t distinct = record { mapped = mapped; listed = listed; distinct = distinct } where
     mapped : (k : ℕ) (q : Ptr) → g k ≡ Some q → (o : Element X) × (o.id ≡ k) × HasElementAt d q o
     mapped k q at = elim (either_way f g e.id (Some p) up k) as (λ _. (o : Element X) × (o.id ≡ k) × HasElementAt d q o) [
-      | inl here ↦ let same : p ≡ q = ap (spot_or p) (sym here.1 ∙ at) in (e, sym here.0, (t.0, t.1, t.2 ∙ ap (λ s. t.0 ++ (s, e) ∷ t.1) same))
+      | inl here ↦ let same : p ≡ q = ap (spot_or p) (sym here.1 ∙ at) in let (before, after, is, _) = t in (e, sym here.0, (before, after, is ∙ ap (λ s. before ++ (s, e) ∷ after) same))
       | inr other ↦ let (o, key, lies) = was.mapped k q (sym other.1 ∙ at) in (o, key, left_is_at d c p q e o t lies)
     ]
 
@@ -74,7 +74,7 @@ module _ {X : Type 0} where
     listed : (q : Ptr) (o : Element X) → HasElementAt d q o → g o.id ≡ Some q
     listed q o lies = let before = left_is_at c d p q e o t lies in elim (either_way f g e.id None up o.id) as (λ _. g o.id ≡ Some q) [
       | inl here ↦
-          let same : q ≡ p = keys_differ f c was q p o e before (t.0, t.1, t.2) here.0 in
+          let same : q ≡ p = keys_differ f c was q p o e before (taken_is_at c d p e t) here.0 in
           absurd (taken_gone c d p e was.distinct t (spot_is_at d p o (subst (λ s. HasElementAt d s o) same lies)))
       | inr other ↦ other.1 ∙ was.listed q o before
     ]

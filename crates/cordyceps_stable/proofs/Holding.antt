@@ -23,6 +23,10 @@ module _ {X : Type 0} where
   pub after_taken : (c d : Nodes X) (p q : Ptr) (e : Element X) → IsPutAfter d p q e c → IsTaken c q e d
   after_taken c d p q e (b, o, a, was, is) = (b ++ (p, o) ∷ [], a, is ∙ sym (append_assoc b ((p, o) ∷ []) ((q, e) ∷ a)), was ∙ sym (append_assoc b ((p, o) ∷ []) a))
 
+  -- what was taken out lay there
+  pub taken_is_at : (c d : Nodes X) (p : Ptr) (e : Element X) → IsTaken c p e d → HasElementAt c p e
+  taken_is_at c d p e (before, after, is, _) = (before, after, is)
+
   -- how many are left
   pub taken_length : (c d : Nodes X) (p : Ptr) (e : Element X) → IsTaken c p e d → length c ≡ length d + 1
   taken_length c d p e (b, a, is, left) = omega (arith, ap length is, ap length left, length-append b ((p, e) ∷ a), length-append b a)
@@ -53,15 +57,15 @@ module _ {X : Type 0} where
   unique [] a (y ∷ d) z p e o is distinct = let rest : a ≡ d ++ (p, o) ∷ z = ap rest_of is in absurd (not_new p d z o (subst (λ s. IsNew p (spots s)) rest distinct.0))
   unique (x ∷ b) a [] z p e o is distinct = let first : x.0 ≡ p = ap (λ s. (head_or x s).0) is in absurd (not_new p b a e (subst (λ q. IsNew q (spots (b ++ (p, e) ∷ a))) first distinct.0))
   unique (x ∷ b) a (y ∷ d) z p e o is distinct =
-      let first : x ≡ y = ap (head_or x) is in let rest : b ++ (p, e) ∷ a ≡ d ++ (p, o) ∷ z = ap rest_of is in let on = unique b a d z p e o rest distinct.1 in ((λ i. first i ∷ on.0 i), on.1, on.2)
+      let first : x ≡ y = ap (head_or x) is in let rest : b ++ (p, e) ∷ a ≡ d ++ (p, o) ∷ z = ap rest_of is in let (firsts, value, lasts) = unique b a d z p e o rest distinct.1 in ((λ i. first i ∷ firsts i), value, lasts)
 
   pub has_split : (c : Nodes X) (k : ℕ) (p : Ptr) → slice_get (spots c) k ≡ Some p → (e : Element X) × HasElementAt c p e
   has_split [] k p at = cc
   has_split (x ∷ c) zero p at = let same : x.0 ≡ p = cc in (x.1, ([], c, λ i. (same i, x.1) ∷ c))
-  has_split (x ∷ c) (suc k) p at = let on = has_split c k p at in (on.0, (x ∷ on.1.0, on.1.1, ap (λ s. x ∷ s) on.1.2))
+  has_split (x ∷ c) (suc k) p at = let (e, (before, after, is)) = has_split c k p at in (e, (x ∷ before, after, ap (λ s. x ∷ s) is))
 
   new_part : (p : Ptr) (b a : Nodes X) (e : Element X) → AreDistinct (spots (b ++ (p, e) ∷ a)) → (k : ℕ) → slice_get (spots (b ++ a)) k ≡ Some p → ⊥
-  new_part p [] a e distinct k at = let on = has_split a k p at in not_new p on.1.0 on.1.1 on.0 (subst (λ s. IsNew p (spots s)) on.1.2 distinct.0)
+  new_part p [] a e distinct k at = let (o, (before, after, is)) = has_split a k p at in not_new p before after o (subst (λ s. IsNew p (spots s)) is distinct.0)
   new_part p (x ∷ b) a e distinct zero at = let same : x.0 ≡ p = cc in not_new p b a e (subst (λ q. IsNew q (spots (b ++ (p, e) ∷ a))) same distinct.0)
   new_part p (x ∷ b) a e distinct (suc k) at = new_part p b a e distinct.1 k at
 
@@ -71,11 +75,11 @@ module _ {X : Type 0} where
 
   -- what lies in the list without an element lies there with it
   pub left_is_at : (c d : Nodes X) (p q : Ptr) (e o : Element X) → IsTaken c p e d → HasElementAt d q o → HasElementAt c q o
-  left_is_at c d p q e o (b, a, is, left) (b', a', lies) = let on = go b a b' a' (sym left ∙ lies) in (on.0, on.1, is ∙ on.2) where
+  left_is_at c d p q e o (b, a, is, left) (b', a', lies) = let (before, after, on) = go b a b' a' (sym left ∙ lies) in (before, after, is ∙ on) where
     go : (b a b' a' : Nodes X) → b ++ a ≡ b' ++ (q, o) ∷ a' → HasElementAt (b ++ (p, e) ∷ a) q o
     go [] a b' a' is = ((p, e) ∷ b', a', ap (λ s. (p, e) ∷ s) is)
     go (x ∷ b) a [] a' is = ([], b ++ (p, e) ∷ a, ap (λ s. head_or x s ∷ b ++ (p, e) ∷ a) is)
-    go (x ∷ b) a (y ∷ b') a' is = let on = go b a b' a' (ap rest_of is) in (x ∷ on.0, on.1, ap (λ s. x ∷ s) on.2)
+    go (x ∷ b) a (y ∷ b') a' is = let (before, after, on) = go b a b' a' (ap rest_of is) in (x ∷ before, after, ap (λ s. x ∷ s) on)
 
   -- what lies in the list with an element is that element, or lies there without it
   pub taken_or_left : (c d : Nodes X) (p q : Ptr) (e o : Element X) → IsTaken c p e d → HasElementAt c q o → ((q ≡ p) × (o ≡ e)) ⊎ HasElementAt d q o
@@ -86,7 +90,7 @@ module _ {X : Type 0} where
     go (x ∷ b) a [] a' is = inr ([], b ++ a, ap (λ s. head_or x s ∷ b ++ a) is)
     go (x ∷ b) a (y ∷ b') a' is = elim (go b a b' a' (ap rest_of is)) as (λ _. ((q ≡ p) × (o ≡ e)) ⊎ HasElementAt (x ∷ b ++ a) q o) [
       | inl same ↦ inl same
-      | inr on ↦ inr (x ∷ on.0, on.1, ap (λ s. x ∷ s) on.2)
+      | inr (before, after, on) ↦ inr (x ∷ before, after, ap (λ s. x ∷ s) on)
     ]
 
   -- an element that was put in where another was taken out is in its place
@@ -126,9 +130,9 @@ module _ {X : Type 0} where
 
   -- two lists that are the same without the element at a spot hold the same, as before and after a move
   pub moved_is_at : (c d rest : Nodes X) (p q : Ptr) (e o : Element X) → IsTaken c p e rest → IsTaken d p e rest → HasElementAt c q o → HasElementAt d q o
-  moved_is_at c d rest p q e o was is lies = elim (taken_or_left c rest p q e o was lies) as (λ _. HasElementAt d q o) [
-    | inl same ↦ let at = sym same.0 in let of = sym same.1 in (is.0, is.1, is.2 ∙ (λ i. is.0 ++ (at i, of i) ∷ is.1))
-    | inr on ↦ left_is_at d rest p q e o is on
+  moved_is_at c d rest p q e o was (before, after, is, left) lies = elim (taken_or_left c rest p q e o was lies) as (λ _. HasElementAt d q o) [
+    | inl same ↦ let at = sym same.0 in let of = sym same.1 in (before, after, is ∙ (λ i. before ++ (at i, of i) ∷ after))
+    | inr on ↦ left_is_at d rest p q e o (before, after, is, left) on
   ]
 
   -- what lies in two lists that were joined lies in one of them
@@ -136,7 +140,7 @@ module _ {X : Type 0} where
   joined_is_at [] d q o lies = inr lies
   joined_is_at (x ∷ c) d q o ([], a, is) = inl ([], c, ap (λ s. head_or x s ∷ c) is)
   joined_is_at (x ∷ c) d q o (y ∷ b, a, is) = elim (joined_is_at c d q o (b, a, ap rest_of is)) as (λ _. HasElementAt (x ∷ c) q o ⊎ HasElementAt d q o) [
-    | inl on ↦ inl (x ∷ on.0, on.1, ap (λ s. x ∷ s) on.2)
+    | inl (before, after, on) ↦ inl (x ∷ before, after, ap (λ s. x ∷ s) on)
     | inr on ↦ inr on
   ]
 

@@ -7,7 +7,7 @@ use Rattle.cordyceps_base.specs.Nodes.{Nodes}
 use Rattle.cordyceps_base.specs.Element.{Element}
 use Rattle.cordyceps_stable.specs.Replacing.{IsReplaced}
 use Rattle.cordyceps_stable.specs.Walk.{IsOn, IsBack}
-use Rattle.cordyceps_stable.proofs.Holding.{spot_is_at, before_taken, after_taken}
+use Rattle.cordyceps_stable.proofs.Holding.{spot_is_at, taken_is_at, before_taken, after_taken}
 
 module _ {X : Type 0} where
   pub first_has : (c : Nodes X) (p : Ptr) → IsFirst c p → HasSpot c p
@@ -41,17 +41,17 @@ module _ {X : Type 0} where
 
   -- where an element was inserted, as what `others` of a sorted list says
   pub taken_has : (c d : Nodes X) (p : Ptr) (e : Element X) → IsTaken c p e d → HasSpot c p
-  taken_has c d p e (before, after, is, _) = spot_is_at c p e (before, after, is)
+  taken_has c d p e taken = spot_is_at c p e (taken_is_at c d p e taken)
 
   -- where an element was put in, or moved to
   pub replaced_has : (c d : Nodes X) (p q : Ptr) (o e : Element X) → IsReplaced c p o q e d → HasSpot d q
   replaced_has c d p q o e (before, after, was, is) = spot_is_at d q e (before, after, is)
 
   pub put_before_has : (c d : Nodes X) (p q : Ptr) (e : Element X) → IsPutBefore c p q e d → HasSpot d q
-  put_before_has c d p q e put = let t = before_taken d c p q e put in spot_is_at d q e (t.0, t.1, t.2)
+  put_before_has c d p q e put = taken_has d c q e (before_taken d c p q e put)
 
   pub put_after_has : (c d : Nodes X) (p q : Ptr) (e : Element X) → IsPutAfter c p q e d → HasSpot d q
-  put_after_has c d p q e put = let t = after_taken d c p q e put in spot_is_at d q e (t.0, t.1, t.2)
+  put_after_has c d p q e put = taken_has d c q e (after_taken d c p q e put)
 
   pub moved_back_has : (c d : Nodes X) (p : Ptr) → IsMovedBack c p d → HasSpot d p
   moved_back_has c d p (e, rest, taken, is) = spot_is_at d p e (rest, [], is)

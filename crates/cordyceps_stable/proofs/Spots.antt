@@ -37,15 +37,15 @@ module _ {X : Type 0} where
 
   -- where an element was put in
   pub put_said : (P : Nodes X → Ptr → Ptr → Element X → Nodes X → Type 0) (c d : Nodes X) (p q r : Ptr) (e o : Element X) (n : Nodes X) → P c p r e n → c ≡ d → p ≡ q → e ≡ o → P d q r o n
-  put_said P c d p q r e o n h view at is = subst (λ (l : Nodes X × Ptr × Element X). P l.0 l.1 r l.2 n) (λ i. (view i, at i, is i)) h
+  put_said P c d p q r e o n h view at is = subst (λ (l : Nodes X × Ptr × Element X). let (nodes, spot, element) = l in P nodes spot r element n) (λ i. (view i, at i, is i)) h
 
   -- where an element was moved
   pub move_said : (P : Nodes X → Ptr → Nodes X → Type 0) (c d : Nodes X) (p q : Ptr) (m n : Nodes X) → P c p m → c ≡ d → p ≡ q → n ≡ m → P d q n
-  move_said P c d p q m n h view at same = subst (λ (l : Nodes X × Ptr × Nodes X). P l.0 l.1 l.2) (λ i. (view i, at i, sym same i)) h
+  move_said P c d p q m n h view at same = subst (λ (l : Nodes X × Ptr × Nodes X). let (nodes, spot, moved) = l in P nodes spot moved) (λ i. (view i, at i, sym same i)) h
 
   pub moved_after_said : (c d : Nodes X) (p q r s : Ptr) (m n : Nodes X) → IsMovedAfter c p r m → c ≡ d → p ≡ q → r ≡ s → n ≡ m → IsMovedAfter d q s n
   moved_after_said c d p q r s m n h view at to same =
-      subst (λ (l : Nodes X × Ptr × Ptr × Nodes X). IsMovedAfter l.0 l.1 l.2 l.3) (λ i. (view i, at i, to i, sym same i)) h
+      subst (λ (l : Nodes X × Ptr × Ptr × Nodes X). let (nodes, spot, other, moved) = l in IsMovedAfter nodes spot other moved) (λ i. (view i, at i, to i, sym same i)) h
 
   -- where a cursor comes to
   pub place_said : (P : Nodes X → Option Ptr → Option Ptr → Type 0) (c : Nodes X) (o r q : Option Ptr) (s : Place X) → P c q r → o ≡ q → ◌≡◌ {A = Place X} (record { nodes = c; spot = o }) s → P s.nodes s.spot r
