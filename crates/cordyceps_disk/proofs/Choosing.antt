@@ -1,5 +1,5 @@
 -- Which request is the next.
-use Rattle.std.proofs.Common.{◌≡◌, ℕ, ◌<◌, ◌≤◌, List, [], ◌∷◌, ◌++◌, length, Option, Some, None, MatchOption, refl, ap, sym, ◌∙◌, subst, arith, inl, inr}
+use Rattle.std.proofs.Common.{◌≡◌, ℕ, ◌<◌, ◌≤◌, List, [], ◌∷◌, ◌++◌, Option, Some, None, MatchOption, refl, ap, sym, ◌∙◌, subst, arith, inl, inr}
 use Rattle.std.specs.List.{AllByRecursion}
 use denote.RawPtr.{Ptr}
 use Rattle.cordyceps.specs.Elements.Element.{Element}
@@ -32,10 +32,6 @@ least_first key n s all q e (m ∷ b, a, is) = go s all b a (ap rest_of is) wher
   go [] all (l ∷ b) a is = absurd cc
   go (x ∷ s) all [] a is = let same = ap (head_or x) is in omega (arith, all.0, ap key same)
   go (x ∷ s) all (l ∷ b) a is = go s all.1 b a (ap rest_of is)
-
-nothing : {X : Type 0} (s : List X) → length s ≡ 0 → s ≡ []
-nothing [] is = refl
-nothing (x ∷ s) is = absurd cc
 
 module _ {P : Type 0} where
   -- what lies among those that a contract sees

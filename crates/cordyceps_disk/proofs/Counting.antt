@@ -1,5 +1,5 @@
 -- How often a request is among those that wait, once one came in or went.
-use Rattle.std.proofs.Common.{◌≡◌, ℕ, ◌+◌, List, [], ◌∷◌, ◌++◌, length, refl, ap, sym, ◌∙◌, arith}
+use Rattle.std.proofs.Common.{◌≡◌, ℕ, ◌+◌, List, [], ◌∷◌, ◌++◌, refl, ap, sym, ◌∙◌, arith}
 use denote.RawPtr.{Ptr}
 use Rattle.cordyceps.specs.Elements.Element.{Element, values}
 use Rattle.cordyceps.specs.Elements.Nodes.{Nodes, elements}
@@ -17,10 +17,6 @@ taken_tally {X} f c d p e (b, a, is, left) = ap (λ (l : Nodes X). tally f (valu
   go : (b : Nodes X) → tally f (values (elements (b ++ (p, e) ∷ a))) ≡ f e.value + tally f (values (elements (b ++ a)))
   go [] = refl
   go (n ∷ b) = let on = go b in omega (arith, on)
-
-pub nothing_left : {X : Type 0} (s : List X) → length s ≡ 0 → s ≡ []
-nothing_left [] is = refl
-nothing_left (x ∷ s) is = absurd (omega (arith, is))
 
 module _ {P : Type 0} (q w : Queue P) (s rest : List (Step P)) (served : List (Request P)) (total : (Request P → ℕ) → ℕ)
     (was : (f : Request P → ℕ) → tally f served + (tally f (in_queue q) + tally f (put_in s)) ≡ total f) (x : Step P) (steps : s ≡ x ∷ rest) where

@@ -1,11 +1,9 @@
 -- Lists in the order of keys, and one more among them: what an insertion leaves.
 use Rattle.std.proofs.Common.{◌≡◌, ℕ, suc, ◌<◌, ◌≤◌, cond, nat_lt, List, [], ◌∷◌, ◌++◌, length, refl, ap, sym, ◌∙◌, subst, arith}
-use Rattle.std.proofs.lemmas.Bool.{le-ltb, lt-ltb, ltb-false, ltb-true}
-use Rattle.std.proofs.lemmas.Cmp.{by_ranked}
-use Rattle.std.specs.Cmp.{ranked}
+use Rattle.std.proofs.lemmas.Bool.{lt-ltb, ltb-false, ltb-true}
 use Rattle.std.specs.List.{AllByRecursion}
 use Rattle.std.specs.List.Sorted.{IsSortedBy}
-use Rattle.std.specs.Ordering.{is_lt, nat_cmp}
+use Rattle.std.specs.Ordering.{nat_cmp}
 use denote.RawPtr.{Ptr}
 use Rattle.cordyceps.specs.Elements.Element.{Element}
 use Rattle.cordyceps.specs.Elements.Nodes.{Nodes}
@@ -13,16 +11,12 @@ use Rattle.cordyceps.specs.Orders.Preorder.{IsPreorder}
 use Rattle.cordyceps.specs.Spots.Arranged.{precedes, Arranges, AllGreater, LastNotGreater}
 use Rattle.cordyceps.specs.Spots.BySpot.{IsTaken}
 use Rattle.cordyceps.proofs.Orders.Arrangement.{Ascends, After, sorted_from_ascends}
+use Rattle.cordyceps.proofs.Orders.Keys.{lt_is, not_less}
 use Rattle.cordyceps.proofs.Orders.Preorder.{by_test}
 use Rattle.cordyceps.proofs.Spots.Arranged.{arranges_itself, arranges_put, same_nodes}
 use Rattle.cordyceps.proofs.Spots.Classes.{all_append, all_front, all_back, all_weaker}
 use Rattle.cordyceps_disk.specs.Pairs.{Rises}
 use Rattle.cordyceps_disk.specs.Queue.{put_by}
-
-less_is : (a b : ℕ) → is_lt (nat_cmp a b) ≡ nat_lt a b
-less_is a b =
-    by_ranked (a < b) (a ≡ b) (b < a) (nat_cmp a b) (ranked a b (nat_cmp a b) refl)
-    (λ e h. ap is_lt e ∙ sym (lt-ltb a b h)) (λ e h. ap is_lt e ∙ sym (le-ltb a b (omega arith))) (λ e h. ap is_lt e ∙ sym (le-ltb a b (omega arith)))
 
 module _ {A : Type 0} (key : A → ℕ) where
   pub low : (b a : List A) (x : A) → Rises key (b ++ x ∷ a) → AllByRecursion (λ y. key y ≤ key x) b
@@ -97,7 +91,7 @@ module _ {X : Type 0} (key : X → ℕ) where
 
   after_of : (n : Ptr × Element X) (s : Nodes X) → AllByRecursion (λ m. of n ≤ of m) s → After (precedes (λ x y. nat_cmp (key x) (key y))) n s
   after_of n [] h = tt
-  after_of n (m ∷ s) h = (less_is (of m) (of n) ∙ le-ltb (of m) (of n) h.0, after_of n s h.1)
+  after_of n (m ∷ s) h = (not_less (of m) (of n) h.0, after_of n s h.1)
 
   ascends_of : (s : Nodes X) → Rises of s → Ascends (precedes (λ x y. nat_cmp (key x) (key y))) s
   ascends_of [] h = tt
@@ -108,12 +102,12 @@ module _ {X : Type 0} (key : X → ℕ) where
 
   none_greater : (n : Ptr × Element X) (s : Nodes X) → AllByRecursion (λ m. of m ≤ of n) s → LastNotGreater (λ x y. nat_cmp (key x) (key y)) n.1.value s
   none_greater n [] h = tt
-  none_greater n (m ∷ []) h = less_is (of n) (of m) ∙ le-ltb (of n) (of m) h.0
+  none_greater n (m ∷ []) h = not_less (of n) (of m) h.0
   none_greater n (m ∷ l ∷ s) h = none_greater n (l ∷ s) h.1
 
   all_greater : (n : Ptr × Element X) (s : Nodes X) → AllByRecursion (λ m. of n < of m) s → AllGreater (λ x y. nat_cmp (key x) (key y)) n.1.value s
   all_greater n [] h = tt
-  all_greater n (m ∷ s) h = (less_is (of n) (of m) ∙ lt-ltb (of n) (of m) h.0, all_greater n s h.1)
+  all_greater n (m ∷ s) h = (lt_is (of n) (of m) ∙ lt-ltb (of n) (of m) h.0, all_greater n s h.1)
 
   module _ (o : IsPreorder (λ x y. nat_cmp (key x) (key y))) where
     pub itself : (s : Nodes X) → Rises of s → Arranges (λ x y. nat_cmp (key x) (key y)) s s

@@ -1,10 +1,8 @@
 -- Timers in the order of their deadlines, where one more comes among them, and which are due.
 use Rattle.std.proofs.Common.{◌≡◌, ℕ, ◌≤◌, ◌<◌, Bool, true, false, cond, nat_lt, [], ◌∷◌, ◌++◌, refl, ap, sym, ◌∙◌, subst, arith}
-use Rattle.std.proofs.lemmas.Bool.{le-ltb, lt-ltb, ltb-false, ltb-true}
+use Rattle.std.proofs.lemmas.Bool.{lt-ltb, ltb-true}
 use Rattle.std.specs.declared.cmp.Ordering.{Ordering}
 use Rattle.std.specs.Ordering.{is_lt, nat_cmp}
-use Rattle.std.specs.Cmp.{ranked}
-use Rattle.std.proofs.lemmas.Cmp.{by_ranked}
 use Rattle.std.specs.List.{AllByRecursion}
 use denote.RawPtr.{Ptr}
 use Rattle.cordyceps.specs.Elements.Element.{Element}
@@ -13,25 +11,15 @@ use Rattle.cordyceps.specs.Orders.ByKey.{by_key}
 use Rattle.cordyceps.specs.Orders.Preorder.{IsPreorder, by_number_lawful}
 use Rattle.cordyceps.specs.Spots.Arranged.{precedes, Arranges, AllGreater, LastNotGreater}
 use Rattle.cordyceps.proofs.Orders.Arrangement.{Ascends, ascends_from_sorted, sorted_from_ascends}
+use Rattle.cordyceps.proofs.Orders.Keys.{lt_is, not_less, at_most}
 use Rattle.cordyceps.proofs.Orders.Preorder.{by_test, ranks}
 use Rattle.cordyceps.proofs.Spots.Arranged.{arranges_itself, arranges_put}
 use Rattle.cordyceps.proofs.Spots.Classes.{all_weaker}
 use Rattle.cordyceps_shared_uses.specs.declared.timers.Timer.{Timer}
 use Rattle.cordyceps_shared_uses.specs.Timers.{InOrder, started, due}
 
-lt_is : (a b : ℕ) → is_lt (nat_cmp a b) ≡ nat_lt a b
-lt_is a b =
-    by_ranked (a < b) (a ≡ b) (b < a) (nat_cmp a b) (ranked a b (nat_cmp a b) refl)
-    (λ e h. ap is_lt e ∙ sym (lt-ltb a b h)) (λ e h. ap is_lt e ∙ sym (le-ltb a b (omega arith))) (λ e h. ap is_lt e ∙ sym (le-ltb a b (omega arith)))
-
-not_sooner : (a b : ℕ) → b ≤ a → is_lt (nat_cmp a b) ≡ false
-not_sooner a b h = lt_is a b ∙ le-ltb a b h
-
 sooner : (a b : ℕ) → a < b → is_lt (nat_cmp a b) ≡ true
 sooner a b h = lt_is a b ∙ lt-ltb a b h
-
-not_later : (a b : ℕ) → is_lt (nat_cmp a b) ≡ false → b ≤ a
-not_later a b f = ltb-false a b (sym (lt_is a b) ∙ f)
 
 module _ {P : Type 0} where
   -- the order of timers
@@ -46,14 +34,14 @@ module _ {P : Type 0} where
   ascends : (s : Nodes (Timer P)) → InOrder s → Ascends (precedes by_deadline) s
   ascends [] h = tt
   ascends (x ∷ s) h = (
-    all_weaker (λ y. x.1.value.deadline ≤ y.1.value.deadline) (λ y. precedes by_deadline y x ≡ false) (λ y k. not_sooner y.1.value.deadline x.1.value.deadline k) s h.0,
+    all_weaker (λ y. x.1.value.deadline ≤ y.1.value.deadline) (λ y. precedes by_deadline y x ≡ false) (λ y k. not_less y.1.value.deadline x.1.value.deadline k) s h.0,
     ascends s h.1,
   )
 
   in_order : (s : Nodes (Timer P)) → Ascends (precedes by_deadline) s → InOrder s
   in_order [] h = tt
   in_order (x ∷ s) h = (
-    all_weaker (λ y. precedes by_deadline y x ≡ false) (λ y. x.1.value.deadline ≤ y.1.value.deadline) (λ y k. not_later y.1.value.deadline x.1.value.deadline k) s h.0,
+    all_weaker (λ y. precedes by_deadline y x ≡ false) (λ y. x.1.value.deadline ≤ y.1.value.deadline) (λ y k. at_most y.1.value.deadline x.1.value.deadline k) s h.0,
     in_order s h.1,
   )
 

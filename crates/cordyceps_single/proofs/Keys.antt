@@ -18,7 +18,8 @@ pub keys_tell : {X K : Type 0} (cmp_keys : K → K → Ordering) (key : X → K)
 keys_tell {X = X} cmp_keys key cmp x y first second r is other says compares =
     says ∙ (λ i. cmp_keys (is i) (other i)) ∙ ap (λ (f : X → X → Ordering). f x y) (sym compares)
 
-lt_is : (a b : ℕ) → is_lt (nat_cmp a b) ≡ nat_lt a b
+-- what the order of numbers says
+pub lt_is : (a b : ℕ) → is_lt (nat_cmp a b) ≡ nat_lt a b
 lt_is a b =
     by_ranked (a < b) (a ≡ b) (b < a) (nat_cmp a b) (ranked a b (nat_cmp a b) refl)
     (λ e h. ap is_lt e ∙ sym (lt-ltb a b h)) (λ e h. ap is_lt e ∙ sym (le-ltb a b (omega arith))) (λ e h. ap is_lt e ∙ sym (le-ltb a b (omega arith)))

@@ -4,6 +4,10 @@ use Rattle.cordyceps_stack.specs.History.{Event, Load, Push, Taken, held, held_f
 use Rattle.std.proofs.lemmas.List.{append-nil, reverse-reverse}
 
 module _ {A : Type 0} where
+  -- a list of which nothing is left in reverse
+  pub none_from_reversed : (xs : List A) → reverse xs ≡ [] → xs ≡ []
+  none_from_reversed xs e = sym (reverse-reverse xs) ∙ ap reverse e
+
   -- where a list with one more item at its end has the item t
   pub split_push : (h before after : List A) (v t : A) → h ++ v ∷ [] ≡ before ++ t ∷ after
       → ((h ≡ before) × (v ≡ t)) ⊎ ((rest : List A) × (h ≡ before ++ t ∷ rest))

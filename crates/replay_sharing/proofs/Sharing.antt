@@ -5,7 +5,8 @@ use Rattle.cordyceps_shared.proofs.Adding.{plain_own}
 use Rattle.cordyceps_shared.proofs.Interleaving.{all_left, all_right}
 use Rattle.cordyceps_shared.specs.Interleaving.{Interleaves}
 use Rattle.cordyceps_shared.specs.Knowing.{merge_marks}
-use Rattle.cordyceps_stack.specs.History.{Event, Load, Push, Taken, pushes, held_after, held_from}
+use Rattle.cordyceps_stack.specs.History.{Event, Load, Push, Taken, pushes, held_from}
+use Rattle.cordyceps_stack.proofs.Histories.{held_from-append}
 use Rattle.replay_sharing.specs.Sharing.{NoBatch}
 
 -- each item is one of these
@@ -78,13 +79,9 @@ module _ {P E : Type 0} where
   held_pushed es (Push p e ∷ h) n = held_pushed (es ++ e ∷ []) h n ∙ append_assoc es (e ∷ []) (pushes h)
   held_pushed es (Taken p b ∷ h) n = absurd n
 
-  pub held_append : (es : List E) (h k : List (Event P E)) → held_from es (h ++ k) ≡ held_from (held_from es h) k
-  held_append es [] k = refl
-  held_append es (v ∷ h) k = held_append (held_after es v) h k
-
   -- what is held after a history that held nothing, and events none of which is a taking
   pub held_since : (h k : List (Event P E)) → held_from [] h ≡ [] → NoBatch k → held_from [] (h ++ k) ≡ pushes k
-  held_since h k none n = held_append [] h k ∙ (ap (λ z. held_from z k) none ∙ held_pushed [] k n)
+  held_since h k none n = held_from-append [] h k ∙ (ap (λ z. held_from z k) none ∙ held_pushed [] k n)
 
   -- ---- what a worker did
   pub none_append : (h k : List (Event P E)) → NoBatch h → NoBatch k → NoBatch (h ++ k)

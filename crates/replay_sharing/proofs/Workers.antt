@@ -16,10 +16,11 @@ use Rattle.cordyceps_shared.proofs.Interleaving.{interleaved_permutes}
 use Rattle.cordyceps_commands.specs.declared.item.Item.{Item}
 use Rattle.cordyceps_stack.specs.History.{Event, Load, Push, Taken, pushes, held, Legal, actor}
 use Rattle.cordyceps_stack.specs.Shared.Calls.{PartyOf, Adds, PushesAt, Takes}
+use Rattle.cordyceps_stack.proofs.Histories.{held_from-append}
 use Rattle.replay_sharing.specs.Sharing.{item, Works, Leaves, IsReady, Shared, NoBatch}
 use Rattle.replay_sharing.proofs.InOrder.{sorted_as}
 use Rattle.cordyceps_shared.proofs.Acting.{merged_since}
-use Rattle.replay_sharing.proofs.Sharing.{Every, Other, pushed_by_both, none_taken, held_append, held_since, none_append, pushes_append, tries_take_nothing, tries_push_once}
+use Rattle.replay_sharing.proofs.Sharing.{Every, Other, pushed_by_both, none_taken, held_since, none_append, pushes_append, tries_take_nothing, tries_push_once}
 
 abbrev Party : Type 0
 Party = PartyOf (Element Item)
@@ -193,7 +194,7 @@ module _ (b c : Bool) (u first second v w : Party) (one : Went (tens_if b) (givi
     ready = record {
       whole = z.0.0.share ∙ again;
       rooms = rooms_again;
-      empty = ap (λ k. held k) (whole_adds actor (λ h. Legal h) w t (Taken (name_of w) batch ∷ []) again z.0) ∙ held_append [] (plain w.seen) (Taken (name_of w) batch ∷ []);
+      empty = ap (λ k. held k) (whole_adds actor (λ h. Legal h) w t (Taken (name_of w) batch ∷ []) again z.0) ∙ held_from-append [] (plain w.seen) (Taken (name_of w) batch ∷ []);
     }
 
     pub shared : (b && c) ≡ true → (values : List ℕ) → IsPermutation (map (λ e. e.value.value) batch) values → IsSorted nat_cmp values → Shared u t values

@@ -2,7 +2,7 @@
 use Rattle.std.proofs.Common.{◌≡◌, ◌≢◌, ℕ, List, [], ◌∷◌, ◌++◌, reverse, refl, ap, sym, ◌∙◌, subst, Bool, true, false, get_or}
 use Rattle.std.specs.Prelude.{Option, Some, None, slice_get, nat_eq, is_none, ◌↔◌}
 use Rattle.std.specs.Option.{option_eq}
-use Rattle.std.proofs.lemmas.List.{append-nil, reverse-reverse}
+use Rattle.std.proofs.lemmas.List.{append-nil}
 use Rattle.std.proofs.lemmas.List.Quantifiers.{position-Some}
 use Rattle.std.proofs.lemmas.Option.{slice_get-get_or}
 use Rattle.cordyceps_stack.specs.declared.cores.steps.TransferStep.{TransferStep}
@@ -17,11 +17,9 @@ use Rattle.cordyceps_stack.specs.Cores.Machine.{Machine, Outcome, least_free, lo
 use Rattle.cordyceps_stack.specs.Cores.Stages.{room_in_use, LeadsThrough}
 use Rattle.cordyceps_stack.specs.Cores.CoreMeets.{CoreMeets, AnswerSays, step_events}
 use Rattle.cordyceps_shared.proofs.Choices.{option_same, option_differ}
+use Rattle.cordyceps_stack.proofs.Histories.{none_from_reversed}
 use Rattle.cordyceps_stack.proofs.CoreTheory.Chains.{LeadsThrough-none, LeadsThrough-some}
 use Rattle.cordyceps_stack.proofs.CoreTheory.EachStep.{keeps_load, keeps_set_next, keeps_push, keeps_fail, keeps_take, keeps_nothing, keeps_walk}
-
-none_from_reversed : {A : Type 0} (xs : List A) → reverse xs ≡ [] → xs ≡ []
-none_from_reversed xs e = sym (reverse-reverse xs) ∙ ap reverse e
 
 module _ {E : Type 0} where
   -- the room r is there, and is p's free one

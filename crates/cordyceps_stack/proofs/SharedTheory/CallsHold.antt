@@ -1,5 +1,5 @@
 -- What the calls of a shared transfer stack promise, from what their parts leave.
-use Rattle.std.proofs.Common.{◌≡◌, ◌+◌, ◌<◌, ℕ, suc, List, [], ◌∷◌, ◌++◌, map, reverse, length, replicate, Bool, refl, sym, ap, ◌∙◌, subst, arith, length-append, length-drop, true, false, None}
+use Rattle.std.proofs.Common.{◌≡◌, ◌+◌, ◌<◌, ℕ, List, [], ◌∷◌, ◌++◌, map, reverse, length, replicate, Bool, refl, sym, ap, ◌∙◌, subst, arith, length-append, length-drop, true, false, None}
 use Rattle.std.specs.Prelude.{IsTrue, Result, Ok, Err, MatchResult, is_ok}
 use Rattle.atomic_table.specs.Seated.{TableId}
 use Rattle.cordyceps_shared.specs.FreeChains.{Tracks, FreeChain}
@@ -27,6 +27,7 @@ use Rattle.cordyceps_stack.specs.Shared.View.{View, newcomer, name}
 use Rattle.cordyceps_stack.specs.Shared.Order.{crosswise}
 use Rattle.cordyceps_stack.proofs.SharedTheory.OrderHolds.{order_length, order_at, tracks_new}
 use Rattle.cordyceps_stack.proofs.SharedTheory.PartsJoin.{not_overtaken}
+use Rattle.cordyceps_stack.proofs.SharedTheory.WordsKeep.{length_elements}
 use Rattle.cordyceps_stack.proofs.Histories.{legal_none}
 
 module _ {E : Type 0} where
@@ -157,10 +158,6 @@ module _ {E : Type 0} where
 
   pub looks_once : (z z' : TableId) (none : Bool) (m k : SeatState E) → Sees m.0 (Load (name m.0) ∷ []) k.0 → EndsLooked (IsTrue none) (name m.0) k.0.known.seen → k.0.free ≡ m.0.free → z' ≡ z → Looks none (standing z m.0) (standing z' k.0)
   looks_once z z' none m k g ends free at = (adds z z' m.0 k.0 (Load (name m.0) ∷ []) g at, ends, ap (λ (ys : FreeChain). length ys.rooms) free)
-
-  length_elements : (xs : List (ℕ × E)) → length (room_elements xs) ≡ length xs
-  length_elements [] = refl
-  length_elements (x ∷ xs) = ap suc (length_elements xs)
 
   pub takes : (z z' : TableId) (slots found : ℕ) (m mid k : SeatState E) → TookAll slots found m mid → EmptiesHand slots mid k → z' ≡ z → Takes (room_elements (to_hand_out mid.0.doing)) (standing z m.0) (standing z' k.0)
   takes z z' slots found m mid k t h at =

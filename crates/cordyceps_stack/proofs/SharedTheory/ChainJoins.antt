@@ -23,7 +23,7 @@ use Rattle.cordyceps_stack.specs.Shared.View.{Holding, Walking, View, name, taki
 use Rattle.cordyceps_stack.proofs.Histories.{held_more}
 use Rattle.cordyceps_stack.proofs.SharedTheory.PartsJoin.{Tried, NextFree, is_zero, then_missed, loads_then, tried_name}
 use Rattle.cordyceps_stack.proofs.SharedTheory.SlotMoves.{in_use_last, start_onto}
-use Rattle.cordyceps_stack.proofs.SharedTheory.WordsKeep.{elements_onto}
+use Rattle.cordyceps_stack.proofs.SharedTheory.WordsKeep.{elements_onto, length_elements}
 
 -- the first of n free rooms, and the others
 pub record FirstOf (room n : ℕ) (chain : FreeChain) : Type 0 where
@@ -304,10 +304,6 @@ module _ {E : Type 0} where
         sees = subst (λ (p : Known (Event Name E) × Known (Event Name E)). Grown actor (λ h. Legal h) p.0 (Load (first_name p.0.share) ∷ []) p.1) (λ i. (had.known i, sym known i)) missed.sees;
         overtaken = subst (λ (p : Known (Event Name E)). IsOvertaken p.seen) (sym known) missed.overtaken;
       }
-    where
-      length_elements : (xs : List (ℕ × E)) → length (room_elements xs) ≡ length xs
-      length_elements [] = refl
-      length_elements (y ∷ ys) = ap suc (length_elements ys)
 
   pub elements_of_all : (before : List (ℕ × E)) (r : ℕ) (x : E) → room_elements (all_then before r x) ≡ elements_then before x
   elements_of_all before r x = elements_onto before ((r, x) ∷ [])

@@ -1,7 +1,7 @@
 -- What the parts of a call come to together.
 use Rattle.std.proofs.Common.{◌≡◌, ◌≢◌, ◌↔◌, ◌⊎◌, ℕ, zero, suc, ◌+◌, ◌-◌, ◌≤◌, ◌<◌, List, [], ◌∷◌, ◌++◌, length, replicate, take, drop, take-append-drop, Bool, true, cond, eqb, refl, sym, ap, ◌∙◌, subst, inl, inr, ⊎_elim, arith, append-nil, append_assoc, length-append, eq-eqb, Option, Some, None}
 use Rattle.std.proofs.lemmas.Bool.{eqb-true}
-use Rattle.std.proofs.lemmas.List.{map-append, length-map, reverse-append, length-take-le}
+use Rattle.std.proofs.lemmas.List.{map-append, length-map, nil_from_length, reverse-append, length-take-le}
 use Rattle.std.specs.Prelude.{IsTrue, reverse}
 use Rattle.cordyceps_shared.specs.FreeChains.{Tracks, FreeChain, leads, with_first, with_last, first_rooms, rest_rooms, joined, IsTied, MayJoin}
 use Rattle.cordyceps_shared.specs.Histories.{plain, own, AllOwn}
@@ -24,10 +24,6 @@ use Rattle.cordyceps_stack.specs.Shared.Slots.{Hand, start, rooms_of, link_or, f
 use Rattle.cordyceps_stack.specs.Shared.View.{Idle, Holding, View, name, taking, held_rooms}
 use Rattle.cordyceps_stack.proofs.SharedTheory.SlotMoves.{vacant_append, last_vacant, leads_append}
 use Rattle.cordyceps_stack.proofs.SharedTheory.WordsKeep.{rooms_taking}
-
-pub none_there : (xs : List ℕ) → length xs ≡ 0 → xs ≡ []
-none_there [] e = refl
-none_there (x ∷ xs) e = absurd (omega arith)
 
 -- the last items of two lists
 end_same : {A : Type 0} (d : A) (xs ys : List A) (x y : A) → xs ++ x ∷ [] ≡ ys ++ y ∷ [] → x ≡ y
@@ -333,7 +329,7 @@ module _ {E : Type 0} where
   follows_all at last count rooms end w f all =
       let long = ap (λ (l : List ℕ). length l) (sym f.split) ∙ length-append f.done f.left in
       let c = f.count_is in
-      let none = none_there f.left (omega arith) in
+      let none = nil_from_length f.left (omega arith) in
       let whole : f.done ≡ rooms = sym (append-nil f.done) ∙ (ap (λ l. f.done ++ l) (sym none) ∙ f.split) in record {
         hand = f.hand ∙ (λ i. all_vacant (none i) end ++ all_vacant (whole i) (leads (none i) end));
         at_is = f.at_is ∙ ap (λ l. leads l end) none;

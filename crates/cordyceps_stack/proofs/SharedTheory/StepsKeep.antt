@@ -1,6 +1,5 @@
 -- Each step of a party keeps the rule of a transfer stack's table.
 use Rattle.std.proofs.Common.{◌≡◌, ◌≢◌, ◌↔◌, ℕ, zero, suc, ◌+◌, ◌≤◌, ◌<◌, List, [], ◌∷◌, ◌++◌, reverse, length, set, get_or, eqb, refl, sym, ap, ◌∙◌, subst, ⊎_elim, arith, append-nil, eq-eqb, ne_eqb, length-set, length-append, take, drop, take-append-drop}
-use Rattle.std.proofs.lemmas.List.{reverse-reverse}
 use mathlib.Core.Option.{some, none}
 use mathlib.Core.Logic.{dite}
 use native.Mathlib.Decide.{ℕ_discrete}
@@ -37,6 +36,7 @@ use Rattle.cordyceps_stack.specs.Shared.Rule.{TableState, RuleHolds}
 use Rattle.cordyceps_stack.specs.Shared.Plays.{SeatState, Sees, IsBegun, HasHit, HasFailed, HasSwapped, chain_in_hand}
 use Rattle.cordyceps_stack.specs.Shared.Calls.{IsOvertaken}
 use Rattle.cordyceps_stack.specs.Shared.Plays as play
+use Rattle.cordyceps_stack.proofs.Histories.{none_from_reversed}
 use Rattle.cordyceps_stack.proofs.SharedTheory.SlotMoves.{rooms_in_use, rooms_vacant, vacant_append, vacant_cut, vacant_joined, vacant_last, home_frame, home_append, home_front, home_back, home_near}
 use Rattle.cordyceps_stack.proofs.SharedTheory.SlotMoves.{take_all, untaken, taken_valid, taken_carried, taken_long, give_all, ungiven, given_valid, given_carried, given_home, given_long}
 use Rattle.cordyceps_stack.proofs.SharedTheory.WordsKeep.{since_now, rests, loads, pushes, takes_chain, rooms_taking}
@@ -53,9 +53,6 @@ read_of d = 0
 abbrev pub slot_or : {A : Type 0} → A → List (ℕ × A) → A
 slot_or d [] = d
 slot_or d (x ∷ xs) = x.1
-
-reverse_none : {A : Type 0} (xs : List A) → reverse xs ≡ [] → xs ≡ []
-reverse_none xs e = sym (reverse-reverse xs) ∙ ap (λ z. reverse z) e
 
 -- lists with one more item at the end
 front_same : (xs ys : List ℕ) (x y : ℕ) → xs ++ x ∷ [] ≡ ys ++ y ∷ [] → xs ≡ ys
@@ -85,7 +82,7 @@ module _ {E : Type 0} where
   head_says : (chain : List (ℕ × E)) (es : List E) (read : ℕ) → read ≡ start chain → room_elements chain ≡ reverse es → (read ≡ 0) ↔ (es ≡ [])
   head_says chain es read is holds =
       let t = start_empty chain in
-      (λ e. reverse_none es (sym holds ∙ t.0 (sym is ∙ e)), λ e. is ∙ t.1 (holds ∙ ap (λ z. reverse z) e))
+      (λ e. none_from_reversed es (sym holds ∙ t.0 (sym is ∙ e)), λ e. is ∙ t.1 (holds ∙ ap (λ z. reverse z) e))
 
   pub head_marked : (s : TableState E) (k : RuleHolds s) (id : ℕ) → (head s.words ≡ 0) ↔ (held (plain (with_marks id k.history)) ≡ [])
   head_marked s k id = subst (λ (z : List (Event Name E)). (head s.words ≡ 0) ↔ (held z ≡ [])) (sym (plain_marked id k.history))

@@ -82,6 +82,10 @@ module _ {E : Type 0} where
   elements_onto [] ys = refl
   elements_onto (x ∷ xs) ys = ap (λ l. x.1 ∷ l) (elements_onto xs ys)
 
+  pub length_elements : (xs : List (ℕ × E)) → length (room_elements xs) ≡ length xs
+  length_elements [] = refl
+  length_elements (x ∷ xs) = ap suc (length_elements xs)
+
   some_push : (n : Name) (es : List E) (x : E) → SomeChange (pushes_of n (es ++ x ∷ []))
   some_push n es x = subst (λ l. SomeChange (map (Push n) l)) (sym (reverse-append es (x ∷ []))) (inl tt)
 

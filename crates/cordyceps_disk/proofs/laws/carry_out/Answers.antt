@@ -1,11 +1,12 @@
 use Rattle.std.proofs.Common.{◌+◌, ◌∷◌, ◌++◌, [], length, ap, sym, ◌∙◌, arith, refl}
 use Rattle.std.proofs.lemmas.Grind.{common_steps}
+use Rattle.std.proofs.lemmas.List.{nil_from_length}
 use Rattle.std.proofs.lemmas.Result.{err_from_is_err_and}
 use Rattle.std.specs.Vec.Iter.{into_iter_items}
 use Rattle.cordyceps.specs.Parties.Counts.{tally}
 use Rattle.cordyceps.proofs.Parties.Counting.{tally_append}
 use Rattle.cordyceps_disk.specs.Runs.{in_queue, put_in}
-use Rattle.cordyceps_disk.proofs.Counting.{idle_counts, nothing_left, serve_counts, submit_counts}
+use Rattle.cordyceps_disk.proofs.Counting.{idle_counts, serve_counts, submit_counts}
 use Rattle.cordyceps_disk.proofs.Running.{run_ends, run_serves, run_serves_none, run_starts, run_submits, stops}
 use Rattle.cordyceps_disk.proofs.laws.carry_out.Goals as goal
 
@@ -84,11 +85,11 @@ returns-in_err-push-in-Some-next-clause-stopped g c =
 pub returns-clause-ran : goal.returns-clause-ran
 returns-clause-ran g c =
     let at = c.loop-step in
-    let none = nothing_left (into_iter_items at.step-iterator) (sym at.invariant.2 ∙ c.in-None.ensures.steps.0) in
+    let none = nil_from_length (into_iter_items at.step-iterator) (sym at.invariant.2 ∙ c.in-None.ensures.steps.0) in
     run_ends c.args.steps.items (into_iter_items at.step-iterator) c.args.queue.now at.queue at.served.items at.invariant.0 none
 
 pub returns-clause-each_once : goal.returns-clause-each_once
 returns-clause-each_once g c f =
     let is = c.loop-step.invariant in
-    let none = nothing_left (into_iter_items c.loop-step.step-iterator) (sym is.2 ∙ c.in-None.ensures.steps.0) in
+    let none = nil_from_length (into_iter_items c.loop-step.step-iterator) (sym is.2 ∙ c.in-None.ensures.steps.0) in
     omega (arith, is.1 f, ap (λ l. tally f (put_in l)) none, tally_append f c.loop-step.served.items (in_queue c.loop-step.queue), tally_append f (put_in c.args.steps.items) (in_queue c.args.queue.now))

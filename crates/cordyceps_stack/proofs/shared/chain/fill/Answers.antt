@@ -1,5 +1,5 @@
 use Rattle.std.proofs.Common.{◌≡◌, ◌-◌, suc, ◌∷◌, [], ◌++◌, map, length, refl, sym, ap, ◌∙◌, subst, arith, rules, append-nil, append_assoc}
-use Rattle.std.proofs.lemmas.List.{map-append, length-map}
+use Rattle.std.proofs.lemmas.List.{map-append, length-map, nil_from_length}
 use Rattle.cordyceps_shared.specs.FreeChains.{Tracks, leads, first_rooms}
 use Rattle.cordyceps_shared.specs.declared.free.FreeRooms.{FreeRooms}
 use Rattle.cordyceps_shared.proofs.TrackRooms.{first_room}
@@ -7,7 +7,7 @@ use Rattle.cordyceps_stack.specs.Shared.Plays.{elements_then}
 use Rattle.cordyceps_stack.specs.Shared.Slots.{filled, vacant, in_use_to, all_vacant}
 use Rattle.cordyceps_stack.specs.Shared.View.{held_rooms}
 use Rattle.cordyceps_stack.proofs.SharedTheory.ChainJoins.{first_of, first_vacant, fills_start, fills_turn, fills_next, has_filled, tracks_filled}
-use Rattle.cordyceps_stack.proofs.SharedTheory.PartsJoin.{next_free_of, none_there}
+use Rattle.cordyceps_stack.proofs.SharedTheory.PartsJoin.{next_free_of}
 use Rattle.cordyceps_stack.proofs.SharedTheory.StepTells.{told}
 use Rattle.cordyceps_stack.proofs.shared.chain.fill.Goals as goal
 
@@ -117,7 +117,7 @@ returns-clause-filled g c =
     let i = c.loop-handle.invariant in
     let f = i.fills in
     let over = c.in_default.ensures.0 in
-    let none = none_there f.left (i.left ∙ ap (λ l. length l) over) in
+    let none = nil_from_length f.left (i.left ∙ ap (λ l. length l) over) in
     let pushed = elements_then f.done f.x in
     let els = sym (append-nil (map el pushed)) ∙ (ap (λ l. map el pushed ++ l) (sym over) ∙ i.elements) in
     let long = sym (length-map pushed el) ∙ ap (λ l. length l) els in (
@@ -143,7 +143,7 @@ returns-clause-tracks g c =
     let i = c.loop-handle.invariant in
     let f = i.fills in
     let over = ap (λ l. length l) c.in_default.ensures.0 in
-    let none = none_there f.left (i.left ∙ over) in
+    let none = nil_from_length f.left (i.left ∙ over) in
     let sum = i.count_is in
     let all : suc n ≡ c.loop-handle.count = omega arith in
     subst (λ q. let left : FreeRooms = record { first = c.loop-handle.next; last = free.last; count = free.count - q } in Tracks left w.0.free) all
