@@ -81,7 +81,7 @@ abbrev pub one_if_dec : {A : Type 0} → Dec A → ℕ
 one_if_dec (yes a) = 1
 one_if_dec (no n) = 0
 
--- one more than n, if it is both
+-- n, and one more if the test is true and the choice is yes
 abbrev pub more_if : {A : Type 0} → Bool → Dec A → ℕ → ℕ
 more_if true d n = one_if_dec d + n
 more_if false d n = n

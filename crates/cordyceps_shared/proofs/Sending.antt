@@ -1,6 +1,6 @@
 -- What parties put in and took out of which one was split off the other and taken in again: both put in, both took out, or one
 -- received what the other sent. The two parties at the split stand for themselves, as its contract gives them.
-use Rattle.std.proofs.Common.{◌≡◌, ℕ, ◌+◌, List, [], ◌∷◌, ◌++◌, map, flat_map, length, refl, sym, ap, ◌∙◌, subst, inl, inr, arith}
+use Rattle.std.proofs.Common.{◌≡◌, ℕ, List, [], ◌∷◌, ◌++◌, map, flat_map, length, refl, sym, ap, ◌∙◌, subst, inl, inr, arith}
 use Rattle.atomic_table.specs.Seated.{TableId}
 use Rattle.cordyceps_shared.specs.Acting.{Moves}
 use Rattle.cordyceps_shared.specs.Histories.{plain}

@@ -1,6 +1,6 @@
 -- What a party has of its free rooms: their first, their last and their number.
 use Rattle.std.proofs.Common.{◌≡◌, ℕ, zero, suc, ◌+◌, ◌-◌, ◌<◌, ◌≤◌, List, [], ◌∷◌, ◌++◌, length, reverse, take, drop, refl, sym, ap, ◌∙◌, subst, arith, append-nil, append_assoc, take-append-drop, length-append, length-drop}
-use Rattle.std.proofs.lemmas.List.{reverse-append, length-take-le}
+use Rattle.std.proofs.lemmas.List.{reverse-append, length-take-le, nil_from_length}
 use Rattle.cordyceps_shared.specs.FreeChains.{FreeChain, with_last, first_rooms, rest_rooms, joined, Tracks}
 use Rattle.cordyceps_shared.specs.Places.{ItemAt}
 use Rattle.cordyceps_shared.specs.Slots.{Near}
@@ -82,12 +82,8 @@ tracks_joined free other chain after t u some_of first = record {
       u.last d.0 d.1 d.2 ∙ last_same (chain.rooms ++ d.0) before d.1 r (append_assoc chain.rooms d.0 (d.1 ∷ []) ∙ (ap (λ z. chain.rooms ++ z) (sym d.2) ∙ e));
 }
 
-none_there : (xs : List ℕ) → length xs ≡ 0 → xs ≡ []
-none_there [] e = refl
-none_there (x ∷ xs) e = absurd (omega arith)
-
 pub no_rooms : (other : FreeRooms) (after : FreeChain) → Tracks other after → other.count ≡ 0 → after.rooms ≡ []
-no_rooms other after u none = none_there after.rooms (sym u.count ∙ none)
+no_rooms other after u none = nil_from_length after.rooms (sym u.count ∙ none)
 
 pub tracks_alone : (free other : FreeRooms) (chain after : FreeChain) → Tracks free chain → Tracks other after → other.count ≡ 0
     → Tracks record { first = free.first; last = free.last; count = free.count + other.count } (joined chain after)

@@ -1,5 +1,6 @@
 -- The steps of the party with the right that leave the chain as it is.
 use Rattle.std.proofs.Common.{◌≡◌, ℕ, zero, suc, ◌<◌, ◌≤◌, ◌≢◌, List, [], ◌∷◌, map, length, Option, Some, None, refl, sym, ap, ◌∙◌, subst, inl, inr, arith}
+use Rattle.std.proofs.lemmas.List.{nil_from_length}
 use native.Mathlib.Decide.{ℕ_discrete}
 use Rattle.cordyceps_queue.specs.History.{Event}
 use Rattle.cordyceps_queue.specs.Past.{held_reversed, holder_reversed, MayCome, IsSettled, IsPendingAt, IsBlockedReversed, HasLooked, WasBlockedReversed}
@@ -36,10 +37,6 @@ stub_less : (xs : List ℕ) → ItemAt xs 0 0 → suc (length (real xs)) ≤ len
 stub_less [] a = absurd a
 stub_less (zero ∷ xs) a = let l = real_within xs in omega arith
 stub_less (suc x ∷ xs) a = absurd (suc_zero (sym a))
-
-no_items : {A : Type 0} (xs : List A) → length xs ≡ 0 → xs ≡ []
-no_items [] e = refl
-no_items (x ∷ xs) e = absurd (suc_zero e)
 
 right_zero : {P E : Type 0} (right : ℕ) (party : ℕ → Option (AbstractParty P)) (rooms : List ℕ) (h : List (Event P E)) (keeper : Option ℕ) (k : ℕ) → keeper ≡ Some k → RightIs right party rooms h keeper → right ≡ 0
 right_zero right party rooms h None k e R = absurd (none_some e)
@@ -137,7 +134,7 @@ module _ {P E : Type 0} (m : AbstractMachine P E) (c : Chain) (h : List (Event P
   none_held stub same =
       let l = stub_less c.rooms (subst (ItemAt c.rooms 0) stub keeping.tail) in
       let e = only same in
-      no_items (held_reversed h) (omega (arith, held_length m c h M, M.last.long))
+      nil_from_length (held_reversed h) (omega (arith, held_length m c h M, M.last.long))
 
   pub stub_out : t ≢ 0 → m.head ≡ t → IsOut c.rooms
   stub_out real same i a =
