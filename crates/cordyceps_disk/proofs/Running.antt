@@ -1,5 +1,5 @@
 -- Runs of steps: what a run that goes on has come to.
-use Rattle.std.proofs.Common.{◌≡◌, ℕ, ◌+◌, List, [], ◌∷◌, ◌++◌, refl, ap, sym, ◌∙◌, subst, append_assoc, append-nil, inl, inr, arith}
+use Rattle.std.proofs.Common.{◌≡◌, ℕ, ◌+◌, List, [], ◌∷◌, ◌++◌, length, refl, ap, sym, ◌∙◌, subst, append_assoc, append-nil, inl, inr, arith}
 use denote.RawPtr.{Ptr}
 use Rattle.cordyceps.specs.Parties.Counts.{tally}
 use Rattle.cordyceps.proofs.Parties.Counting.{tally_append}
@@ -15,6 +15,12 @@ module _ {P : Type 0} where
     pub done : List (Step P)
     pub split : all ≡ done ++ left
     pub ran : Ran done q served w
+
+  -- a run goes on, in which each request was served, waits, or is yet to be put in; and count steps are left
+  pub record Carries (all : List (Step P)) (q : Queue P) (served : List (Request P)) (left : List (Step P)) (w : Queue P) (count : ℕ) : Type 0 where
+    pub going : Going all q served left w
+    pub each : (f : Request P → ℕ) → tally f served + (tally f (in_queue w) + tally f (put_in left)) ≡ tally f (put_in all) + tally f (in_queue q)
+    pub count_is : count ≡ length left
 
   -- steps, and then more
   ran_more : (done more : List (Step P)) (q w v : Queue P) (served others : List (Request P)) → Ran done q served w → Ran more w others v → Ran (done ++ more) q (served ++ others) v
