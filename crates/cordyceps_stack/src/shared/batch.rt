@@ -6,6 +6,7 @@ ghost use Rattle.cordyceps_stack.specs.Cores.Stages.{room_elements};
 ghost use Rattle.cordyceps_stack.specs.Shared.Plays.{to_hand_out};
 ghost use Rattle.cordyceps_stack.specs.Shared.Slots.{Hand, view, hand, filled, vacant, link_or};
 
+use crate::shared::parting::put_in_front;
 use crate::shared::plays::Return;
 use crate::shared::table::{PartySeat, QUIET, Words};
 use cordyceps_base::linked::Linked;
@@ -69,10 +70,6 @@ pub(crate) fn hand_out<T: Linked<Links<T>>>(
         at = below;
     }
     words.load::<Return>(seat, QUIET);
-    if free.count == 0 {
-        free.last = last;
-    }
-    free.first = first;
-    free.count += count;
+    put_in_front(free, FreeRooms { first, last, count });
     batch
 }

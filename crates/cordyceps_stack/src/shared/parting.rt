@@ -1,5 +1,5 @@
 //! How a shared stack is created, and how its parties are split and absorbed.
-ghost use Rattle.std.specs.Prelude.{◌≡◌, ◌<◌, ◌≤◌, ◌+◌, ℕ, suc, List, [], ◌∷◌, ◌++◌, take, drop, IfOk};
+ghost use Rattle.std.specs.Prelude.{◌≡◌, ◌<◌, ◌≤◌, ◌+◌, ◌^◌, ℕ, suc, List, [], ◌∷◌, ◌++◌, take, drop, IfOk};
 ghost use Rattle.cordyceps_shared.specs.FreeChains.{joined, IsTied, MayJoin, Tracks};
 ghost use Rattle.cordyceps_shared.specs.Knowing.{IsKnown};
 ghost use Rattle.cordyceps_stack.specs.History.{Legal};
@@ -189,6 +189,21 @@ pub(crate) fn lead<E: Drop>(words: &Words<E>, seat: &mut PartySeat<E>, room: usi
         → seat.new.me ≡ (view seat.old.me, (room, vacant at) ∷ others) }
 {
     seat.slot_mut(words, room).link = at;
+}
+
+/// Puts rooms in front of the free ones. The last of them leads to the first of these.
+pub(crate) fn put_in_front(free: &mut FreeRooms, front: FreeRooms)
+    requires { free.old.count + front.count < 2 ^ 64 }
+    ensures first { free.new.first ≡ front.first }
+    ensures alone { free.old.count ≡ 0 → free.new.last ≡ front.last }
+    ensures last { 0 < free.old.count → free.new.last ≡ free.old.last }
+    ensures count { free.new.count ≡ free.old.count + front.count }
+{
+    if free.count == 0 {
+        free.last = front.last;
+    }
+    free.first = front.first;
+    free.count += front.count;
 }
 
 /// Links the last free room to the room that `at` leads to, which is about to follow it. If there is no free room, that

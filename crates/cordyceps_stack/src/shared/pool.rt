@@ -6,7 +6,7 @@ ghost use Rattle.cordyceps_stack.specs.Shared.Parts.{IsSeatOf, Refills, GivesBac
 ghost use Rattle.cordyceps_stack.specs.Shared.Plays.{IsResting, FindsPool, LacksRooms};
 ghost use Rattle.cordyceps_stack.specs.Shared.Slots.{view};
 
-use crate::shared::parting::{lead, pass};
+use crate::shared::parting::{lead, pass, put_in_front};
 use crate::shared::plays::{GiveBack, Glance, Refill, Return};
 use crate::shared::table::{PartySeat, QUIET, Words};
 use cordyceps_shared::free::{Count, FreeRooms};
@@ -45,11 +45,7 @@ pub(crate) fn refill<E: Drop>(
     lead(words, seat, taken.last, free.first);
     seat.turn();
     words.load::<Return>(seat, QUIET);
-    if free.count == 0 {
-        free.last = taken.last;
-    }
-    free.first = taken.first;
-    free.count += taken.count;
+    put_in_front(free, taken);
     taken.count
 }
 

@@ -1,6 +1,5 @@
 use Rattle.std.proofs.Common.{◌≡◌, ◌+◌, ◌-◌, ◌∷◌, [], ◌++◌, map, suc, refl, sym, ap, ◌∙◌, subst, arith, rules, add-one, append_assoc}
 use Rattle.cordyceps_shared.specs.FreeChains.{Tracks, MayJoin}
-use Rattle.cordyceps_shared.specs.declared.free.FreeRooms.{FreeRooms}
 use Rattle.cordyceps_shared.specs.Slots.{Near}
 use Rattle.cordyceps_stack.specs.Cores.Stages.{room_elements}
 use Rattle.cordyceps_stack.specs.Shared.Plays.{to_hand_out}
@@ -9,7 +8,6 @@ use Rattle.cordyceps_stack.specs.Shared.View.{held_rooms}
 use Rattle.cordyceps_stack.proofs.SharedTheory.PartsJoin.{hands_first, next_of, next_hand, hands_next, handed_out, handed_rooms, handed_back, tracks_back, first_or_none, vacant_back, back_joins}
 use Rattle.cordyceps_stack.proofs.SharedTheory.StepTells.{told}
 use Rattle.cordyceps_stack.proofs.SharedTheory.StepsKeep.{returns}
-use Rattle.cordyceps_stack.proofs.shared.batch.hand_out.Goals.{then-free-eq0, else-free-eq0}
 use Rattle.cordyceps_stack.proofs.shared.batch.hand_out.Goals as goal
 
 pub loop-at-init : goal.loop-at-init
@@ -90,10 +88,7 @@ returns-clause-tracks g c =
     let free = c.args.free.now in
     let h = handed_out c.loop-at.at free.first c.loop-at.last c.loop-at.count (to_hand_out m.0.doing) m w c.loop-at.invariant.1.0 c.loop-at-test.false in
     let back = tracks_back c.args.words.now.table_id.slots c.args.at free.first c.loop-at.last c.loop-at.count m w k free c.requires.taken c.if-at-eq0.false h (told c.load.ensures).view_is c.requires.tracks in
-    elim c.if-free-eq0.branch [
-      | then-free-eq0 b ↦
-          let none = b.if-free-eq0.true in
-          subst (λ (z : FreeRooms). Tracks record { first = c.args.at; last = z.last; count = z.count + c.loop-at.count } k.0.free) (sym b.free-is) (back c.loop-at.last (λ _. refl) (λ more. absurd (omega arith)))
-      | else-free-eq0 b ↦
-          subst (λ (z : FreeRooms). Tracks record { first = c.args.at; last = z.last; count = z.count + c.loop-at.count } k.0.free) (sym b.free-is) (back free.last (λ e. absurd (b.if-free-eq0.false e)) (λ _. refl))
-    ]
+    let front = c.put_in_front.ensures in
+    let all = c.put_in_front.new.free in
+    let same : record { first = c.args.at; last = all.last; count = free.count + c.loop-at.count } ≡ all = λ i. record { first = sym front.first i; last = all.last; count = sym front.count i } in
+    subst (λ z. Tracks z k.0.free) same (back all.last front.alone front.last)

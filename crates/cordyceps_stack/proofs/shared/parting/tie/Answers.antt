@@ -64,3 +64,6 @@ returns-else-free-eq0-clause-first g c none =
     let a = (told c.load-else-free-eq0.ensures) last c.args.at (ap (λ q. q.0.doing) y ∙ ap (λ v. v.doing) h.0) (ap (λ q. q.1) y) in
     let t = relinked _ before last c.args.at m c.load.new.seat.me c.lead.new.seat.me c.load-else-free-eq0.new.seat.me c.requires.rest rooms h.0 y a.0 a.1 in
     absurd (more_than_none before last (sym (t.0.rooms ∙ rooms) ∙ none))
+
+pub returns-then-free-eq0-clause-first : goal.returns-then-free-eq0-clause-first
+returns-then-free-eq0-clause-first g c = search rules

@@ -1,11 +1,9 @@
-use Rattle.std.proofs.Common.{◌+◌, suc, refl, sym, ap, subst, rules, arith}
+use Rattle.std.proofs.Common.{◌≡◌, ◌+◌, suc, sym, subst, rules, arith}
 use Rattle.cordyceps_shared.specs.FreeChains.{Tracks}
-use Rattle.cordyceps_shared.specs.declared.free.FreeRooms.{FreeRooms}
 use Rattle.cordyceps_stack.specs.Shared.Slots.{all_vacant}
 use Rattle.cordyceps_stack.proofs.SharedTheory.PoolJoins.{last_first, filled, filled_hand, filled_near, filled_joins, refilled, tracks_refilled, few_refilled}
 use Rattle.cordyceps_stack.proofs.SharedTheory.StepTells.{told}
 use Rattle.cordyceps_stack.proofs.SharedTheory.StepsKeep.{returns}
-use Rattle.cordyceps_stack.proofs.shared.pool.refill.Goals.{then-free-eq0, else-free-eq0}
 use Rattle.cordyceps_stack.proofs.shared.pool.refill.Goals as goal
 
 pub lead-requires-clause-vacant : goal.lead-requires-clause-vacant
@@ -33,8 +31,8 @@ load-requires g c =
       returns _ _ _ t (filled_hand slots free.first taken m t f) (filled_near slots free.first taken m t f) (filled_joins slots free taken m t f c.requires.tracks),
     )
 
-pub overflow_add-free : goal.overflow_add-free
-overflow_add-free g c =
+pub put_in_front-requires : goal.put_in_front-requires
+put_in_front-requires g c =
     let d = c.take-found.ensures.finds in
     let h = d.some_of c.if-found-eq0.false in
     let u = c.unpack-taken.ensures in
@@ -48,10 +46,7 @@ overflow_add-free g c =
     let b = told c.load.ensures in
     let few = few_refilled slots free taken m c.turn.new.self.me c.load.new.seat.me f b.view_is c.requires.tracks b.few in
     let many = c.requires.table.1.1 in
-    elim c.if-free-eq0.branch [
-      | then-free-eq0 w ↦ let same = ap (λ (z : FreeRooms). z.count) w.free-is in omega arith
-      | else-free-eq0 w ↦ let same = ap (λ (z : FreeRooms). z.count) w.free-is in omega arith
-    ]
+    omega arith
 
 pub returns-clause-refills : goal.returns-clause-refills
 returns-clause-refills g c =
@@ -80,10 +75,7 @@ returns-clause-tracks g c =
     let led = c.lead.ensures.leads h.end (all_vacant h.before (suc h.last)) (last_first slots c.take-found.result taken m p h u.0 u.1 c.requires.rest.empty) in
     let f = filled slots c.take-found.result free.first taken m p c.lead.new.seat.me c.turn.new.self.me d h u.0 u.1 led (told c.turn.ensures) in
     let all = tracks_refilled slots free taken m c.turn.new.self.me k f (told c.load.ensures).view_is c.requires.tracks in
-    elim c.if-free-eq0.branch [
-      | then-free-eq0 w ↦
-          let none = w.if-free-eq0.true in
-          subst (λ (z : FreeRooms). Tracks record { first = taken.first; last = z.last; count = z.count + taken.count } k.0.free) (sym w.free-is) (all taken.last (λ _. refl) (λ more. absurd (more none)))
-      | else-free-eq0 w ↦
-          subst (λ (z : FreeRooms). Tracks record { first = taken.first; last = z.last; count = z.count + taken.count } k.0.free) (sym w.free-is) (all free.last (λ e. absurd (w.if-free-eq0.false e)) (λ _. refl))
-    ]
+    let front = c.put_in_front.ensures in
+    let new = c.put_in_front.new.free in
+    let same : record { first = taken.first; last = new.last; count = free.count + taken.count } ≡ new = λ i. record { first = sym front.first i; last = new.last; count = sym front.count i } in
+    subst (λ z. Tracks z k.0.free) same (all new.last front.alone (λ some. front.last (omega (arith, some))))

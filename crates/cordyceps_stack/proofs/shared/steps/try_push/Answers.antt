@@ -26,3 +26,9 @@ returns-in_default-None-clause-answer g c =
     let f = c.first_attempt.new.seat.me in
     let tried = subst (λ (o : Option Bool). HasTried slots (c.args.free.now.first - 1) c.args.item c.first_attempt.result.0 o m f) c.in_default-None.is-1 c.first_attempt.ensures.tried in
     (c.back_out.ensures.element c.args.item tried.answer.ready, missed_first _ _ _ c.args.item m f c.back_out.new.seat.me tried c.back_out.ensures.seat)
+
+pub returns-in_default-Some-clause-answer : goal.returns-in_default-Some-clause-answer
+returns-in_default-Some-clause-answer g c = search rules
+
+pub returns-in_default-None-clause-tracks : goal.returns-in_default-None-clause-tracks
+returns-in_default-None-clause-tracks g c = search rules

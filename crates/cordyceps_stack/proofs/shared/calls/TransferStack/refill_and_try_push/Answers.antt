@@ -1,4 +1,4 @@
-use Rattle.std.proofs.Common.{sym, subst, ◌∙◌, arith}
+use Rattle.std.proofs.Common.{sym, subst, ◌∙◌, arith, rules}
 use Rattle.cordyceps_stack.specs.Shared.Calls.{PushesAt, Misses}
 use Rattle.cordyceps_stack.proofs.SharedTheory.TriesHold.{pushes_now, pushes_then, misses_now, misses_then}
 use Rattle.cordyceps_stack.proofs.shared.calls.TransferStack.refill_and_try_push.Goals.{else-rooms-eq0-via-then-rooms-eq0+else-refill-eq0, else-rooms-eq0-via-else-rooms-eq0}
@@ -39,3 +39,6 @@ returns-in-Err-clause-answer g c =
             misses_now old now (omega arith) (subst (λ u. Misses u now) w.party-is missed.1)
       ],
     )
+
+pub returns-then-refill-eq0-clause-answer : goal.returns-then-refill-eq0-clause-answer
+returns-then-refill-eq0-clause-answer g c = search rules
