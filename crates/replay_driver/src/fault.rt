@@ -48,9 +48,9 @@ impl fmt::Display for Fault {
     fn fmt<W: fmt::Write>(&self, f: &mut fmt::Formatter<W>) -> fmt::Result {
         match self {
             Fault::BadLine(line) => write!(f, "bad line {line}"),
-            Fault::Read => write!(f, "read failed"),
-            Fault::Write => write!(f, "write failed"),
-            Fault::Memory => write!(f, "out of memory"),
+            Fault::Read => f.write_str("read failed"),
+            Fault::Write => f.write_str("write failed"),
+            Fault::Memory => f.write_str("out of memory"),
         }
     }
 }

@@ -39,17 +39,17 @@ impl fmt::Display for Reason {
     ghost output = { λ reason. Some (reason_text reason) };
 
     fn fmt<W: fmt::Write>(&self, f: &mut fmt::Formatter<W>) -> fmt::Result {
-        match self {
-            Reason::TooLong => write!(f, "too long"),
-            Reason::Empty => write!(f, "empty line"),
-            Reason::CarriageReturn => write!(f, "carriage return"),
-            Reason::Spaces => write!(f, "two spaces"),
-            Reason::NoSuchWord => write!(f, "no such word"),
-            Reason::LeadingZero => write!(f, "leading zero"),
-            Reason::TooGreat => write!(f, "number too great"),
-            Reason::NoSuchStructure => write!(f, "no such structure"),
-            Reason::OtherWords => write!(f, "wrong words"),
-        }
+        f.write_str(match self {
+            Reason::TooLong => "too long",
+            Reason::Empty => "empty line",
+            Reason::CarriageReturn => "carriage return",
+            Reason::Spaces => "two spaces",
+            Reason::NoSuchWord => "no such word",
+            Reason::LeadingZero => "leading zero",
+            Reason::TooGreat => "number too great",
+            Reason::NoSuchStructure => "no such structure",
+            Reason::OtherWords => "wrong words",
+        })
     }
 }
 
