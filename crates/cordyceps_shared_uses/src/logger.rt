@@ -7,7 +7,7 @@ ghost use Rattle.cordyceps.specs.Queues.Moves.{Moves};
 ghost use Rattle.cordyceps.specs.Queues.Sending.{Sends};
 ghost use Rattle.cordyceps_shared_uses.specs.Logger.{record_of, records};
 
-use crate::idle::pause;
+use crate::idle::{make_parker, pause};
 use cordyceps::mpsc_queue::{Batch, Links, MAX_ROOMS, Party};
 use cordyceps::{Kind, Linked, List, MpscQueue, Node};
 use crossbeam_utils::sync::{Parker, Unparker};
@@ -19,7 +19,7 @@ use std::thread;
 use std::thread::{Promise, Threads};
 
 /// A record of the log.
-#[derive(Clone, Copy, Debug, PartialEq, Eq)]
+#[derive(Clone, Copy)]
 pub struct Record {
     /// The time of the event, in any unit.
     pub time: u64,
@@ -258,8 +258,7 @@ fn exchange<R: Threads + Wait + Sync>(
         IfSome both.0.log (λ log. Moves record_of [] log.items storer both.0.party)) }
     ensures sent { IfOk result (λ both. Sends record_of (records producers) sender both.1) }
 {
-    let parker = Parker::new(alloc)?;
-    let wake = parker.unparker().clone()?;
+    let (parker, wake) = make_parker(alloc)?;
     let flag = AtomicBool::new(false);
     let have_ended = &flag;
     thread::scope(

@@ -7,7 +7,7 @@ ghost use Rattle.cordyceps.specs.Queues.Moves.{Moves};
 ghost use Rattle.cordyceps.specs.Queues.Sending.{Sends};
 ghost use Rattle.cordyceps_shared_uses.specs.Mailbox.{contents, value_of};
 
-use crate::idle::pause;
+use crate::idle::{make_parker, pause};
 use cordyceps::mpsc_queue::{Links, MAX_ROOMS, Party};
 use cordyceps::{Linked, MpscQueue, Node, Refused};
 use crossbeam_utils::sync::{Parker, Unparker};
@@ -246,8 +246,7 @@ fn exchange<R: Threads + Wait + Sync>(
         IfSome both.0.received (λ all. Moves value_of [] all.items receiver both.0.party)) }
     ensures sent { IfOk result (λ both. Sends value_of (contents lists.now) sender both.1) }
 {
-    let parker = Parker::new(alloc)?;
-    let wake = parker.unparker().clone()?;
+    let (parker, wake) = make_parker(alloc)?;
     let flag = AtomicBool::new(false);
     let have_ended = &flag;
     thread::scope(

@@ -5,10 +5,11 @@ ghost use Rattle.cordyceps.specs.Parties.Counts.{Same};
 ghost use Rattle.cordyceps.specs.Transfers.Moves.{Moves};
 ghost use Rattle.cordyceps_shared_uses.specs.RunQueue.{ran, Worked};
 
+use crate::idle::make_two_parkers;
 use cordyceps::stack::{Links, MAX_ROOMS, Party};
 use cordyceps::{Linked, Node, Stack, TransferStack};
 use crossbeam_utils::sync::{Parker, Unparker};
-use std::alloc::{AllocError, Global};
+use std::alloc::Global;
 use std::snapshot::Snapshot;
 use std::sync::Wait;
 use std::sync::atomic::{AtomicBool, Ordering};
@@ -269,16 +270,6 @@ pub struct Done {
     pub jobs: Stack<Job>,
 }
 
-/// Creates what two workers sleep on, and what wakes them.
-fn make_parkers(alloc: Global) -> Result<((Parker, Parker), Alarm), AllocError> {
-    let parkers = (Parker::new(alloc)?, Parker::new(alloc)?);
-    let alarm = Alarm {
-        first: parkers.0.unparker().clone()?,
-        second: parkers.1.unparker().clone()?,
-    };
-    Ok((parkers, alarm))
-}
-
 /// Runs all jobs and returns them. One thread submits the jobs, and two workers run them, until all jobs were submitted
 /// and none is left. Each job is run once, and none is lost.
 ///
@@ -310,9 +301,10 @@ pub fn run_all<R: Threads + Wait + Sync>(
     let Ok((queue, mut party)) = TransferStack::new(alloc, rooms) else {
         return Err(jobs);
     };
-    let Ok((parkers, alarm)) = make_parkers(alloc) else {
+    let Ok((parkers, (first, second))) = make_two_parkers(alloc) else {
         return Err(jobs);
     };
+    let alarm = Alarm { first, second };
     let submitter = queue.split(&mut party, rooms);
     let other = queue.split(&mut party, 0);
     let parties = (party, other);

@@ -1,7 +1,7 @@
 //! A scheduler that runs tasks on four threads. A task waits for a worker, runs a round, sleeps until it is due again,
 //! and so on until all its rounds are done. It stays in the node in which it was created, which passes through a queue,
 //! a list, timers and a stack.
-ghost use Rattle.std.specs.Prelude.{◌≡◌, ℕ, ◌+◌, ◌≤◌, [], true, IfErr, IfOk};
+ghost use Rattle.std.specs.Prelude.{◌≡◌, ℕ, ◌+◌, ◌≤◌, [], true, IfErr, IfOk, IfSome};
 ghost use Rattle.std.specs.Thread.{IsSync};
 ghost use Rattle.cordyceps.specs.Parties.Counts.{tally, Same};
 ghost use Rattle.cordyceps_shared_uses.specs.Accounts.{Holds, IsOpen, opened};
@@ -17,6 +17,7 @@ pub mod places;
 pub mod threads;
 pub mod work;
 
+use crate::idle::make_two_parkers;
 use crate::scheduler::accounts::{Account, Accounts};
 use crate::scheduler::places::{Run, Runnable, Sleepers, Task};
 use crate::scheduler::threads::{Alarms, Shared, Worked, dispatch, submit, wake, work};
@@ -32,7 +33,7 @@ use std::snapshot::Snapshot;
 use std::sync::atomic::{AtomicBool, AtomicU64};
 use std::sync::{Mutex, Wait};
 use std::thread;
-use std::thread::{Promise, Threads};
+use std::thread::{JoinHandle, Promise, PromisedHandle, Scope, Threads};
 
 /// The places of all tasks at the end.
 #[derive(Drop)]
@@ -123,18 +124,17 @@ struct Parkers {
 
 /// Creates what the four threads sleep on, and what wakes them.
 fn make_parkers(alloc: Global) -> Result<(Parkers, Alarms), AllocError> {
+    let ((submitter, dispatcher), (wakes_submitter, wakes_dispatcher)) = make_two_parkers(alloc)?;
+    let (workers, wakes_workers) = make_two_parkers(alloc)?;
     let parkers = Parkers {
-        submitter: Parker::new(alloc)?,
-        dispatcher: Parker::new(alloc)?,
-        workers: (Parker::new(alloc)?, Parker::new(alloc)?),
+        submitter,
+        dispatcher,
+        workers,
     };
     let alarms = Alarms {
-        submitter: parkers.submitter.unparker().clone()?,
-        dispatcher: parkers.dispatcher.unparker().clone()?,
-        workers: (
-            parkers.workers.0.unparker().clone()?,
-            parkers.workers.1.unparker().clone()?,
-        ),
+        submitter: wakes_submitter,
+        dispatcher: wakes_dispatcher,
+        workers: wakes_workers,
     };
     Ok((parkers, alarms))
 }
@@ -209,6 +209,105 @@ struct Ended<L: Run> {
     workers: (Worked<L>, Worked<L>),
 }
 
+/// Starts a dispatcher on a thread of a scope. Returns `None` if the thread cannot be started.
+fn start_dispatcher<'s, E, L: Run + Send + Sync, R: Wait + Sync>(
+    scope: &Scope<'s, E>,
+    rt: &'s R,
+    queue: &'s MpscQueue<Task>,
+    from: Actor,
+    shared: &'s Shared<L>,
+    parker: Parker,
+) -> Option<PromisedHandle<Actor, Dispatches>>
+    requires table { from.party.table ≡ queue.now.table }
+    requires of { IsOpen L.accounts from.account }
+    ensures { IfSome result (λ h. h.promise.from.value ≡ from) }
+{
+    let promise = Dispatches {
+        from: Snapshot::of(&from),
+    };
+    let dispatch_on = move || -> Actor
+        requires { IsSync R.row × (from.party.table ≡ queue.now.table) × IsOpen L.accounts from.account }
+        ensures { Came from.account result.account from.party result.party }
+    { dispatch_all(rt, queue, from, shared, &parker) };
+    match scope.spawn_with(promise, dispatch_on) {
+        Ok(started) => Some(started),
+        Err(_) => None,
+    }
+}
+
+/// Starts a worker on a thread of a scope. Returns `None` if the thread cannot be started.
+fn start_worker<'s, E, L: Run + Send + Sync, R: Wait + Sync>(
+    scope: &Scope<'s, E>,
+    rt: &'s R,
+    shared: &'s Shared<L>,
+    mine: Account,
+    parker: Parker,
+    turns: u64,
+) -> Option<JoinHandle<Worked<L>>>
+    requires of { IsOpen L.accounts mine }
+    requires none { Holds mine [] }
+{
+    let work_on = move || -> Worked<L>
+        requires { IsSync R.row × IsOpen L.accounts mine × Holds mine [] }
+    { work(rt, shared, mine, &parker, turns) };
+    match scope.spawn(work_on) {
+        Ok(started) => Some(started),
+        Err(_) => None,
+    }
+}
+
+/// The dispatcher and the workers, each on a thread that was started.
+#[derive(Drop)]
+struct Started<L: Run> {
+    dispatcher: PromisedHandle<Actor, Dispatches>,
+    workers: (JoinHandle<Worked<L>>, JoinHandle<Worked<L>>),
+}
+
+/// Starts a dispatcher and two workers, each on a thread of a scope. Returns `None` if a thread cannot be started.
+fn start_three<'s, E, L: Run + Send + Sync, R: Wait + Sync>(
+    scope: &Scope<'s, E>,
+    rt: &'s R,
+    queue: &'s MpscQueue<Task>,
+    dispatcher: Actor,
+    shared: &'s Shared<L>,
+    workers: (Account, Account),
+    parker: Parker,
+    sleeps_on: (Parker, Parker),
+    turns: u64,
+) -> Option<Started<L>>
+    requires table { dispatcher.party.table ≡ queue.now.table }
+    requires of { IsOpen L.accounts dispatcher.account × IsOpen L.accounts workers.0 × IsOpen L.accounts workers.1 }
+    requires none { Holds workers.0 [] × Holds workers.1 [] }
+    ensures { IfSome result (λ s. s.dispatcher.promise.from.value ≡ dispatcher) }
+{
+    let dispatcher = start_dispatcher(scope, rt, queue, dispatcher, shared, parker)?;
+    let first = start_worker(scope, rt, shared, workers.0, sleeps_on.0, turns)?;
+    let second = start_worker(scope, rt, shared, workers.1, sleeps_on.1, turns)?;
+    Some(Started {
+        dispatcher,
+        workers: (first, second),
+    })
+}
+
+impl<L: Run> Started<L> {
+    /// Waits until all three threads have ended.
+    fn end<R: Threads>(self, rt: &R, submitter: Actor) -> Ended<L>
+        ensures submitter { result.submitter ≡ submitter }
+        ensures came { Came self.dispatcher.promise.from.value.account result.dispatcher.account
+            self.dispatcher.promise.from.value.party result.dispatcher.party }
+    {
+        let Started {
+            dispatcher,
+            workers: (first, second),
+        } = self;
+        Ended {
+            submitter,
+            dispatcher: dispatcher.join(rt),
+            workers: (first.join(rt), second.join(rt)),
+        }
+    }
+}
+
 /// Ends the threads that were started, where another one could not be. Nothing was sent before.
 fn give_up<L: Run>(shared: &Shared<L>, tasks: List<Task>) -> Result<Ended<L>, List<Task>>
     ensures { result ≡ Err tasks }
@@ -241,11 +340,10 @@ fn run_four<L: Run + Send + Sync, R: Threads + Wait + Sync>(
         Came dispatcher.account e.dispatcher.account dispatcher.party e.dispatcher.party) }
     ensures back { IfErr result (λ back. back ≡ tasks) }
 {
-    let (one, two) = workers;
     let Parkers {
         submitter: own_parker,
         dispatcher: parker,
-        workers: (first_parker, second_parker),
+        workers: sleeps_on,
     } = parkers;
     thread::scope(
         thread::scope_env(),
@@ -253,35 +351,18 @@ fn run_four<L: Run + Send + Sync, R: Threads + Wait + Sync>(
         move |scope| -> Result<Ended<L>, List<Task>>
             requires { IsSync R.row × (submitter.party.table ≡ queue.now.table)
                 × IsOpen L.accounts submitter.account × (dispatcher.party.table ≡ queue.now.table)
-                × IsOpen L.accounts dispatcher.account × IsOpen L.accounts one × IsOpen L.accounts two
-                × Holds one [] × Holds two [] }
+                × IsOpen L.accounts dispatcher.account × IsOpen L.accounts workers.0
+                × IsOpen L.accounts workers.1 × Holds workers.0 [] × Holds workers.1 [] }
             ensures sent { IfOk result (λ e.
                 SentAll (names tasks) submitter.account e.submitter.account submitter.party e.submitter.party) }
             ensures came { IfOk result (λ e.
                 Came dispatcher.account e.dispatcher.account dispatcher.party e.dispatcher.party) }
             ensures back { IfErr result (λ back. back ≡ tasks) }
         {
-            let promise = Dispatches {
-                from: Snapshot::of(&dispatcher),
-            };
-            let dispatch_on = move || -> Actor
-                requires { IsSync R.row × (dispatcher.party.table ≡ queue.now.table)
-                    × IsOpen L.accounts dispatcher.account }
-                ensures { Came dispatcher.account result.account dispatcher.party result.party }
-            { dispatch_all(rt, queue, dispatcher, shared, &parker) };
-            let Ok(dispatching) = scope.spawn_with(promise, dispatch_on) else {
-                return give_up(shared, tasks);
-            };
-            let work_on = move || -> Worked<L>
-                requires { IsSync R.row × IsOpen L.accounts one × Holds one [] }
-            { work(rt, shared, one, &first_parker, turns) };
-            let Ok(first) = scope.spawn(work_on) else {
-                return give_up(shared, tasks);
-            };
-            let work_on = move || -> Worked<L>
-                requires { IsSync R.row × IsOpen L.accounts two × Holds two [] }
-            { work(rt, shared, two, &second_parker, turns) };
-            let Ok(second) = scope.spawn(work_on) else {
+            let started = start_three(
+                scope, rt, queue, dispatcher, shared, workers, parker, sleeps_on, turns,
+            );
+            let Some(started) = started else {
                 return give_up(shared, tasks);
             };
             let submitter = submit_and_wake(
@@ -293,11 +374,7 @@ fn run_four<L: Run + Send + Sync, R: Threads + Wait + Sync>(
                 &own_parker,
                 turns,
             );
-            Ok(Ended {
-                submitter,
-                dispatcher: dispatching.join(rt),
-                workers: (first.join(rt), second.join(rt)),
-            })
+            Ok(started.end(rt, submitter))
         },
     )
 }
