@@ -16,7 +16,7 @@ use std::snapshot::Snapshot;
 use std::sync::Wait;
 use std::sync::atomic::{AtomicBool, Ordering};
 use std::thread;
-use std::thread::{Promise, Threads};
+use std::thread::{Promise, PromisedHandle, Scope, Threads};
 
 /// A record of the log.
 #[derive(Clone, Copy)]
@@ -240,6 +240,34 @@ fn store_until_end<R: Wait>(
     unreachable!()
 }
 
+/// Starts a thread of a scope that stores. If it cannot be started, it returns `AllocError`.
+fn start_storing<'s, E, R: Wait + Sync>(
+    scope: &Scope<'s, E>,
+    rt: &'s R,
+    alloc: Global,
+    queue: &'s MpscQueue<Record>,
+    storer: Party<Record>,
+    parker: Parker,
+    have_ended: &'s AtomicBool,
+    max: usize,
+) -> Result<PromisedHandle<Stored, Stores>, AllocError>
+    requires table { storer.table ≡ queue.now.table }
+    requires some { 1 ≤ max }
+    ensures { IfOk result (λ h. h.promise.party.value ≡ storer) }
+{
+    let promise = Stores {
+        party: Snapshot::of(&storer),
+    };
+    let store_on = move || -> Stored
+        requires { IsSync R.row × (storer.table ≡ queue.now.table) × (1 ≤ max) }
+        ensures { IfSome result.log (λ log. Moves record_of [] log.items storer result.party) }
+    { store_until_end(rt, alloc, queue, storer, parker, have_ended, max) };
+    match scope.spawn_with(promise, store_on) {
+        Ok(started) => Ok(started),
+        Err(_) => Err(AllocError),
+    }
+}
+
 /// Sends the records of each producer on a thread of its own, while one thread stores them. If no thread can be started
 /// to store, nothing is sent.
 fn exchange<R: Threads + Wait + Sync>(
@@ -271,14 +299,7 @@ fn exchange<R: Threads + Wait + Sync>(
                 IfSome both.0.log (λ log. Moves record_of [] log.items storer both.0.party)) }
             ensures sent { IfOk result (λ both. Sends record_of (records producers) sender both.1) }
         {
-            let promise = Stores {
-                party: Snapshot::of(&storer),
-            };
-            let store_on = move || -> Stored
-                requires { IsSync R.row × (storer.table ≡ queue.now.table) × (1 ≤ max) }
-                ensures { IfSome result.log (λ log. Moves record_of [] log.items storer result.party) }
-            { store_until_end(rt, alloc, queue, storer, parker, have_ended, max) };
-            let stored = scope.spawn_with(promise, store_on)?;
+            let stored = start_storing(scope, rt, alloc, queue, storer, parker, have_ended, max)?;
             let sent = send_each(rt, queue, &wake, sender, producers);
             have_ended.store(true, Ordering::SeqCst);
             wake.unpark();

@@ -1,5 +1,5 @@
 //! A mailbox: many threads send messages, and one thread receives them.
-ghost use Rattle.std.specs.Prelude.{◌≡◌, ◌≤◌, [], ◌∷◌, ◌++◌, None, IfOk, IfSome};
+ghost use Rattle.std.specs.Prelude.{◌≡◌, ◌≤◌, [], ◌∷◌, ◌++◌, map, None, IfOk, IfSome};
 ghost use Rattle.std.specs.Thread.{IsSync};
 ghost use Rattle.cordyceps.specs.Parties.Sending.{Delivers};
 ghost use Rattle.cordyceps.specs.Parties.Shares.{IsShare};
@@ -8,7 +8,7 @@ ghost use Rattle.cordyceps.specs.Queues.Sending.{Sends};
 ghost use Rattle.cordyceps_shared_uses.specs.Mailbox.{contents, value_of};
 
 use crate::idle::{make_parker, pause};
-use cordyceps::mpsc_queue::{Links, MAX_ROOMS, Party};
+use cordyceps::mpsc_queue::{Batch, Links, MAX_ROOMS, Party};
 use cordyceps::{Linked, MpscQueue, Node, Refused};
 use crossbeam_utils::sync::{Parker, Unparker};
 use std::alloc::{AllocError, Global};
@@ -16,7 +16,7 @@ use std::snapshot::Snapshot;
 use std::sync::Wait;
 use std::sync::atomic::{AtomicBool, Ordering};
 use std::thread;
-use std::thread::{Promise, Threads};
+use std::thread::{Promise, PromisedHandle, Scope, Threads};
 
 /// A message, which is a number.
 #[derive(Drop)]
@@ -176,6 +176,17 @@ fn note(received: Option<Vec<u64>>, letter: Letter) -> Option<Vec<u64>>
     Some(received)
 }
 
+/// Appends messages to those that were received. If memory is refused, it returns `AllocError`, and the rest of the
+/// messages is dropped.
+fn note_all(received: &mut Vec<u64>, letters: Batch<Message>) -> Result<(), AllocError>
+    ensures { IfOk result (λ _. received.new.items ≡ received.old.items ++ map value_of letters) }
+{
+    for letter in letters {
+        received.push(letter.get().value)?;
+    }
+    Ok(())
+}
+
 /// What the receiver returns: its party, and the messages that it received, or `None` if memory was refused.
 #[derive(Drop)]
 struct Inbox {
@@ -230,6 +241,32 @@ fn receive<R: Wait>(
     unreachable!()
 }
 
+/// Starts a thread of a scope that receives. If it cannot be started, it returns `AllocError`.
+fn start_receiving<'s, E, R: Wait + Sync>(
+    scope: &Scope<'s, E>,
+    rt: &'s R,
+    alloc: Global,
+    queue: &'s MpscQueue<Message>,
+    receiver: Party<Message>,
+    parker: Parker,
+    have_ended: &'s AtomicBool,
+) -> Result<PromisedHandle<Inbox, Receives>, AllocError>
+    requires { receiver.table ≡ queue.now.table }
+    ensures { IfOk result (λ h. h.promise.party.value ≡ receiver) }
+{
+    let promise = Receives {
+        party: Snapshot::of(&receiver),
+    };
+    let receive_on = move || -> Inbox
+        requires { IsSync R.row × (receiver.table ≡ queue.now.table) }
+        ensures { IfSome result.received (λ all. Moves value_of [] all.items receiver result.party) }
+    { receive(rt, alloc, queue, receiver, parker, have_ended) };
+    match scope.spawn_with(promise, receive_on) {
+        Ok(started) => Ok(started),
+        Err(_) => Err(AllocError),
+    }
+}
+
 /// Sends each list on a thread of its own, while one thread receives. If no thread can be started to receive, nothing
 /// is sent.
 fn exchange<R: Threads + Wait + Sync>(
@@ -259,14 +296,7 @@ fn exchange<R: Threads + Wait + Sync>(
                 IfSome both.0.received (λ all. Moves value_of [] all.items receiver both.0.party)) }
             ensures sent { IfOk result (λ both. Sends value_of (contents lists.entry.now) sender both.1) }
         {
-            let promise = Receives {
-                party: Snapshot::of(&receiver),
-            };
-            let receive_on = move || -> Inbox
-                requires { IsSync R.row × (receiver.table ≡ queue.now.table) }
-                ensures { IfSome result.received (λ all. Moves value_of [] all.items receiver result.party) }
-            { receive(rt, alloc, queue, receiver, parker, have_ended) };
-            let inbox = scope.spawn_with(promise, receive_on)?;
+            let inbox = start_receiving(scope, rt, alloc, queue, receiver, parker, have_ended)?;
             let sent = send_each(rt, alloc, queue, &wake, sender, lists);
             have_ended.store(true, Ordering::SeqCst);
             wake.unpark();
@@ -324,8 +354,6 @@ pub fn deliver<R: Threads + Wait + Sync>(
         return Err(AllocError);
     };
     queue.absorb(&mut party, sent);
-    for letter in queue.close(party).elements {
-        messages.push(letter.get().value)?;
-    }
+    note_all(&mut messages, queue.close(party).elements)?;
     Ok(Delivered { messages })
 }

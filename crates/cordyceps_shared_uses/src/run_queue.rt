@@ -1,5 +1,5 @@
 //! A run queue: one thread submits jobs, and two workers run them.
-ghost use Rattle.std.specs.Prelude.{◌≡◌, ◌≤◌, ◌*◌, [], ◌∷◌, ◌++◌, map, reverse, IfOk, IfErr};
+ghost use Rattle.std.specs.Prelude.{◌≡◌, ◌≤◌, ◌*◌, [], ◌∷◌, ◌++◌, map, reverse, IfOk, IfErr, IfSome};
 ghost use Rattle.std.specs.Thread.{IsSync};
 ghost use Rattle.cordyceps.specs.Parties.Counts.{Same};
 ghost use Rattle.cordyceps.specs.Transfers.Moves.{Moves};
@@ -14,7 +14,7 @@ use std::snapshot::Snapshot;
 use std::sync::Wait;
 use std::sync::atomic::{AtomicBool, Ordering};
 use std::thread;
-use std::thread::{Promise, Threads};
+use std::thread::{Promise, PromisedHandle, Scope, Threads};
 
 /// A job, which is to square a number.
 #[derive(Drop)]
@@ -177,6 +177,31 @@ fn work<R: Wait>(
     unreachable!()
 }
 
+/// Starts a worker on a thread of a scope. Returns `None` if the thread cannot be started.
+fn start_worker<'s, E, R: Wait + Sync>(
+    scope: &Scope<'s, E>,
+    rt: &'s R,
+    queue: &'s TransferStack<Job>,
+    party: Party<Job>,
+    parker: Parker,
+    have_ended: &'s AtomicBool,
+) -> Option<PromisedHandle<Shift, Works>>
+    requires { party.table ≡ queue.now }
+    ensures { IfSome result (λ h. h.promise.party.value ≡ party) }
+{
+    let promise = Works {
+        party: Snapshot::of(&party),
+    };
+    let work_on = move || -> Shift
+        requires { IsSync R.row × (party.table ≡ queue.now) }
+        ensures { Worked result.done party result.party }
+    { work(rt, queue, party, &parker, have_ended) };
+    match scope.spawn_with(promise, work_on) {
+        Ok(started) => Some(started),
+        Err(_) => None,
+    }
+}
+
 /// What the three threads return: the submitter's party, and what each worker has done.
 #[derive(Drop)]
 struct Ended {
@@ -217,22 +242,15 @@ fn run_threads<R: Threads + Wait + Sync>(
             ensures back { IfErr result (λ back. back ≡ jobs) }
         {
             let promise = Works {
-                party: Snapshot::of(&one),
-            };
-            let work_on = move || -> Shift
-                requires { IsSync R.row × (one.table ≡ queue.now) }
-                ensures { Worked result.done one result.party }
-            { work(rt, queue, one, &first_parker, have_ended) };
-            let Ok(first) = scope.spawn_with(promise, work_on) else {
-                return Err(jobs);
-            };
-            let promise = Works {
                 party: Snapshot::of(&two),
             };
             let work_on = move || -> Shift
                 requires { IsSync R.row × (two.table ≡ queue.now) }
                 ensures { Worked result.done two result.party }
             { work(rt, queue, two, &second_parker, have_ended) };
+            let Some(first) = start_worker(scope, rt, queue, one, first_parker, have_ended) else {
+                return Err(jobs);
+            };
             let second = scope.spawn_with(promise, work_on);
             let submitter = submit_all(rt, queue, &alarm, submitter, jobs);
             have_ended.store(true, Ordering::SeqCst);

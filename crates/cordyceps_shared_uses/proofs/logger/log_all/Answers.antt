@@ -38,6 +38,6 @@ returns g c =
     (subst (λ o. IfSome o (λ log. Moves record_of [] log.items c.split-sender.new.party c.in_ok-both.both.0.party)) c.in-Some.is c.in_ok-both.ensures.stored) c.in_ok-both.ensures.sent
     c.absorb.ensures in
     subst (λ (z : List Record). Delivers (records c.args.producers) z)
-    (sym (c.in_ok-store.ensures ∙ ap (λ (z : List (Element Record)). c.in-Some.log.items ++ map record_of z)
-    (c.close.ensures.elements ∙ map-id (held (plain c.absorb.new.party.seen)))))
+    (sym (◌∙◌ {A = List Record} c.in_ok-store.ensures (ap (λ (z : List (Element Record)). c.in-Some.log.items ++ map record_of z)
+    (◌∙◌ {A = List (Element Record)} c.close.ensures.elements (map-id (held (plain c.absorb.new.party.seen)))))))
     all.2

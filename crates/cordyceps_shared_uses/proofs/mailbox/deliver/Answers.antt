@@ -1,6 +1,7 @@
-use Rattle.std.proofs.Common.{[], ◌∷◌, ◌++◌, map, ap, sym, ◌∙◌, subst, append-nil, append_assoc}
+use Rattle.std.proofs.Common.{ℕ, [], ◌++◌, List, map, ap, sym, ◌∙◌, subst}
 use Rattle.std.proofs.lemmas.List.{map-id}
 use Rattle.std.specs.Prelude.{IfSome}
+use Rattle.cordyceps.specs.Elements.Element.{Element}
 use Rattle.cordyceps.specs.Parties.Histories.{plain}
 use Rattle.cordyceps.specs.Parties.Sending.{Delivers}
 use Rattle.cordyceps.specs.Parties.Shares.{IsShare}
@@ -9,6 +10,7 @@ use Rattle.cordyceps.proofs.Parties.Ordering.{whole_share}
 use Rattle.cordyceps.specs.Queues.History.{held}
 use Rattle.cordyceps.specs.Queues.Moves.{Moves}
 use Rattle.cordyceps.proofs.Queues.Sending.{delivered}
+use Rattle.cordyceps_shared_uses.specs.declared.mailbox.Message.{Message}
 use Rattle.cordyceps_shared_uses.specs.Mailbox.{contents, value_of}
 use Rattle.cordyceps_shared_uses.proofs.Apart.{apart, gave_new}
 use Rattle.cordyceps_shared_uses.proofs.mailbox.deliver.Goals as goal
@@ -29,26 +31,15 @@ exchange-requires-clause-sender g c κs within =
     let table = ap (λ (z : Standing _). z.table) new.1 in
     (both.given_table ∙ table, both.given_share)
 
-pub loop-letter-init : goal.loop-letter-init
-loop-letter-init g c =
+pub returns : goal.returns
+returns g c =
     let new = gave_new c.in_ok-queue.queue.table c.args.rooms c.args.rooms c.give_back.result c.in_ok-queue.receiver c.give_back.new.party c.in_ok-queue.ensures.1 c.give_back.ensures.answer in
     let all = delivered value_of new.1 c.split-sender.ensures
     (subst (λ o. IfSome o (λ z. Moves value_of [] z.items c.split-sender.new.party c.in_ok-both.both.0.party)) c.in-Some.is c.in_ok-both.ensures.received) c.in_ok-both.ensures.sent
     c.absorb.ensures in
-    subst (λ z. Delivers (contents c.args.lists.now) (c.in-Some.messages.items ++ map value_of z))
-    (sym (c.into_iter-letter-iterator.ensures.into_iter_gives ∙ (c.close-letter-items.ensures.elements ∙ map-id (held (plain c.absorb.new.party.seen)))))
-    all.2
-
-pub loop-letter-preserved : goal.loop-letter-preserved
-loop-letter-preserved g c =
-    let before = c.loop-letter.messages.items in
-    let rest = map value_of c.next.new.self in
-    subst (Delivers (contents c.args.lists.now))
-    (ap (λ z. before ++ map value_of z) c.in-Some-letter.ensures.steps ∙ (ap (λ m. before ++ m.value ∷ rest) (sym c.get.ensures)
-    ∙ (sym (append_assoc before (c.get.result.now.value ∷ []) rest) ∙ ap (λ z. z ++ rest) (sym c.in_ok-push.ensures.items))))
-    c.loop-letter.invariant
-
-pub returns : goal.returns
-returns g c =
-    let all = c.loop-letter.messages.items in
-    record { delivers = subst (Delivers (contents c.args.lists.now)) (ap (λ z. all ++ map value_of z) c.in-None.ensures.steps.0 ∙ append-nil all) c.loop-letter.invariant }
+    record {
+      delivers = subst (λ (z : List ℕ). Delivers (contents c.args.lists.now) z)
+          (sym (◌∙◌ {A = List ℕ} c.in_ok-note_all.ensures (ap (λ (z : List (Element Message)). c.in-Some.messages.items ++ map value_of z)
+          (◌∙◌ {A = List (Element Message)} c.close.ensures.elements (map-id (held (plain c.absorb.new.party.seen)))))))
+          all.2;
+    }
