@@ -16,7 +16,7 @@ use std::marker::Model;
 
 /// A connection to a peer. Connections are compared only by the time of their last activity.
 #[derive(Clone, Copy, Drop)]
-#[derive_where(Debug, PartialEq, Eq, PartialOrd, Ord)]
+#[derive_where(PartialEq, Eq, PartialOrd, Ord)]
 pub struct Connection {
     /// The time of the last activity, in ticks of any clock.
     pub last_active: u64,
