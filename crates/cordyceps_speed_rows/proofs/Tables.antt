@@ -1,8 +1,5 @@
--- What a table has for each number after a place of it was written, and whether it agrees with a sorted list.
-use Rattle.std.proofs.Common.{◌≡◌, ℕ, ◌∷◌, ◌<◌, true, false, cond, eqb, List, length, set, get_or, Option, None, Some, refl, sym, ap, subst, ◌∙◌, inl, inr, arith}
-use Rattle.std.proofs.lemmas.Bool.{eqb-true, eqb-false}
-use Rattle.std.proofs.lemmas.List.{get_or-set_same, get_or-set_other, get_or_past}
-use Rattle.std.proofs.lemmas.Option.{slice_get_read, get_or_from_slice_get}
+-- Whether a table of spots agrees with a sorted list after an element was taken out, or given another value.
+use Rattle.std.proofs.Common.{◌≡◌, ℕ, ◌∷◌, Option, None, Some, sym, ap, subst, ◌∙◌, inl, inr}
 use denote.RawPtr.{Ptr}
 use Rattle.cordyceps_base.specs.BySpot.{IsTaken}
 use Rattle.cordyceps_base.specs.Element.{Element}
@@ -11,22 +8,6 @@ use Rattle.cordyceps_base.specs.Spots.{AreDistinct}
 use Rattle.cordyceps_stable.specs.Agreeing.{HasElementAt, Agrees, IsUpdated}
 use Rattle.cordyceps_stable.proofs.Agreeing.{taken_agrees}
 use Rattle.cordyceps_stable.proofs.Holding.{first_taken, left_is_at, taken_or_left}
-use Rattle.cordyceps_speed_rows.specs.Tables.{spot_of}
-
--- a place was written
-pub written : (s : List (Option Ptr)) (k : ℕ) (w : Option Ptr) → k < length s → IsUpdated (spot_of s) k w (spot_of (set s k w))
-written s k w inside q = (elim (eqb k q) as (λ b. eqb k q ≡ b → get_or (set s k w) q None ≡ cond b w (get_or s q None)) [
-  | true ↦ λ same. subst (λ n. get_or (set s k w) n None ≡ w) (eqb-true k q same) (get_or-set_same s k w None inside)
-  | false ↦ λ other. get_or-set_other s k q w None (λ is. eqb-false k q other (sym is))
-]) refl
-
--- what was read at a place
-pub read : (s : List (Option Ptr)) (k : ℕ) (x : Option Ptr) → k < length s → x ≡ get_or s k x → spot_of s k ≡ x
-read s k x inside is = get_or_from_slice_get s k x None (slice_get_read s (length s) k x refl inside is)
-
--- a number that has a spot has a place
-pub inside : (s : List (Option Ptr)) (k : ℕ) (p : Ptr) → spot_of s k ≡ Some p → k < length s
-inside s k p is = grind (arith, get_or_past s k None)
 
 module _ {X : Type 0} where
   -- the first element was taken out, and its place emptied

@@ -15,6 +15,7 @@ pub mod numbered_heap;
 pub mod queues;
 pub mod sorteds;
 pub mod splits;
+pub mod spots;
 pub mod stable_sorteds;
 pub mod stables;
 pub mod stacks;

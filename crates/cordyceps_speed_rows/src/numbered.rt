@@ -4,12 +4,11 @@
 //! agree, and a spot of the table may be handed to the list.
 use crate::fault::Fault;
 use crate::nodes::ListNode;
-use crate::stables::empty_table;
+use crate::spots::{Spots, empty_table, forget, is_free, note, spot_at};
 use crate::stopwatch::Stopwatch;
 use crate::vectors::keep;
 use cordyceps_commands::Item;
 use cordyceps_single::sorted_list::Least;
-use cordyceps_stable::stable_list::Spot;
 use cordyceps_stable::stable_sorted_list::StableSortedList;
 use std::alloc::Global;
 use std::marker::Model;
@@ -40,7 +39,7 @@ pub trait ByNumber: Drop {
 /// A sorted list, the least value first, and the table of its spots.
 #[derive(Drop)]
 pub struct Numbered {
-    spots: Vec<Option<Spot>>,
+    spots: Spots,
     list: StableSortedList<Item, Least>,
 }
 
@@ -64,38 +63,28 @@ impl ByNumber for Numbered {
 
     fn insert(&mut self, node: ListNode) {
         let number = node.id() as usize;
-        if number < self.spots.len()
-            && self.spots[number].is_none()
-            && self.list.len() < usize::MAX
-        {
+        if is_free(&self.spots, number) && self.list.len() < usize::MAX {
             let spot = self.list.insert(node);
-            self.spots[number] = Some(spot);
+            note(&mut self.spots, number, spot);
         }
     }
 
     fn remove(&mut self, number: usize) -> Option<ListNode> {
-        if number < self.spots.len() {
-            let spot = self.spots[number]?;
-            self.spots[number] = None;
-            return Some(self.list.remove(spot));
-        }
-        None
+        let spot = spot_at(&self.spots, number)?;
+        forget(&mut self.spots, number);
+        Some(self.list.remove(spot))
     }
 
     fn update(&mut self, number: usize, value: u64) {
-        if number >= self.spots.len() {
-            return;
+        if let Some(spot) = spot_at(&self.spots, number) {
+            self.list.update(spot, |item| item.value = value);
         }
-        let Some(spot) = self.spots[number] else {
-            return;
-        };
-        self.list.update(spot, |item| item.value = value);
     }
 
     fn pop_front(&mut self) -> Option<ListNode> {
         let node = self.list.pop_front()?;
         let number = node.id() as usize;
-        self.spots[number] = None;
+        forget(&mut self.spots, number);
         Some(node)
     }
 

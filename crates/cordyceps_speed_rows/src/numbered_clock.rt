@@ -7,13 +7,12 @@ ghost use Rattle.std.specs.Prelude.{◌≡◌, refl, ⊤};
 use crate::fault::Fault;
 use crate::nodes::ListNode;
 use crate::numbered::ByNumber;
-use crate::stables::empty_table;
+use crate::spots::{Spots, empty_table, forget, is_free, note, spot_at};
 use crate::stopwatch::Stopwatch;
 use crate::vectors::keep;
 use cordyceps_clock::clock_queue::ClockQueue;
 use cordyceps_clock::times::Times;
 use cordyceps_commands::Item;
-use cordyceps_stable::stable_list::Spot;
 use std::alloc::Global;
 use std::marker::Model;
 use std::time::{Clock, Duration};
@@ -39,7 +38,7 @@ impl Times<Item> for ByValue {
 /// A queue of times, and the table of its spots.
 #[derive(Drop)]
 pub struct NumberedClock {
-    spots: Vec<Option<Spot>>,
+    spots: Spots,
     queue: ClockQueue<Item, ByValue>,
 }
 
@@ -64,20 +63,17 @@ impl ByNumber for NumberedClock {
     /// An element that is due before the one that came out last is dropped, too.
     fn insert(&mut self, node: ListNode) {
         let number = node.id() as usize;
-        if number < self.spots.len() && self.spots[number].is_none() {
+        if is_free(&self.spots, number) {
             if let Ok(spot) = self.queue.try_push(node) {
-                self.spots[number] = Some(spot);
+                note(&mut self.spots, number, spot);
             }
         }
     }
 
     fn remove(&mut self, number: usize) -> Option<ListNode> {
-        if number < self.spots.len() {
-            let spot = self.spots[number]?;
-            self.spots[number] = None;
-            return Some(self.queue.remove(spot));
-        }
-        None
+        let spot = spot_at(&self.spots, number)?;
+        forget(&mut self.spots, number);
+        Some(self.queue.remove(spot))
     }
 
     /// The element is removed, and pushed again.
@@ -91,7 +87,7 @@ impl ByNumber for NumberedClock {
     fn pop_front(&mut self) -> Option<ListNode> {
         let node = self.queue.pop_front()?;
         let number = node.id() as usize;
-        self.spots[number] = None;
+        forget(&mut self.spots, number);
         Some(node)
     }
 

@@ -5,13 +5,12 @@
 use crate::fault::Fault;
 use crate::nodes::ListNode;
 use crate::numbered::ByNumber;
-use crate::stables::empty_table;
+use crate::spots::{Spots, empty_table, forget, is_free, note, spot_at};
 use crate::stopwatch::Stopwatch;
 use crate::vectors::keep;
 use cordyceps_commands::Item;
 use cordyceps_heap::stable_heap::StableHeap;
 use cordyceps_single::sorted_list::Least;
-use cordyceps_stable::stable_list::Spot;
 use std::alloc::Global;
 use std::marker::Model;
 use std::time::{Clock, Duration};
@@ -19,7 +18,7 @@ use std::time::{Clock, Duration};
 /// A heap, the least value first, and the table of its spots.
 #[derive(Drop)]
 pub struct NumberedHeap {
-    spots: Vec<Option<Spot>>,
+    spots: Spots,
     heap: StableHeap<Item, Least>,
 }
 
@@ -44,38 +43,28 @@ impl ByNumber for NumberedHeap {
 
     fn insert(&mut self, node: ListNode) {
         let number = node.id() as usize;
-        if number < self.spots.len()
-            && self.spots[number].is_none()
-            && self.heap.len() < usize::MAX
-        {
+        if is_free(&self.spots, number) && self.heap.len() < usize::MAX {
             let spot = self.heap.push(node);
-            self.spots[number] = Some(spot);
+            note(&mut self.spots, number, spot);
         }
     }
 
     fn remove(&mut self, number: usize) -> Option<ListNode> {
-        if number < self.spots.len() {
-            let spot = self.spots[number]?;
-            self.spots[number] = None;
-            return Some(self.heap.remove(spot));
-        }
-        None
+        let spot = spot_at(&self.spots, number)?;
+        forget(&mut self.spots, number);
+        Some(self.heap.remove(spot))
     }
 
     fn update(&mut self, number: usize, value: u64) {
-        if number >= self.spots.len() {
-            return;
+        if let Some(spot) = spot_at(&self.spots, number) {
+            self.heap.update(spot, |item| item.value = value);
         }
-        let Some(spot) = self.spots[number] else {
-            return;
-        };
-        self.heap.update(spot, |item| item.value = value);
     }
 
     fn pop_front(&mut self) -> Option<ListNode> {
         let node = self.heap.pop_front()?;
         let number = node.id() as usize;
-        self.spots[number] = None;
+        forget(&mut self.spots, number);
         Some(node)
     }
 

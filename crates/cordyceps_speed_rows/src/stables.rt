@@ -2,16 +2,16 @@
 //!
 //! A table has the spot of each number's element. What is taken out by its number leaves its place in the table empty,
 //! so the table and the list agree, and a spot of the table may be handed to the list.
-ghost use Rattle.std.specs.Prelude.{ℕ, ◌≡◌, ◌+◌, ◌<◌, ◌≤◌, [], length, None, IfOk};
-ghost use Rattle.cordyceps_speed_rows.specs.Tables.{spot_of};
+ghost use Rattle.std.specs.Prelude.{◌≡◌, ◌+◌, ◌<◌, ◌≤◌, [], length};
 
 use crate::fault::Fault;
 use crate::nodes::{ListNode, make_nodes, shuffle, sum_numbers};
+use crate::spots::{Spots, empty_table, forget, is_free, note, spot_at};
 use crate::stopwatch::Stopwatch;
 use crate::table::{Bench, Entry, Round, Table};
-use crate::vectors::{keep, push, with_room};
+use crate::vectors::{keep, with_room};
 use cordyceps_commands::Item;
-use cordyceps_stable::stable_list::{Spot, StableList};
+use cordyceps_stable::stable_list::StableList;
 use std::alloc::Global;
 use std::marker::Model;
 use std::time::{Clock, Duration};
@@ -19,7 +19,7 @@ use std::time::{Clock, Duration};
 /// A stable list, and the table of its spots.
 #[derive(Drop)]
 struct Numbered {
-    spots: Vec<Option<Spot>>,
+    spots: Spots,
     list: StableList<Item>,
 }
 
@@ -45,34 +45,24 @@ impl Numbered {
     /// Puts an element last, where its number has a place in the table that is empty, and drops it elsewhere.
     fn put(&mut self, node: ListNode) {
         let number = node.id() as usize;
-        if number < self.spots.len()
-            && self.spots[number].is_none()
-            && self.list.len() < usize::MAX
-        {
+        if is_free(&self.spots, number) && self.list.len() < usize::MAX {
             let spot = self.list.push_back(node);
-            self.spots[number] = Some(spot);
+            note(&mut self.spots, number, spot);
         }
     }
 
     /// Takes the element with a number out, by its spot.
     fn remove(&mut self, number: usize) -> Option<ListNode> {
-        if number < self.spots.len() {
-            let spot = self.spots[number]?;
-            self.spots[number] = None;
-            return Some(self.list.remove(spot));
-        }
-        None
+        let spot = spot_at(&self.spots, number)?;
+        forget(&mut self.spots, number);
+        Some(self.list.remove(spot))
     }
 
     /// Puts the element with a number first, by its spot.
     fn move_front(&mut self, number: usize) {
-        if number >= self.spots.len() {
-            return;
+        if let Some(spot) = spot_at(&self.spots, number) {
+            self.list.move_to_front(spot);
         }
-        let Some(spot) = self.spots[number] else {
-            return;
-        };
-        self.list.move_to_front(spot);
     }
 
     /// Puts all of the elements in, the last first.
@@ -97,17 +87,6 @@ impl Numbered {
             self.move_front(*number);
         }
     }
-}
-
-/// A table with `count` places, which are empty.
-pub fn empty_table(alloc: Global, count: usize) -> Result<Vec<Option<Spot>>, Fault>
-    ensures { IfOk result (λ spots. (k : ℕ) → spot_of spots.items k ≡ None) }
-{
-    let mut spots = with_room(alloc, count)?;
-    for _ in 0..count {
-        push(&mut spots, None)?;
-    }
-    Ok(spots)
 }
 
 /// The numbers below this one, in their order.

@@ -1,23 +1,13 @@
-use Rattle.std.proofs.Common.{◌<◌, [], length, slice_set, None, arith, ap, ◌∙◌, subst}
+use Rattle.std.proofs.Common.{None, subst}
 use Rattle.cordyceps_stable.specs.Agreeing.{IsUpdated}
 use Rattle.cordyceps_speed_rows.specs.Tables.{spot_of}
-use Rattle.cordyceps_speed_rows.proofs.Tables.{inside, popped_agrees, written}
+use Rattle.cordyceps_speed_rows.proofs.Tables.{popped_agrees}
 use Rattle.cordyceps_speed_rows.proofs.numbered.NumberedByNumber.pop_front.Goals as goal
-
-pub index_mut-requires : goal.index_mut-requires
-index_mut-requires c =
-    let (spot, is, _) = c.in_ok-node.ensures.taken in
-    let table = c.self.inside.spots.items in
-    let number = c.id-number.result in
-    let at : number < length table = inside table number spot (ap (λ n. spot_of table n) c.id-number.ensures ∙ c.self.invariant.listed spot c.in_ok-node.node ([], c.pop_front.new.self.nodes, is)) in
-    omega (arith, at)
 
 pub invariant_of-self-2 : goal.invariant_of-self-2
 invariant_of-self-2 c =
     let (spot, is, _) = c.in_ok-node.ensures.taken in
     let table = c.self.inside.spots.items in
-    let number = c.id-number.result in
-    let after = spot_of (slice_set table number None) in
-    let at : number < length table = inside table number spot (ap (λ n. spot_of table n) c.id-number.ensures ∙ c.self.invariant.listed spot c.in_ok-node.node ([], c.pop_front.new.self.nodes, is)) in
-    let up = subst (λ n. IsUpdated (spot_of table) n None after) c.id-number.ensures (written table number None at) in
+    let after = spot_of c.forget.new.spots.items in
+    let up = subst (λ n. IsUpdated (spot_of table) n None after) c.id-number.ensures c.forget.ensures in
     popped_agrees (spot_of table) after c.self.inside.list.nodes c.pop_front.new.self.nodes spot c.in_ok-node.node c.self.invariant up is c.pop_front.ensures.distinct

@@ -1,16 +1,14 @@
-use Rattle.std.proofs.Common.{◌<◌, length, arith, ◌∙◌, refl}
+use Rattle.std.proofs.Common.{refl}
 use Rattle.cordyceps_heap.specs.Heap.{nodes_in}
 use Rattle.cordyceps_heap.proofs.Kept.{updated_agrees}
 use Rattle.cordyceps_stable.proofs.Agreeing.{answer_spot}
 use Rattle.cordyceps_speed_rows.specs.Tables.{spot_of}
-use Rattle.cordyceps_speed_rows.proofs.Tables.{read}
 use Rattle.cordyceps_speed_rows.proofs.numbered_heap.NumberedHeapByNumber.update.Goals as goal
 
 pub update-requires-clause-there : goal.update-requires-clause-there
 update-requires-clause-there c =
     let table = c.self.inside.spots.items in
-    let inside : c.args.number < length table = omega (arith, c.if-number-len.false, c.len.ensures) in
-    answer_spot (spot_of table) (nodes_in c.self.inside.heap) c.self.invariant c.args.number c.in-Some.spot (read table c.args.number c.index.result.now inside c.index.ensures ∙ c.in-Some.is)
+    answer_spot (spot_of table) (nodes_in c.self.inside.heap) c.self.invariant c.args.number c.in-Some.spot c.in-Some.ensures
 
 pub invariant_of-self : goal.invariant_of-self
 invariant_of-self c =

@@ -1,14 +1,11 @@
-use Rattle.std.proofs.Common.{◌<◌, length, arith, ◌∙◌}
 use Rattle.cordyceps_stable.proofs.Agreeing.{answer_spot, moved_front_agrees}
 use Rattle.cordyceps_speed_rows.specs.Tables.{spot_of}
-use Rattle.cordyceps_speed_rows.proofs.Tables.{read}
 use Rattle.cordyceps_speed_rows.proofs.stables.Numbered.move_front.Goals as goal
 
 pub move_to_front-requires : goal.move_to_front-requires
 move_to_front-requires c =
     let table = c.self.inside.spots.items in
-    let inside : c.args.number < length table = omega (arith, c.if-number-len.false, c.len.ensures) in
-    answer_spot (spot_of table) c.self.inside.list c.self.invariant c.args.number c.in-Some.spot (read table c.args.number c.index.result.now inside c.index.ensures ∙ c.in-Some.is)
+    answer_spot (spot_of table) c.self.inside.list c.self.invariant c.args.number c.in-Some.spot c.in-Some.ensures
 
 pub invariant_of-self : goal.invariant_of-self
 invariant_of-self c =
