@@ -8,7 +8,7 @@ use crate::numbered::{ByNumber, Numbered};
 use crate::numbered_clock::NumberedClock;
 use crate::numbered_heap::NumberedHeap;
 use crate::stopwatch::Stopwatch;
-use crate::table::{Bench, Entry, Round, Table, added};
+use crate::table::{Bench, Round, Table, added};
 use crate::vectors::{keep, with_room};
 use cordyceps_commands::Item;
 use std::alloc::Global;
@@ -17,7 +17,10 @@ use std::collections::{BTreeMap, BinaryHeap};
 use std::time::{Clock, Duration};
 
 /// Timers that run. One has a deadline, which is its value, and a number.
-trait Timers {
+trait Timers: Drop {
+    /// No timers, and room for `count` of them.
+    fn new(alloc: Global, count: usize) -> Result<Self, Fault>;
+
     /// Makes them ready for a round, in which time begins anew. None runs.
     fn restart(&mut self) -> Result<(), Fault> {
         Ok(())
@@ -42,20 +45,17 @@ struct WithSpots<C> {
     idle: Vec<ListNode>,
 }
 
-impl<C: ByNumber> WithSpots<C> {
-    /// No timers, and nodes for `count` of them.
+impl<C: ByNumber> Timers for WithSpots<C> {
     fn new(alloc: Global, count: usize) -> Result<WithSpots<C>, Fault> {
-        let running = C::new(alloc, count)?;
         let idle = make_nodes(alloc, count)?;
+        let running = C::new(alloc, count)?;
         Ok(WithSpots {
             alloc,
             running,
             idle,
         })
     }
-}
 
-impl<C: ByNumber> Timers for WithSpots<C> {
     fn restart(&mut self) -> Result<(), Fault> {
         let running = C::new(self.alloc, self.idle.len())?;
         self.running = running;
@@ -88,6 +88,10 @@ impl<C: ByNumber> Timers for WithSpots<C> {
 
 /// Timers in a map.
 impl Timers for BTreeMap<Item, ()> {
+    fn new(alloc: Global, _count: usize) -> Result<BTreeMap<Item, ()>, Fault> {
+        Ok(BTreeMap::new(alloc))
+    }
+
     fn start(&mut self, timer: Item) -> bool {
         self.insert(timer, ()).is_ok()
     }
@@ -110,21 +114,18 @@ struct InHeap {
     cancelled: Vec<bool>,
 }
 
-impl InHeap {
-    /// No timers, and room for `count` of them.
+impl Timers for InHeap {
     fn new(alloc: Global, count: usize) -> Result<InHeap, Fault> {
-        let Ok(running) = BinaryHeap::with_capacity(alloc, count) else {
-            return Err(Fault::Memory);
-        };
         let mut cancelled = with_room(alloc, count)?;
         if cancelled.resize(count, false).is_err() {
             return Err(Fault::Memory);
         }
-        Ok(InHeap { running, cancelled })
+        match BinaryHeap::with_capacity(alloc, count) {
+            Ok(running) => Ok(InHeap { running, cancelled }),
+            Err(_) => Err(Fault::Memory),
+        }
     }
-}
 
-impl Timers for InHeap {
     fn start(&mut self, timer: Item) -> bool {
         if let Some(noted) = self.cancelled.get_mut(timer.id as usize) {
             *noted = false;
@@ -172,6 +173,22 @@ impl Deadlines {
                 number.wrapping_add(timeout)
             }
             Deadlines::Random => drawn,
+        }
+    }
+
+    /// What is counted as one.
+    fn what(self) -> &'static str {
+        match self {
+            Deadlines::Timeouts => "a timer, due after one of four timeouts",
+            Deadlines::Random => "a timer, due at any time",
+        }
+    }
+
+    /// Whether the deadlines mostly rise.
+    fn mostly_rise(self) -> bool {
+        match self {
+            Deadlines::Timeouts => true,
+            Deadlines::Random => false,
         }
     }
 }
@@ -228,119 +245,52 @@ impl Plan {
     }
 }
 
-/// What the timers are in.
-#[derive(Clone, Copy)]
-enum Calls {
-    /// A sorted list with spots.
-    List,
-    /// A heap with spots.
-    Heap,
-    /// A queue of times with spots.
-    Clock,
-    /// A map.
-    Map,
-    /// A binary heap.
-    BinaryHeap,
-}
-
-/// What is counted as one with deadlines that mostly rise.
-const AFTER: &str = "a timer, due after one of four timeouts";
-
-/// What is counted as one with any deadlines.
-const ANY: &str = "a timer, due at any time";
-
-/// With deadlines that mostly rise.
-const RISING: [Entry<Calls>; 5] = [
-    ("Timers: StableSortedList", Calls::List, AFTER),
-    ("Timers: StableHeap", Calls::Heap, AFTER),
-    ("Timers: ClockQueue", Calls::Clock, AFTER),
-    ("Timers: BTreeMap", Calls::Map, AFTER),
-    ("Timers: BinaryHeap", Calls::BinaryHeap, AFTER),
-];
-
-/// With any deadlines, so few that a list can walk to each.
-const RANDOM_FEW: [Entry<Calls>; 5] = [
-    ("Timers: StableSortedList", Calls::List, ANY),
-    ("Timers: StableHeap", Calls::Heap, ANY),
-    ("Timers: ClockQueue", Calls::Clock, ANY),
-    ("Timers: BTreeMap", Calls::Map, ANY),
-    ("Timers: BinaryHeap", Calls::BinaryHeap, ANY),
-];
-
-/// With any deadlines. A list would take seconds.
-const RANDOM_MANY: [Entry<Calls>; 4] = [
-    ("Timers: StableHeap", Calls::Heap, ANY),
-    ("Timers: ClockQueue", Calls::Clock, ANY),
-    ("Timers: BTreeMap", Calls::Map, ANY),
-    ("Timers: BinaryHeap", Calls::BinaryHeap, ANY),
-];
-
-/// How many timers with any deadlines are measured in a list.
-const FEW: usize = 1_000;
-
-impl Deadlines {
-    /// What `count` timers with these deadlines are measured in.
-    fn kinds(self, count: usize) -> &'static [Entry<Calls>] {
-        match self {
-            Deadlines::Timeouts => &RISING,
-            Deadlines::Random if count <= FEW => &RANDOM_FEW,
-            Deadlines::Random => &RANDOM_MANY,
-        }
-    }
-}
-
-/// The collections with spots.
+/// Timers to start, and the collection that they go into.
 #[derive(Drop)]
-struct Spotted {
-    list: WithSpots<Numbered>,
-    heap: WithSpots<NumberedHeap>,
-    clock: WithSpots<NumberedClock>,
-}
-
-impl Spotted {
-    /// No timers, and nodes for `count` of them.
-    fn new(alloc: Global, count: usize) -> Result<Spotted, Fault> {
-        Ok(Spotted {
-            list: WithSpots::new(alloc, count)?,
-            heap: WithSpots::new(alloc, count)?,
-            clock: WithSpots::new(alloc, count)?,
-        })
-    }
-}
-
-/// Timers to start, and the collections that they go into.
-#[derive(Drop)]
-struct Planned {
+struct Planned<T> {
     plan: Plan,
-    spotted: Spotted,
-    map: BTreeMap<Item, ()>,
-    binary_heap: InHeap,
+    timers: T,
     /// A number over the timers that came out last.
     seen: u64,
 }
 
-impl Bench<Calls> for Planned {
-    fn round(self, rt: &impl Clock, calls: Calls) -> Result<(Planned, Round), Fault> {
+impl<T: Timers> Bench<()> for Planned<T> {
+    fn round(self, rt: &impl Clock, _calls: ()) -> Result<(Planned<T>, Round), Fault> {
         let mut planned = self;
         let count = planned.plan.started.len();
-        let ran = match calls {
-            Calls::List => planned.plan.run(rt, &mut planned.spotted.list),
-            Calls::Heap => planned.plan.run(rt, &mut planned.spotted.heap),
-            Calls::Clock => planned.plan.run(rt, &mut planned.spotted.clock),
-            Calls::Map => planned.plan.run(rt, &mut planned.map),
-            Calls::BinaryHeap => planned.plan.run(rt, &mut planned.binary_heap),
-        };
-        let (seen, time) = ran?;
+        let (seen, time) = planned.plan.run(rt, &mut planned.timers)?;
         planned.seen = seen;
         Ok((planned, (count, time)))
     }
 
-    fn seen(&mut self, _calls: Calls) -> Result<u64, Fault> {
+    fn seen(&mut self, _calls: ()) -> Result<u64, Fault> {
         Ok(self.seen)
     }
 }
 
-/// Measures `count` timers with these deadlines, and shows them. Returns a number over those that came out last.
+/// Measures `count` timers with these deadlines in one collection, and shows them. Returns a number over those that
+/// came out last.
+fn show_in<R: Clock + Print, T: Timers>(
+    rt: &R,
+    alloc: Global,
+    table: Table,
+    count: usize,
+    deadlines: Deadlines,
+    name: &'static str,
+) -> Result<u64, Fault> {
+    let planned: Planned<T> = Planned {
+        plan: Plan::new(alloc, count, deadlines)?,
+        timers: T::new(alloc, count)?,
+        seen: 0,
+    };
+    table.measure(rt, planned, count, &[(name, (), deadlines.what())])
+}
+
+/// How many timers with any deadlines are measured in a list, which walks to each. With more it would take seconds.
+const FEW: usize = 1_000;
+
+/// Measures `count` timers with these deadlines in each collection, and shows them. Returns the sum of numbers over
+/// those that came out last.
 fn show<R: Clock + Print>(
     rt: &R,
     alloc: Global,
@@ -348,14 +298,20 @@ fn show<R: Clock + Print>(
     count: usize,
     deadlines: Deadlines,
 ) -> Result<u64, Fault> {
-    let planned = Planned {
-        plan: Plan::new(alloc, count, deadlines)?,
-        spotted: Spotted::new(alloc, count)?,
-        map: BTreeMap::new(alloc),
-        binary_heap: InHeap::new(alloc, count)?,
-        seen: 0,
-    };
-    table.measure(rt, planned, count, deadlines.kinds(count))
+    let mut sum: u64 = 0;
+    if count <= FEW || deadlines.mostly_rise() {
+        let name = "Timers: StableSortedList";
+        sum = show_in::<R, WithSpots<Numbered>>(rt, alloc, table, count, deadlines, name)?;
+    }
+    let name = "Timers: StableHeap";
+    let heap = show_in::<R, WithSpots<NumberedHeap>>(rt, alloc, table, count, deadlines, name)?;
+    let name = "Timers: ClockQueue";
+    let clock = show_in::<R, WithSpots<NumberedClock>>(rt, alloc, table, count, deadlines, name)?;
+    let name = "Timers: BTreeMap";
+    let map = show_in::<R, BTreeMap<Item, ()>>(rt, alloc, table, count, deadlines, name)?;
+    let name = "Timers: BinaryHeap";
+    let binary = show_in::<R, InHeap>(rt, alloc, table, count, deadlines, name)?;
+    Ok(added(added(sum, heap), added(added(clock, map), binary)))
 }
 
 /// Measures `count` timers with deadlines that mostly rise, and as many with any, and shows them. Returns a number over
