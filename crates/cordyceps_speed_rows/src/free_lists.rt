@@ -150,20 +150,32 @@ struct Own<'a> {
     nodes: Vec<StackNode>,
 }
 
+impl<'a> Own<'a> {
+    /// Puts all of the blocks back, the last first.
+    fn put_all(&mut self) {
+        while let Some(node) = self.nodes.pop() {
+            self.local.put(node);
+        }
+    }
+
+    /// Tries `tries` times to get a block.
+    fn get_all(&mut self, tries: usize) {
+        for _ in 0..tries {
+            if let Some(node) = self.local.get() {
+                keep(&mut self.nodes, node);
+            }
+        }
+    }
+}
+
 impl<'a> Bench<Calls> for Own<'a> {
     fn round(self, rt: &impl Clock, calls: Calls) -> Result<(Own<'a>, Round), Fault> {
         let mut own = self;
         let count = own.nodes.len();
         let mut stopwatch = Stopwatch::start(rt);
-        while let Some(node) = own.nodes.pop() {
-            own.local.put(node);
-        }
+        own.put_all();
         let put = stopwatch.look(rt);
-        for _ in 0..count {
-            if let Some(node) = own.local.get() {
-                keep(&mut own.nodes, node);
-            }
-        }
+        own.get_all(count);
         let got = stopwatch.look(rt);
         let time = match calls {
             Calls::Put => put,

@@ -3,7 +3,7 @@
 ghost use Rattle.std.specs.Prelude.{◌≡◌, ◌+◌, ◌<◌, ◌≤◌, [], length};
 
 use crate::fault::Fault;
-use crate::nodes::{shuffle, sum_numbers};
+use crate::nodes::{ListNode, shuffle, sum_numbers};
 use crate::numbered::{ByNumber, Numbered};
 use crate::numbered_clock::NumberedClock;
 use crate::numbered_heap::NumberedHeap;
@@ -132,7 +132,27 @@ fn ascending<C: ByNumber>(alloc: Global, count: usize) -> Result<C, Fault> {
     Ok(made)
 }
 
+/// Takes the elements with these numbers out, in this order.
+fn take_out<C: ByNumber>(from: &mut C, numbers: &[usize], nodes: &mut Vec<ListNode>) {
+    for number in numbers {
+        if let Some(node) = from.remove(*number) {
+            keep(nodes, node);
+        }
+    }
+}
+
 impl<C: ByNumber> StableSorteds<C> {
+    /// Measures insertions of elements with such values, and pops of all. Returns what these took, and a number over
+    /// the values in their order.
+    fn insert_all(
+        &self,
+        rt: &impl Clock,
+        values: Values,
+    ) -> Result<(Duration, Duration, u64), Fault> {
+        let nodes = elements_of(self.alloc, self.order.len(), values)?;
+        Ok(C::insertions(rt, nodes))
+    }
+
     /// Gives the elements the values of the numbers from the next on, in the order in which they are met.
     fn update_all(&mut self) {
         let mut next = self.next;
@@ -146,17 +166,38 @@ impl<C: ByNumber> StableSorteds<C> {
     /// Measures removals of all elements from a collection.
     fn remove_all(&mut self, rt: &impl Clock) -> Result<Duration, Fault> {
         let count = self.order.len();
-        let mut from: C = ascending(self.alloc, count)?;
         let mut nodes = with_room(self.alloc, count)?;
+        let mut from: C = ascending(self.alloc, count)?;
         let mut stopwatch = Stopwatch::start(rt);
-        for number in &self.order {
-            if let Some(node) = from.remove(*number) {
-                keep(&mut nodes, node);
-            }
-        }
+        take_out(&mut from, self.order.as_slice(), &mut nodes);
         let time = stopwatch.look(rt);
         self.seen = sum_numbers(nodes.as_slice(), count)?;
         Ok(time)
+    }
+
+    /// Measures one round of a kind of call.
+    fn measure(&mut self, rt: &impl Clock, calls: Calls) -> Result<Duration, Fault> {
+        match calls {
+            Calls::Insert(values) => {
+                let (time, _, seen) = self.insert_all(rt, values)?;
+                self.seen = seen;
+                Ok(time)
+            }
+            Calls::Pop => {
+                let (_, time, _) = self.insert_all(rt, Values::Random)?;
+                Ok(time)
+            }
+            Calls::Update => {
+                shuffle(&mut self.order);
+                let mut stopwatch = Stopwatch::start(rt);
+                self.update_all();
+                Ok(stopwatch.look(rt))
+            }
+            Calls::Remove => {
+                shuffle(&mut self.order);
+                self.remove_all(rt)
+            }
+        }
     }
 }
 
@@ -164,29 +205,7 @@ impl<C: ByNumber> Bench<Calls> for StableSorteds<C> {
     fn round(self, rt: &impl Clock, calls: Calls) -> Result<(StableSorteds<C>, Round), Fault> {
         let mut sorteds = self;
         let count = sorteds.order.len();
-        let time = match calls {
-            Calls::Insert(values) => {
-                let nodes = elements_of(sorteds.alloc, count, values)?;
-                let (time, _, seen) = C::insertions(rt, nodes);
-                sorteds.seen = seen;
-                time
-            }
-            Calls::Pop => {
-                let nodes = elements_of(sorteds.alloc, count, Values::Random)?;
-                let (_, time, _) = C::insertions(rt, nodes);
-                time
-            }
-            Calls::Update => {
-                shuffle(&mut sorteds.order);
-                let mut stopwatch = Stopwatch::start(rt);
-                sorteds.update_all();
-                stopwatch.look(rt)
-            }
-            Calls::Remove => {
-                shuffle(&mut sorteds.order);
-                sorteds.remove_all(rt)?
-            }
-        };
+        let time = sorteds.measure(rt, calls)?;
         Ok((sorteds, (count, time)))
     }
 
