@@ -32,9 +32,6 @@ impl fmt::Display for Figures {
     }
 }
 
-/// One kind of call: its name, what it costs, and what is counted as one.
-pub type Row<'a> = (&'a str, Cost, &'a str);
-
 /// A kind of call that is to be measured: its name, which it is, and what is counted as one.
 pub type Entry<C> = (&'static str, C, &'static str);
 
@@ -90,8 +87,9 @@ impl Table {
         Ok(())
     }
 
-    /// Writes the row of one kind of call, with this many elements in the collection.
-    fn row(
+    /// Writes the row of one kind of call: its name, this many elements in the collection, what it cost, and what is
+    /// counted as one.
+    pub fn row(
         self,
         rt: &impl Print,
         name: &str,
@@ -110,14 +108,6 @@ impl Table {
             Ok(()) => Ok(()),
             Err(_) => Err(Fault::Write),
         }
-    }
-
-    /// Writes the rows of kinds of call, each with this many elements in the collection.
-    pub fn rows(self, rt: &impl Print, elements: usize, rows: &[Row<'_>]) -> Result<(), Fault> {
-        for (name, cost, what) in rows {
-            self.row(rt, name, elements, cost, what)?;
-        }
-        Ok(())
     }
 
     /// Measures kinds of call one after another, each with this many elements in the collection, and writes their rows.

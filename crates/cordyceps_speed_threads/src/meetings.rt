@@ -243,6 +243,38 @@ fn counted(producers: usize) -> &'static str {
     }
 }
 
+/// Collections, and what they cost so far.
+type Costs = Vec<(Meeting, Cost)>;
+
+/// Measures each collection once more, with `producers` threads that put in.
+fn add_turn<R: Threads + Wait + Clock + Sync>(
+    rt: &R,
+    alloc: Global,
+    costs: &mut Costs,
+    producers: usize,
+) -> Result<(), Fault> {
+    let count = fresh(producers).count();
+    for (meeting, cost) in costs.iter_mut() {
+        let time = meeting.measure(rt, alloc, producers)?;
+        cost.add(count, time);
+    }
+    Ok(())
+}
+
+/// Writes a row for each collection.
+fn write_rows(
+    rt: &impl Print,
+    table: Table,
+    costs: &[(Meeting, Cost)],
+    producers: usize,
+) -> Result<(), Fault> {
+    let what = counted(producers);
+    for (meeting, cost) in costs {
+        table.row(rt, meeting.name(), ELEMENTS, cost, what)?;
+    }
+    Ok(())
+}
+
 /// Measures collections by turns, with `producers` threads that put in, and shows them.
 fn show<R: Threads + Wait + Clock + Sync + Print>(
     rt: &R,
@@ -251,21 +283,14 @@ fn show<R: Threads + Wait + Clock + Sync + Print>(
     meetings: &[Meeting],
     producers: usize,
 ) -> Result<(), Fault> {
-    let count = fresh(producers).count();
     let mut costs = with_room(alloc, meetings.len())?;
-    for _ in meetings {
-        push(&mut costs, Cost::none())?;
+    for meeting in meetings {
+        push(&mut costs, (*meeting, Cost::none()))?;
     }
     for _ in 0..table.rounds {
-        for (meeting, cost) in meetings.iter().zip(costs.iter_mut()) {
-            cost.add(count, meeting.measure(rt, alloc, producers)?);
-        }
+        add_turn(rt, alloc, &mut costs, producers)?;
     }
-    for (meeting, cost) in meetings.iter().zip(costs.iter()) {
-        let row = (meeting.name(), *cost, counted(producers));
-        table.rows(rt, ELEMENTS, &[row])?;
-    }
-    Ok(())
+    write_rows(rt, table, costs.as_slice(), producers)
 }
 
 /// Measures the collections with one to four threads that put in, and shows them.

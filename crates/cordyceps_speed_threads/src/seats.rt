@@ -11,7 +11,6 @@ use cordyceps_stack::stack::{Stack, TransferStack};
 use crossbeam_channel::{Receiver, Sender};
 use crossbeam_queue::SegQueue;
 use std::collections::VecDeque;
-use std::mem;
 use std::sync::{Mutex, Wait};
 
 /// How many elements are pushed at one step.
@@ -98,7 +97,7 @@ impl<'a> Seat for AtBatches<'a> {
     fn flush<R: Wait>(&mut self, rt: &R) {
         let at = &mut self.at;
         if self.waiting <= at.party.rooms() {
-            let batch = mem::replace(&mut self.batch, Stack::new());
+            let batch = self.batch.take_all();
             self.waiting = 0;
             at.stack.push_all(rt, &mut at.party, batch);
         }
