@@ -3,6 +3,7 @@ ghost use Rattle.std.specs.Prelude.{◌≡◌};
 
 use crate::clock_queues::ByValue;
 use crate::compared::{at_most, made, same};
+use crate::keys::Reply;
 use cordyceps_base::node::Node;
 use cordyceps_clock::clock_queue::ClockQueue;
 use cordyceps_list::list::Links;
@@ -39,15 +40,6 @@ pub enum Call {
     Remove(u64),
     /// Changes a time.
     Update(u64, u64),
-}
-
-/// What a call replies.
-#[derive(Clone, Copy, Debug, PartialEq)]
-pub enum Reply {
-    /// This element came out, or came back, or none.
-    Out(Option<Due>),
-    /// The time that was read, or that was changed, if there is one.
-    Time(Option<u64>),
 }
 
 /// A queue of times, and the spots of its elements by their numbers.
@@ -190,10 +182,10 @@ pub fn make_call(
         }
         Call::PopFront => Reply::Out(due(timers.pop_front())),
         Call::PopDue(now) => Reply::Out(due(timers.pop_due(*now))),
-        Call::Front => Reply::Time(timers.front()),
+        Call::Front => Reply::Read(timers.front()),
         Call::RemoveFront => Reply::Out(due(timers.remove_front())),
-        Call::Get(number) => Reply::Time(timers.get(*number)),
+        Call::Get(number) => Reply::Read(timers.get(*number)),
         Call::Remove(number) => Reply::Out(due(timers.remove(*number))),
-        Call::Update(number, time) => Reply::Time(timers.update(*number, *time)),
+        Call::Update(number, time) => Reply::Read(timers.update(*number, *time)),
     }
 }

@@ -1,8 +1,8 @@
 //! Runs of many calls of a queue of times, beside a sorted vector that should hold the same.
 
-use crate::clock_calls::{Call, Due, Reply, Timers, make_call};
+use crate::clock_calls::{Call, Due, Timers, make_call};
 use crate::compared::{at_most, made, same};
-use crate::keys::taken;
+use crate::keys::{Reply, taken};
 use std::alloc::Global;
 use std::process::Abort;
 use test_support::counted::Drops;
@@ -123,17 +123,17 @@ fn wanted(rt: &impl Abort, model: &mut Model, call: &Call) -> Reply {
             }
             Reply::Out(first)
         }
-        Call::Front => Reply::Time(time_at(model.pairs.as_slice(), 0)),
+        Call::Front => Reply::Read(time_at(model.pairs.as_slice(), 0)),
         Call::RemoveFront => Reply::Out(taken(&mut model.pairs, 0)),
         Call::Get(number) => {
             let at = place_of(model.pairs.as_slice(), *number);
-            Reply::Time(time_at(model.pairs.as_slice(), at))
+            Reply::Read(time_at(model.pairs.as_slice(), at))
         }
         Call::Remove(number) => {
             let at = place_of(model.pairs.as_slice(), *number);
             Reply::Out(taken(&mut model.pairs, at))
         }
-        Call::Update(number, time) => Reply::Time(change(rt, model, *number, *time)),
+        Call::Update(number, time) => Reply::Read(change(rt, model, *number, *time)),
     }
 }
 
@@ -211,26 +211,26 @@ const UPDATES: &[(Call, Reply)] = &[
     (Call::Push((9, 3)), Reply::Out(None)),
     (Call::Push((40, 4)), Reply::Out(None)),
     // behind its equals, though its time stays the same
-    (Call::Update(1, 5), Reply::Time(Some(5))),
+    (Call::Update(1, 5), Reply::Read(Some(5))),
     // before all others, and then among equals of a higher time
-    (Call::Update(4, 2), Reply::Time(Some(40))),
-    (Call::Front, Reply::Time(Some(2))),
-    (Call::Update(2, 9), Reply::Time(Some(5))),
+    (Call::Update(4, 2), Reply::Read(Some(40))),
+    (Call::Front, Reply::Read(Some(2))),
+    (Call::Update(2, 9), Reply::Read(Some(5))),
     (Call::PopFront, Reply::Out(Some((2, 4)))),
     // before the clock, at the clock, and an element that is not there
-    (Call::Update(3, 1), Reply::Time(None)),
-    (Call::Update(3, 2), Reply::Time(Some(9))),
-    (Call::Update(4, 7), Reply::Time(None)),
-    (Call::Get(3), Reply::Time(Some(2))),
+    (Call::Update(3, 1), Reply::Read(None)),
+    (Call::Update(3, 2), Reply::Read(Some(9))),
+    (Call::Update(4, 7), Reply::Read(None)),
+    (Call::Get(3), Reply::Read(Some(2))),
     (Call::PopDue(2), Reply::Out(Some((2, 3)))),
     (Call::PopDue(4), Reply::Out(None)),
     (Call::PopDue(5), Reply::Out(Some((5, 1)))),
     // the only element: at the last time of all, and at the clock
-    (Call::Update(2, u64::MAX), Reply::Time(Some(9))),
+    (Call::Update(2, u64::MAX), Reply::Read(Some(9))),
     (Call::PopDue(100), Reply::Out(None)),
-    (Call::Update(2, 100), Reply::Time(Some(u64::MAX))),
+    (Call::Update(2, 100), Reply::Read(Some(u64::MAX))),
     (Call::PopFront, Reply::Out(Some((100, 2)))),
-    (Call::Update(2, 100), Reply::Time(None)),
+    (Call::Update(2, 100), Reply::Read(None)),
 ];
 
 #[test]

@@ -3,9 +3,11 @@ ghost use Rattle.std.specs.Prelude.{◌≡◌, refl, ⊤};
 
 use crate::compared::{made, same};
 use crate::drops::drops_one;
-use crate::keys::{Handle, Key, Pair, make, parts};
+use crate::keys::{Handle, Key, Pair, Reply, make, parts};
+use cordyceps_base::node::Node;
 use cordyceps_clock::clock_queue::ClockQueue;
 use cordyceps_clock::times::Times;
+use cordyceps_list::list::Links;
 use std::alloc::Global;
 use std::mem;
 use std::process::Abort;
@@ -21,17 +23,6 @@ enum Call {
     PopDue(u64),
     /// Reads the time of the element that is due first.
     Front,
-}
-
-/// What a call replies.
-#[derive(Clone, Copy, Debug, PartialEq)]
-enum Reply {
-    /// This element came out, or came back, or none.
-    Out(Option<Pair>),
-    /// This time was read, and then this element came out.
-    Removed(u64, Option<Pair>),
-    /// This time was read, or there is none.
-    Time(Option<u64>),
 }
 
 /// The times of elements: their values.
@@ -98,7 +89,7 @@ fn make_call(
         Call::PushAndRemove(pair) => push_and_remove(queue, make(rt, alloc, *pair)),
         Call::PopFront => Reply::Out(parts(queue.pop_front())),
         Call::PopDue(now) => Reply::Out(parts(queue.pop_due(*now))),
-        Call::Front => Reply::Time(first_time(queue)),
+        Call::Front => Reply::Read(first_time(queue)),
     }
 }
 
@@ -169,7 +160,7 @@ const CALLS: &[(Call, Reply, usize, u64)] = &[
 /// Calls of a queue that pop what is due by a time. The queue is empty at first.
 const POPS: &[(Call, Reply, usize, u64)] = &[
     // an empty queue, whose clock moves, and a time before the clock
-    (Call::Front, Reply::Time(None), 0, 0),
+    (Call::Front, Reply::Read(None), 0, 0),
     (Call::PopDue(2), Reply::Out(None), 0, 2),
     (Call::PopDue(1), Reply::Out(None), 0, 2),
     (Call::TryPush((1, 1)), Reply::Out(Some((1, 1))), 0, 2),
@@ -181,7 +172,7 @@ const POPS: &[(Call, Reply, usize, u64)] = &[
     (Call::PopDue(1), Reply::Out(None), 4, 2),
     (Call::PopDue(2), Reply::Out(Some((5, 2))), 3, 2),
     (Call::PopDue(2), Reply::Out(None), 3, 2),
-    (Call::Front, Reply::Time(Some(6)), 3, 2),
+    (Call::Front, Reply::Read(Some(6)), 3, 2),
     // none is due, and the clock moves: by its lowest bit, and then into the bucket of the first element
     (Call::PopDue(3), Reply::Out(None), 3, 3),
     (Call::PopDue(5), Reply::Out(None), 3, 5),
@@ -224,27 +215,59 @@ fn each_call_of_a_queue_of_times_replies(rt: HostRuntime) {
     replies(&rt, rt.alloc(), POPS);
 }
 
+/// A queue of elements that count their drops.
+type Counting = ClockQueue<Counted, ByValue>;
+
+/// Returns a queue into which an element was pushed, whose time was changed, and from which it was removed.
+fn emptied(rt: &impl Abort, alloc: Global, drops: &Drops) -> Counting {
+    let mut queue: Counting = ClockQueue::new_with_times(ByValue);
+    let spot = queue.push(made(rt, counted_node(alloc, 1, 7, drops)));
+    same(rt, (queue.get(spot).value, queue.len()), (7, 1));
+    let time = queue.update(spot, |counted| mem::replace(&mut counted.value, 9));
+    same(rt, (time, queue.get(spot).value), (7, 9));
+    drops_one(rt, queue.remove(spot), 1, drops);
+    queue
+}
+
+/// Pushes an element of this number and time, and returns it if it comes back.
+fn push(
+    rt: &impl Abort,
+    alloc: Global,
+    queue: &mut Counting,
+    (number, time): (u64, u64),
+    drops: &Drops,
+) -> Option<Node<Counted, Links<Counted>>> {
+    match queue.try_push(made(rt, counted_node(alloc, number, time, drops))) {
+        Ok(_) => None,
+        Err(back) => Some(back),
+    }
+}
+
+/// Asserts that there is an element of this number, and drops it.
+fn is_dropped(
+    rt: &impl Abort,
+    node: Option<Node<Counted, Links<Counted>>>,
+    number: u64,
+    drops: &Drops,
+) {
+    match node {
+        Some(node) => drops_one(rt, node, number, drops),
+        None => panic!(rt; "no element came out or back"),
+    }
+}
+
 #[test]
 fn a_queue_of_times_drops_each_element_once(rt: HostRuntime) {
     let drops = made(&rt, Drops::new(rt.alloc()));
-    let mut queue: ClockQueue<Counted, ByValue> = ClockQueue::new_with_times(ByValue);
-    let spot = queue.push(made(&rt, counted_node(rt.alloc(), 1, 7, &drops)));
-    same(&rt, (queue.get(spot).value, queue.len()), (7, 1));
-    let time = queue.update(spot, |counted| mem::replace(&mut counted.value, 9));
-    same(&rt, (time, queue.get(spot).value), (7, 9));
-    drops_one(&rt, queue.remove(spot), 1, &drops);
-    for (number, time) in [(2u64, 6u64), (3, 2), (4, 8)] {
-        let node = made(&rt, counted_node(rt.alloc(), number, time, &drops));
-        same(&rt, queue.try_push(node).is_ok(), true);
+    let mut queue = emptied(&rt, rt.alloc(), &drops);
+    for due in [(2u64, 6u64), (3, 2), (4, 8)] {
+        let back = push(&rt, rt.alloc(), &mut queue, due, &drops);
+        same(&rt, back.is_none(), true);
     }
-    let first = queue.pop_front().expect(&rt, "three elements are there");
-    drops_one(&rt, first, 3, &drops);
-    let node = made(&rt, counted_node(rt.alloc(), 5, 1, &drops));
-    let back = queue
-        .try_push(node)
-        .err()
-        .expect(&rt, "it is due before now");
-    drops_one(&rt, back, 5, &drops);
+    is_dropped(&rt, queue.pop_front(), 3, &drops);
+    // it is due before now
+    let back = push(&rt, rt.alloc(), &mut queue, (5, 1), &drops);
+    is_dropped(&rt, back, 5, &drops);
     same(&rt, (queue.len(), drops.count()), (2, 3));
     drop(queue);
     same(&rt, drops.count(), 5);

@@ -81,19 +81,24 @@ fn a_sorted_list_drops_each_element_once(rt: HostRuntime) {
     same(&rt, drops.count(), 9);
 }
 
+/// Returns the list of the elements 2, 1, 3, 4 and 5, which is made of two that were sorted.
+fn joined(rt: &impl Abort, alloc: Global, drops: &Drops) -> StableList<Counted> {
+    let sorted = counted(rt, alloc, &[3, 1, 2], drops);
+    let second = spot_at(rt, sorted.cursor_front(), 1);
+    let mut list = sorted.into_stable_list();
+    same(rt, list.get(second).value, 2);
+    list.move_to_front(second);
+    let mut other = counted(rt, alloc, &[5, 4], drops).into_stable_list();
+    at_most(rt, list.len(), 3);
+    at_most(rt, other.len(), 2);
+    list.append(&mut other);
+    list
+}
+
 #[test]
 fn a_stable_list_drops_each_element_once(rt: HostRuntime) {
     let drops = made(&rt, Drops::new(rt.alloc()));
-    let sorted = counted(&rt, rt.alloc(), &[3, 1, 2], &drops);
-    let second = spot_at(&rt, sorted.cursor_front(), 1);
-    let mut list = sorted.into_stable_list();
-    same(&rt, list.get(second).value, 2);
-    list.move_to_front(second);
-    let mut other = counted(&rt, rt.alloc(), &[5, 4], &drops).into_stable_list();
-    at_most(&rt, list.len(), 3);
-    at_most(&rt, other.len(), 2);
-    list.append(&mut other);
-    drop(other);
+    let mut list = joined(&rt, rt.alloc(), &drops);
     let fourth = spot_at(&rt, list.cursor_front(), 3);
     drops_one(&rt, list.remove(fourth), 4, &drops);
     let mut list = list.into_list();

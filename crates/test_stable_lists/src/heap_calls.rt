@@ -2,7 +2,7 @@
 ghost use Rattle.std.specs.Prelude.{◌≡◌};
 
 use crate::compared::{at_most, made, same};
-use crate::keys::{Handle, Key, Pair, make, parts};
+use crate::keys::{Handle, Key, Pair, Reply, make, parts};
 use cordyceps_heap::stable_heap::StableHeap;
 use cordyceps_single::sorted_list::{Least, Order};
 use cordyceps_stable::stable_list::Spot;
@@ -32,19 +32,6 @@ pub enum Call {
     Remove(u64),
     /// Changes a key.
     Update(u64, u64),
-}
-
-/// What a call replies.
-#[derive(Clone, Copy, Debug, PartialEq)]
-pub enum Reply {
-    /// This element came out, or none.
-    Out(Option<Pair>),
-    /// The key that was read, or that was changed, if there is one.
-    Key(Option<u64>),
-    /// So many elements were visited, whose keys have this sum.
-    Sum(usize, u64),
-    /// There is nothing to reply.
-    Nothing,
 }
 
 /// A heap with the least key first, and the spots of its elements by their numbers, but for those that were appended.
@@ -106,7 +93,10 @@ impl Keys {
 
     /// Returns the number of elements.
     pub fn len(&self) -> usize {
-        same_len(&self.heap)
+        if self.heap.is_empty() {
+            return 0;
+        }
+        self.heap.len()
     }
 
     /// Pushes an element.
@@ -189,11 +179,6 @@ impl Keys {
     }
 }
 
-/// Returns the length of a heap, and whether it is empty.
-fn same_len<O: Order<Key>>(heap: &StableHeap<Key, O>) -> usize {
-    if heap.is_empty() { 0 } else { heap.len() }
-}
-
 /// Makes a call, and returns its reply.
 pub fn make_call(rt: &impl Abort, alloc: Global, keys: &mut Keys, call: &Call) -> Reply {
     match call {
@@ -210,13 +195,13 @@ pub fn make_call(rt: &impl Abort, alloc: Global, keys: &mut Keys, call: &Call) -
             Reply::Nothing
         }
         Call::PopFront => Reply::Out(parts(keys.pop_front())),
-        Call::Front => Reply::Key(keys.front()),
-        Call::Get(number) => Reply::Key(keys.get(*number)),
+        Call::Front => Reply::Read(keys.front()),
+        Call::Get(number) => Reply::Read(keys.get(*number)),
         Call::Sum => {
             let (count, sum) = keys.sum();
             Reply::Sum(count, sum)
         }
         Call::Remove(number) => Reply::Out(parts(keys.remove(*number))),
-        Call::Update(number, key) => Reply::Key(keys.update(*number, *key)),
+        Call::Update(number, key) => Reply::Read(keys.update(*number, *key)),
     }
 }

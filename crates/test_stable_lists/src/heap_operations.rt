@@ -1,7 +1,7 @@
 //! Runs of many calls of a heap with spots, beside a sorted vector that should hold the same.
 use crate::compared::same;
-use crate::heap_calls::{Call, Keys, Reply, make_call};
-use crate::keys::{Pair, taken};
+use crate::heap_calls::{Call, Keys, make_call};
+use crate::keys::{Pair, Reply, taken};
 use crate::sorted_operations::put_in_order;
 use std::alloc::Global;
 use std::process::Abort;
@@ -75,10 +75,10 @@ fn wanted(rt: &impl Abort, pairs: &mut Vec<Pair>, call: &Call) -> Reply {
             Reply::Nothing
         }
         Call::PopFront => Reply::Out(taken(pairs, 0)),
-        Call::Front => Reply::Key(key_of(pairs.first().copied())),
+        Call::Front => Reply::Read(key_of(pairs.first().copied())),
         Call::Get(number) => {
             let at = place_of(pairs.as_slice(), *number);
-            Reply::Key(key_of(pairs.get(at).copied()))
+            Reply::Read(key_of(pairs.get(at).copied()))
         }
         Call::Sum => Reply::Sum(pairs.len(), sum_of(pairs.as_slice())),
         Call::Remove(number) => {
@@ -91,7 +91,7 @@ fn wanted(rt: &impl Abort, pairs: &mut Vec<Pair>, call: &Call) -> Reply {
             if old.is_some() {
                 put_in_order(rt, pairs, (*number, *key));
             }
-            Reply::Key(key_of(old))
+            Reply::Read(key_of(old))
         }
     }
 }

@@ -1,8 +1,8 @@
 //! Each call of a heap with spots, and what it replies.
 use crate::compared::same;
-use crate::heap_calls::{Call, Keys, Reply, pops, push_all};
+use crate::heap_calls::{Call, Keys, pops, push_all};
 use crate::heap_operations::agree;
-use crate::keys::{Key, Pair};
+use crate::keys::{Key, Pair, Reply};
 use crate::sorted_lists::{by_tens, tens_of};
 use cordyceps_heap::stable_heap::StableHeap;
 use cordyceps_single::sorted_list::{Least, Order};
@@ -11,7 +11,7 @@ use std::process::Abort;
 
 /// Calls of a heap that is empty at first, and what they reply. Numbers tell elements with equal keys apart.
 const CALLS: &[(Call, Reply)] = &[
-    (Call::Front, Reply::Key(None)),
+    (Call::Front, Reply::Read(None)),
     (Call::PopFront, Reply::Out(None)),
     (Call::Sum, Reply::Sum(0, 0)),
     // equals by arrival
@@ -21,8 +21,8 @@ const CALLS: &[(Call, Reply)] = &[
     (Call::TryPush((3, 5)), Reply::Nothing),
     (Call::Push((4, 1)), Reply::Nothing),
     (Call::Push((5, 3)), Reply::Nothing),
-    (Call::Front, Reply::Key(Some(1))),
-    (Call::Get(3), Reply::Key(Some(5))),
+    (Call::Front, Reply::Read(Some(1))),
+    (Call::Get(3), Reply::Read(Some(5))),
     (Call::Sum, Reply::Sum(5, 17)),
     (Call::PopFront, Reply::Out(Some((4, 1)))),
     (Call::Sum, Reply::Sum(4, 16)),
@@ -39,28 +39,28 @@ const CALLS: &[(Call, Reply)] = &[
     (Call::Push((5, 3)), Reply::Nothing),
     (Call::Remove(4), Reply::Out(Some((4, 4)))),
     (Call::Remove(2), Reply::Out(Some((2, 2)))),
-    (Call::Front, Reply::Key(Some(3))),
+    (Call::Front, Reply::Read(Some(3))),
     (Call::Remove(5), Reply::Out(Some((5, 3)))),
-    (Call::Front, Reply::Key(Some(6))),
+    (Call::Front, Reply::Read(Some(6))),
     (Call::Remove(1), Reply::Out(Some((1, 8)))),
     (Call::Remove(3), Reply::Out(Some((3, 6)))),
-    (Call::Front, Reply::Key(None)),
+    (Call::Front, Reply::Read(None)),
     // keys are changed, so that an element goes before others, among equals, and behind
     (Call::Push((1, 2)), Reply::Nothing),
     (Call::Push((2, 4)), Reply::Nothing),
     (Call::Push((3, 4)), Reply::Nothing),
     (Call::Push((4, 6)), Reply::Nothing),
-    (Call::Update(1, 4), Reply::Key(Some(2))),
-    (Call::Front, Reply::Key(Some(4))),
-    (Call::Update(4, 4), Reply::Key(Some(6))),
-    (Call::Update(3, 1), Reply::Key(Some(4))),
-    (Call::Update(3, 9), Reply::Key(Some(1))),
-    (Call::Get(3), Reply::Key(Some(9))),
+    (Call::Update(1, 4), Reply::Read(Some(2))),
+    (Call::Front, Reply::Read(Some(4))),
+    (Call::Update(4, 4), Reply::Read(Some(6))),
+    (Call::Update(3, 1), Reply::Read(Some(4))),
+    (Call::Update(3, 9), Reply::Read(Some(1))),
+    (Call::Get(3), Reply::Read(Some(9))),
     (Call::PopFront, Reply::Out(Some((2, 4)))),
     (Call::PopFront, Reply::Out(Some((1, 4)))),
     (Call::PopFront, Reply::Out(Some((4, 4)))),
     // the only element
-    (Call::Update(3, 8), Reply::Key(Some(9))),
+    (Call::Update(3, 8), Reply::Read(Some(9))),
     (Call::Append(&[]), Reply::Nothing),
     (Call::PopFront, Reply::Out(Some((3, 8)))),
     (Call::Append(&[]), Reply::Nothing),
@@ -74,7 +74,7 @@ const CALLS: &[(Call, Reply)] = &[
         Call::Append(&[(104, 5), (105, 7), (106, 1)]),
         Reply::Nothing,
     ),
-    (Call::Update(1, 7), Reply::Key(Some(5))),
+    (Call::Update(1, 7), Reply::Read(Some(5))),
     (Call::PopFront, Reply::Out(Some((106, 1)))),
     (Call::PopFront, Reply::Out(Some((102, 3)))),
     (Call::PopFront, Reply::Out(Some((101, 5)))),

@@ -55,16 +55,22 @@ impl Linked<Links<Key>> for Key {
     }
 }
 
-/// What a call replies.
+/// What a call of a list, a heap or a queue of times replies.
 #[derive(Clone, Copy, Debug, PartialEq)]
 pub enum Reply {
-    /// This element came out, or none.
+    /// This element came out, or came back, or none.
     Out(Option<Pair>),
     /// The keys around the spot that the call returned or took.
     At(Sight),
     /// The key that was changed, and then the same.
     Changed(u64, Sight),
-    /// There is no spot.
+    /// The key or the time that was read, or that was changed, if there is one.
+    Read(Option<u64>),
+    /// This time was read, and then this element came out.
+    Removed(u64, Option<Pair>),
+    /// So many elements were visited, whose keys have this sum.
+    Sum(usize, u64),
+    /// There is no spot, or nothing to reply.
     Nothing,
 }
 

@@ -3,6 +3,8 @@ use crate::compared::{made, same};
 use crate::keys::{Key, ONE, TWO, make, spot_at};
 use crate::sorted_calls::keys_of;
 use cordyceps_stable::stable_list::StableList;
+use std::alloc::Global;
+use std::process::Abort;
 use test_support::counted::{Counted, Drops, counted_node};
 
 #[test]
@@ -43,6 +45,13 @@ fn a_spot_of_a_sorted_list_tells_the_ends(rt: HostRuntime) {
     }
 }
 
+/// Asserts that a sorted list holds nothing once it is cleared.
+fn clears_sorted(rt: &impl Abort, alloc: Global) {
+    let mut sorted = keys_of(rt, alloc, &[(1, 5), (2, 3)]);
+    sorted.clear();
+    same(rt, (sorted.len(), sorted.front().is_none()), (0, true));
+}
+
 #[test]
 fn clear_drops_each_element_once(rt: HostRuntime) {
     let drops = made(&rt, Drops::new(rt.alloc()));
@@ -54,7 +63,5 @@ fn clear_drops_each_element_once(rt: HostRuntime) {
     list.clear();
     list.push_back(made(&rt, counted_node(rt.alloc(), 3, 3, &drops)));
     same(&rt, (list.len(), drops.count()), (1, 2));
-    let mut sorted = keys_of(&rt, rt.alloc(), &[(1, 5), (2, 3)]);
-    sorted.clear();
-    same(&rt, (sorted.len(), sorted.front().is_none()), (0, true));
+    clears_sorted(&rt, rt.alloc());
 }

@@ -4,7 +4,7 @@ ghost use Rattle.cordyceps_base.specs.BySpot.{HasSpot};
 
 use crate::compared::{at_most, same};
 use crate::keys::{Handle, Key, Pair, Reply, Sight, make, parts, reads, spot_at};
-use cordyceps_list::list::List;
+use crate::sorting::listed;
 use cordyceps_stable::stable_list::{Spot, StableList};
 use std::alloc::Global;
 use std::process::Abort;
@@ -51,12 +51,7 @@ pub enum BySpot {
 
 /// Returns a stable list of these elements.
 pub fn list_of(rt: &impl Abort, alloc: Global, pairs: &[Pair]) -> StableList<Key> {
-    let mut list = List::new();
-    for pair in pairs {
-        at_most(rt, list.len(), LONGEST);
-        list.push_back(make(rt, alloc, *pair));
-    }
-    StableList::from_list(list)
+    StableList::from_list(listed(rt, alloc, pairs))
 }
 
 /// Asserts the keys that a list holds.
