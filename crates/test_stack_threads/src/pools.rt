@@ -1,5 +1,5 @@
 //! Rooms that a party gives back, and that any party takes.
-ghost use Rattle.std.specs.Prelude.{◌≡◌};
+ghost use Rattle.std.specs.Prelude.{◌≡◌, ⊤};
 
 use crate::compared::{made, same};
 use crate::items::{dropped, falls, no_drops, pops, stock, sum};
@@ -226,6 +226,33 @@ impl<'s> Member<'s> {
     }
 }
 
+/// Lets each act on a thread of its own, and returns all. The clauses say nothing of what they do, which keeps the proof
+/// short.
+fn run_all<'s, R: Threads + Abort + Sync>(rt: &R, members: Vec<Member<'s>>) -> Vec<Member<'s>> {
+    let ended = thread::map_vec(
+        rt,
+        members,
+        &|member: Member<'_>| -> Member<'_>
+            requires { ⊤ }
+            ensures { ⊤ }
+        { member.run(rt) },
+    );
+    made(rt, ended)
+}
+
+/// Returns how many elements threads have, and the sum of their numbers.
+fn count(members: Vec<Member<'_>>) -> (u64, u64) {
+    let mut count: u64 = 0;
+    let mut numbers: u64 = 0;
+    for member in members {
+        for node in member.elements {
+            count = sum(count, 1);
+            numbers = sum(numbers, node.id());
+        }
+    }
+    (count, numbers)
+}
+
 /// Two threads push 4,000 elements through four rooms, which a third gives back.
 fn pass_through<R: Threads + Abort + Sync>(rt: &R, alloc: Global) {
     let drops = no_drops(rt, alloc);
@@ -233,31 +260,18 @@ fn pass_through<R: Threads + Abort + Sync>(rt: &R, alloc: Global) {
     let mut all = Seat::new(&stack, party);
     let mut members = Vec::new(alloc);
     for (first, takes) in [(1, None), (ELEMENTS + 1, None), (0, Some(2 * ELEMENTS))] {
-        let count = if takes.is_none() { ELEMENTS } else { 0 };
-        let elements = stock(rt, alloc, (first, count), &drops);
+        let pushes = if takes.is_none() { ELEMENTS } else { 0 };
         let member = Member {
             seat: all.split(rt, 0),
-            elements,
+            elements: stock(rt, alloc, (first, pushes), &drops),
             takes,
         };
         made(rt, members.push(member));
     }
     falls(rt, all.take_all(), 0, 0);
     all.give_all_back();
-    let ended = thread::map_vec(rt, members, &|member: Member<'_>| member.run(rt));
-    let mut count: u64 = 0;
-    let mut numbers: u64 = 0;
-    for member in made(rt, ended) {
-        for node in member.elements {
-            count = sum(count, 1);
-            numbers = sum(numbers, node.id());
-        }
-    }
-    same(
-        rt,
-        (count, numbers),
-        (2 * ELEMENTS, ELEMENTS * (2 * ELEMENTS + 1)),
-    );
+    let counted = count(run_all(rt, members));
+    same(rt, counted, (2 * ELEMENTS, ELEMENTS * (2 * ELEMENTS + 1)));
     dropped(rt, &drops, 2 * ELEMENTS);
 }
 

@@ -1,5 +1,5 @@
 //! Elements that are pushed all at one step, alone and beside a thread that takes.
-ghost use Rattle.std.specs.Prelude.{◌≡◌, ◌≤◌, length};
+ghost use Rattle.std.specs.Prelude.{◌≡◌, ◌≤◌, length, ⊤};
 
 use crate::compared::{at_most, made, same};
 use crate::items::{batch, dropped, element, no_drops, sum};
@@ -211,6 +211,41 @@ impl<'s> Member<'s> {
     }
 }
 
+/// Lets each act on a thread of its own, and returns all. The clauses say nothing of what they do, which keeps the proof
+/// short.
+fn run_all<'s, R: Threads + Wait + Abort + Sync>(
+    rt: &R,
+    alloc: Global,
+    members: Vec<Member<'s>>,
+    meeting: &Meeting,
+    drops: &Drops,
+) -> Vec<Member<'s>> {
+    let ended = thread::map_vec(
+        rt,
+        members,
+        &|member: Member<'_>| -> Member<'_>
+            requires { ⊤ }
+            ensures { ⊤ }
+        { member.run(rt, alloc, meeting, drops) },
+    );
+    made(rt, ended)
+}
+
+/// Asserts that threads have taken each number below an end once.
+fn took_each_once(rt: &impl Abort, alloc: Global, members: Vec<Member<'_>>, end: u64) {
+    let mut taken = Vec::new(alloc);
+    for member in members {
+        for number in member.taken {
+            made(rt, taken.push(number));
+        }
+    }
+    made(rt, taken.sort());
+    same(rt, taken.len() as u64, end);
+    for (place, number) in taken.iter().enumerate() {
+        same(rt, *number, place as u64);
+    }
+}
+
 /// Lets threads push batches while one takes, and asserts that each element came out once.
 fn batches_stay_together<R: Threads + Wait + Abort + Sync>(rt: &R, alloc: Global) {
     let drops = no_drops(rt, alloc);
@@ -227,22 +262,8 @@ fn batches_stay_together<R: Threads + Wait + Abort + Sync>(rt: &R, alloc: Global
         };
         made(rt, members.push(member));
     }
-    let ended = thread::map_vec(
-        rt,
-        members,
-        &|member: Member<'_>| member.run(rt, alloc, &meeting, &drops),
-    );
-    let mut taken = Vec::new(alloc);
-    for member in made(rt, ended) {
-        for number in member.taken {
-            made(rt, taken.push(number));
-        }
-    }
-    made(rt, taken.sort());
-    same(rt, taken.len() as u64, all);
-    for (place, number) in taken.iter().enumerate() {
-        same(rt, *number, place as u64);
-    }
+    let ended = run_all(rt, alloc, members, &meeting, &drops);
+    took_each_once(rt, alloc, ended, all);
     dropped(rt, &drops, all);
 }
 

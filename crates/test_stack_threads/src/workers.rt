@@ -1,5 +1,7 @@
 //! Parties at their stack, and threads that act through them: what each does, turn by turn, and how they are started
 //! and watched.
+ghost use Rattle.std.specs.Prelude.{⊤};
+
 use crate::compared::{made, same};
 use crate::items::{Handle, put_on, stock, sum};
 use crate::seats::Seat;
@@ -298,8 +300,7 @@ impl<'s> Worker<'s> {
         }
         let watch = Worker::new(self.seat.split(rt, 0), Task::Watch, Stack::new());
         made(rt, workers.push(watch));
-        let ended = thread::map_vec(rt, workers, &|worker: Worker<'_>| worker.run(rt, meeting));
-        for worker in made(rt, ended) {
+        for worker in run_all(rt, workers, meeting) {
             self.add(worker);
         }
     }
@@ -317,4 +318,22 @@ impl<'s> Worker<'s> {
             (true, true),
         );
     }
+}
+
+/// Lets each act on a thread of its own, and returns all. The clauses say nothing of what they do, which keeps the proof
+/// short.
+fn run_all<'s, R: Threads + Wait + Abort + Sync>(
+    rt: &R,
+    workers: Vec<Worker<'s>>,
+    meeting: &Meeting,
+) -> Vec<Worker<'s>> {
+    let ended = thread::map_vec(
+        rt,
+        workers,
+        &|worker: Worker<'_>| -> Worker<'_>
+            requires { ⊤ }
+            ensures { ⊤ }
+        { worker.run(rt, meeting) },
+    );
+    made(rt, ended)
 }
