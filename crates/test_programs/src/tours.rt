@@ -113,26 +113,28 @@ fn a_list_behind_a_lock(rt: HostRuntime) {
     submits_and_takes::<Brand>(&rt, rt.alloc(), Blank::new(1));
 }
 
+/// Asserts the order of two jobs that a stack hands over, and then of two that a queue sends.
+fn come_in_order(rt: &(impl Abort + Wait), alloc: Global, job: Job) {
+    let mut numbers = [4, 3, 5, 6].iter();
+    let (first, second) = (node(rt, alloc, 3, job), node(rt, alloc, 4, job));
+    for job in made(rt, hand_over(rt, alloc, first, second)) {
+        same(rt, Some(&job.id()), numbers.next());
+    }
+    let (first, second) = (node(rt, alloc, 5, job), node(rt, alloc, 6, job));
+    if let Some(batch) = made(rt, send(alloc, first, second)) {
+        for job in batch {
+            same(rt, Some(&job.id()), numbers.next());
+        }
+    }
+    same(rt, numbers.next(), None);
+}
+
 #[test]
 fn stacks_and_queues(rt: HostRuntime) {
     let (alloc, job) = (rt.alloc(), Job { rank: 10 });
-    let (first, second) = (
-        node(&rt, alloc, 2, Job { rank: 20 }),
-        node(&rt, alloc, 1, job),
-    );
-    same(&rt, least_rank(first, second), Some(10));
-    let (first, second) = (node(&rt, alloc, 3, job), node(&rt, alloc, 4, job));
-    let mut numbers = [4, 3, 5, 6].iter();
-    for job in made(&rt, hand_over(&rt, alloc, first, second)) {
-        same(&rt, Some(&job.id()), numbers.next());
-    }
-    let (first, second) = (node(&rt, alloc, 5, job), node(&rt, alloc, 6, job));
-    if let Some(batch) = made(&rt, send(alloc, first, second)) {
-        for job in batch {
-            same(&rt, Some(&job.id()), numbers.next());
-        }
-    }
-    same(&rt, numbers.next(), None);
+    let first = node(&rt, alloc, 2, Job { rank: 20 });
+    same(&rt, least_rank(first, node(&rt, alloc, 1, job)), Some(10));
+    come_in_order(&rt, alloc, job);
     let (near, far) = (node(&rt, alloc, 7, job), node(&rt, alloc, 8, job));
     let back = made(&rt, give_back(alloc, near, far));
     same(&rt, number(back), Some(7));
