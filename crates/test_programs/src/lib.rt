@@ -1,5 +1,4 @@
-//! Tests of the programs to copy, for one thread and for several, and of disk queues: that they end, in which order
-//! things come, and what is dropped.
+//! Tests of the programs to copy for one thread: that they end, in which order things come, and what is dropped.
 #![tactic(auto)]
 
 #[cfg(test)]
@@ -9,25 +8,11 @@ mod compared;
 #[cfg(test)]
 mod connections;
 #[cfg(test)]
-mod disks;
-#[cfg(test)]
 mod examples;
-#[cfg(test)]
-mod logs;
 #[cfg(test)]
 mod made;
 #[cfg(test)]
-mod mailboxes;
-#[cfg(test)]
-mod pools;
-#[cfg(test)]
-mod run_queues;
-#[cfg(test)]
-mod schedules;
-#[cfg(test)]
 mod task_ways;
-#[cfg(test)]
-mod timer_orders;
 #[cfg(test)]
 mod tours;
 #[cfg(test)]

@@ -5,7 +5,7 @@ use Rattle.test_support.specs.declared.counted.Counted.{Counted}
 use Rattle.cordyceps_shared_uses.specs.declared.timers.Timer.{Timer}
 use Rattle.cordyceps_shared_uses.specs.Timers.{new_timer, not_before}
 use Rattle.cordyceps_shared_uses.proofs.Started.{started_taken}
-use Rattle.test_programs.proofs.timer_orders.start.Goals as goal
+use Rattle.test_schedulers.proofs.timer_orders.start.Goals as goal
 
 pub returns : goal.returns
 returns g c =

@@ -1,5 +1,5 @@
 use Rattle.std.proofs.Common.{◌≡◌, length}
-use Rattle.test_programs.proofs.schedules.tasks.Given as goal
+use Rattle.test_schedulers.proofs.schedules.tasks.Given as goal
 
 abbrev pub invariant-loop-number : goal.invariant-loop-number
 invariant-loop-number g l = length l.tasks ≡ l.number

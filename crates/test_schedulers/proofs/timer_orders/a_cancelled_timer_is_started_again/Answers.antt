@@ -1,5 +1,5 @@
 use Rattle.cordyceps.proofs.Spots.Reached.{taken_has}
-use Rattle.test_programs.proofs.timer_orders.a_cancelled_timer_is_started_again.Goals as goal
+use Rattle.test_schedulers.proofs.timer_orders.a_cancelled_timer_is_started_again.Goals as goal
 
 pub cancel-cancelled-requires : goal.cancel-cancelled-requires
 cancel-cancelled-requires g c = taken_has _ _ _ _ c.start-spot.ensures.1

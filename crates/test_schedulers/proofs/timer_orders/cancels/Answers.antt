@@ -1,6 +1,6 @@
 use Rattle.cordyceps.proofs.Spots.Reached.{taken_has}
 use Rattle.cordyceps_shared_uses.proofs.Started.{left_has}
-use Rattle.test_programs.proofs.timer_orders.cancels.Goals as goal
+use Rattle.test_schedulers.proofs.timer_orders.cancels.Goals as goal
 
 pub cancel-cancelled-requires : goal.cancel-cancelled-requires
 cancel-cancelled-requires g c =
