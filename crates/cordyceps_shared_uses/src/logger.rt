@@ -262,10 +262,7 @@ fn start_storing<'s, E, R: Wait + Sync>(
         requires { IsSync R.row × (storer.table ≡ queue.now.table) × (1 ≤ max) }
         ensures { IfSome result.log (λ log. Moves record_of [] log.items storer result.party) }
     { store_until_end(rt, alloc, queue, storer, parker, have_ended, max) };
-    match scope.spawn_with(promise, store_on) {
-        Ok(started) => Ok(started),
-        Err(_) => Err(AllocError),
-    }
+    Ok(scope.spawn_with(promise, store_on)?)
 }
 
 /// Sends the records of each producer on a thread of its own, while one thread stores them. If no thread can be started

@@ -261,10 +261,7 @@ fn start_receiving<'s, E, R: Wait + Sync>(
         requires { IsSync R.row × (receiver.table ≡ queue.now.table) }
         ensures { IfSome result.received (λ all. Moves value_of [] all.items receiver result.party) }
     { receive(rt, alloc, queue, receiver, parker, have_ended) };
-    match scope.spawn_with(promise, receive_on) {
-        Ok(started) => Ok(started),
-        Err(_) => Err(AllocError),
-    }
+    Ok(scope.spawn_with(promise, receive_on)?)
 }
 
 /// Sends each list on a thread of its own, while one thread receives. If no thread can be started to receive, nothing

@@ -196,10 +196,7 @@ fn start_worker<'s, E, R: Wait + Sync>(
         requires { IsSync R.row × (party.table ≡ queue.now) }
         ensures { Worked result.done party result.party }
     { work(rt, queue, party, &parker, have_ended) };
-    match scope.spawn_with(promise, work_on) {
-        Ok(started) => Some(started),
-        Err(_) => None,
-    }
+    scope.spawn_with(promise, work_on).ok()
 }
 
 /// What the three threads return: the submitter's party, and what each worker has done.

@@ -229,10 +229,7 @@ fn start_dispatcher<'s, E, L: Run + Send + Sync, R: Wait + Sync>(
         requires { IsSync R.row × (from.party.table ≡ queue.now.table) × IsOpen L.accounts from.account }
         ensures { Came from.account result.account from.party result.party }
     { dispatch_all(rt, queue, from, shared, &parker) };
-    match scope.spawn_with(promise, dispatch_on) {
-        Ok(started) => Some(started),
-        Err(_) => None,
-    }
+    scope.spawn_with(promise, dispatch_on).ok()
 }
 
 /// Starts a worker on a thread of a scope. Returns `None` if the thread cannot be started.
@@ -250,10 +247,7 @@ fn start_worker<'s, E, L: Run + Send + Sync, R: Wait + Sync>(
     let work_on = move || -> Worked<L>
         requires { IsSync R.row × IsOpen L.accounts mine × Holds mine [] }
     { work(rt, shared, mine, &parker, turns) };
-    match scope.spawn(work_on) {
-        Ok(started) => Some(started),
-        Err(_) => None,
-    }
+    scope.spawn(work_on).ok()
 }
 
 /// The dispatcher and the workers, each on a thread that was started.

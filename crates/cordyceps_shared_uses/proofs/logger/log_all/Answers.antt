@@ -34,10 +34,10 @@ exchange-requires-clause-sender g c κs within =
 pub returns : goal.returns
 returns g c =
     let new = gave_new c.in_ok-queue.queue.table c.args.rooms c.args.rooms c.give_back.result c.in_ok-queue.storer c.give_back.new.party c.in_ok-queue.ensures.1 c.give_back.ensures.answer in
-    let all = delivered record_of new.1 c.split-sender.ensures
+    let (table, share, delivers) = delivered record_of new.1 c.split-sender.ensures
     (subst (λ o. IfSome o (λ log. Moves record_of [] log.items c.split-sender.new.party c.in_ok-both.both.0.party)) c.in-Some.is c.in_ok-both.ensures.stored) c.in_ok-both.ensures.sent
     c.absorb.ensures in
     subst (λ (z : List Record). Delivers (records c.args.producers) z)
     (sym (◌∙◌ {A = List Record} c.in_ok-store.ensures (ap (λ (z : List (Element Record)). c.in-Some.log.items ++ map record_of z)
     (◌∙◌ {A = List (Element Record)} c.close.ensures.elements (map-id (held (plain c.absorb.new.party.seen)))))))
-    all.2
+    delivers

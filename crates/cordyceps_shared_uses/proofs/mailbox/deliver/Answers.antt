@@ -34,12 +34,12 @@ exchange-requires-clause-sender g c κs within =
 pub returns : goal.returns
 returns g c =
     let new = gave_new c.in_ok-queue.queue.table c.args.rooms c.args.rooms c.give_back.result c.in_ok-queue.receiver c.give_back.new.party c.in_ok-queue.ensures.1 c.give_back.ensures.answer in
-    let all = delivered value_of new.1 c.split-sender.ensures
+    let (table, share, delivers) = delivered value_of new.1 c.split-sender.ensures
     (subst (λ o. IfSome o (λ z. Moves value_of [] z.items c.split-sender.new.party c.in_ok-both.both.0.party)) c.in-Some.is c.in_ok-both.ensures.received) c.in_ok-both.ensures.sent
     c.absorb.ensures in
     record {
       delivers = subst (λ (z : List ℕ). Delivers (contents c.args.lists.now) z)
           (sym (◌∙◌ {A = List ℕ} c.in_ok-note_all.ensures (ap (λ (z : List (Element Message)). c.in-Some.messages.items ++ map value_of z)
           (◌∙◌ {A = List (Element Message)} c.close.ensures.elements (map-id (held (plain c.absorb.new.party.seen)))))))
-          all.2;
+          delivers;
     }
