@@ -1,6 +1,7 @@
 -- Lemmas for users of shared collections, as the crates below prove them.
 pub use Rattle.cordyceps_shared.proofs.Acting
 pub use Rattle.cordyceps_shared.proofs.Adding
+pub use Rattle.cordyceps_shared.proofs.Balancing
 pub use Rattle.cordyceps_shared.proofs.Counting
 pub use Rattle.cordyceps_shared.proofs.NameHalves
 pub use Rattle.cordyceps_shared.proofs.Interleaving

@@ -5,6 +5,7 @@ pub use Rattle.cordyceps_queue.proofs.SharedTheory.CallsHold
 pub use Rattle.cordyceps_queue.proofs.SharedTheory.CloseTakesAll
 pub use Rattle.cordyceps_queue.proofs.SharedTheory.OthersDoing
 pub use Rattle.cordyceps_queue.proofs.SharedTheory.OwnNames
+pub use Rattle.cordyceps_queue.proofs.SharedTheory.PartyBalances
 pub use Rattle.cordyceps_queue.proofs.SharedTheory.PartyMoves
 pub use Rattle.cordyceps_queue.proofs.SharedTheory.Sending
 pub use Rattle.cordyceps_queue.proofs.SharedTheory.WaitingTries

@@ -11,6 +11,7 @@ pub mod OthersDoing
 pub mod OwnNames
 pub mod PartingKeeps
 pub mod PartsJoin
+pub mod PartyBalances
 pub mod PartyMoves
 pub mod PartySeats
 pub mod PoolCalls

@@ -1,5 +1,5 @@
 -- What holds of two lists holds of their interleavings.
-use Rattle.std.proofs.Common.{◌≡◌, ℕ, ◌+◌, List, [], ◌∷◌, ◌++◌, flat_map, refl, sym, ap, ◌∙◌, subst, inl, inr, arith}
+use Rattle.std.proofs.Common.{◌≡◌, ℕ, ◌+◌, List, [], ◌∷◌, ◌++◌, flat_map, length, refl, sym, ap, ◌∙◌, subst, inl, inr, arith}
 use Rattle.std.proofs.lemmas.List.Sorted.{IsPermutation-refl, IsPermutation-cons, IsPermutation-middle, IsPermutation-trans}
 use Rattle.std.specs.List.Sorted.{IsPermutation}
 use Rattle.cordyceps_shared.specs.Counts.{tally}
@@ -48,6 +48,12 @@ module _ {A : Type 0} where
   tally_interleaved f xs ys [] h = let first = ap (tally f) h.0 in let second = ap (tally f) h.1 in omega arith
   tally_interleaved f xs ys (z ∷ zs) (inl h) = let first = ap (tally f) h.1 in omega (arith, tally_interleaved f h.0 ys zs h.2)
   tally_interleaved f xs ys (z ∷ zs) (inr h) = let second = ap (tally f) h.1 in omega (arith, tally_interleaved f xs h.0 zs h.2)
+
+  pub length_interleaved : (xs ys zs : List A) → Interleaves xs ys zs → length zs ≡ length xs + length ys
+  length_interleaved xs ys [] h =
+      let first = ap (λ (k : List A). length k) h.0 in let second = ap (λ (k : List A). length k) h.1 in omega arith
+  length_interleaved xs ys (z ∷ zs) (inl h) = let first = ap (λ (k : List A). length k) h.1 in omega (arith, length_interleaved h.0 ys zs h.2)
+  length_interleaved xs ys (z ∷ zs) (inr h) = let second = ap (λ (k : List A). length k) h.1 in omega (arith, length_interleaved xs h.0 zs h.2)
 
   pub interleaved_permutes : (xs ys zs : List A) → Interleaves xs ys zs → IsPermutation (xs ++ ys) zs
   interleaved_permutes xs ys [] e = subst (λ (p : List A × List A). IsPermutation (p.0 ++ p.1) []) (λ i. (sym e.0 i, sym e.1 i)) (IsPermutation-refl [])

@@ -1,6 +1,7 @@
 pub mod Absorbs
 pub mod Acting
 pub mod Adding
+pub mod Balancing
 pub mod ChangedItems
 pub mod Choices
 pub mod Counting

@@ -1,5 +1,5 @@
 -- What a party did, whatever else it saw.
-use Rattle.std.specs.Prelude.{◌≡◌, List, ◌++◌, flat_map, Bool}
+use Rattle.std.specs.Prelude.{◌≡◌, ℕ, ◌+◌, List, ◌++◌, flat_map, length, Bool}
 use Rattle.cordyceps_shared.specs.Histories.{own}
 use Rattle.cordyceps_shared.specs.Standings.{Standing}
 
@@ -15,10 +15,15 @@ module _ {X : Type 0} where
 
 -- puts and takes: what an event put in, and what it took out
 module _ {X A : Type 0} (puts takes : X → List A) where
-  -- from u to w the party put in the first list and took out the second, each in this order. It says nothing of rooms,
-  -- which also come from the pool and go there
+  -- from u to w the party put in the first list and took out the second, each in this order. It says nothing of rooms
   pub record Moves (sent got : List A) (u w : Standing X) : Type 0 where
     pub events : List X
     pub acts : Acts u events w
     pub put_in : flat_map puts events ≡ sent
     pub took_out : flat_map takes events ≡ got
+
+  -- the same, with its rooms: each element that it put in took one, and each that it took out gave one. Besides these it
+  -- drew so many from the pool, and gave so many to it
+  pub record Balances (sent got : List A) (drawn given : ℕ) (u w : Standing X) : Type 0 where
+    pub moves : Moves sent got u w
+    pub rooms : w.rooms + length sent + given ≡ u.rooms + length got + drawn

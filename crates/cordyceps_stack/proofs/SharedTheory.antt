@@ -5,6 +5,7 @@ pub mod ChainKeeps
 pub mod OrderHolds
 pub mod PartingKeeps
 pub mod PartsJoin
+pub mod PartyBalances
 pub mod PartyMoves
 pub mod PoolJoins
 pub mod PoolKeeps

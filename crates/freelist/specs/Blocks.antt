@@ -1,5 +1,5 @@
 -- The blocks of a free list, and what its calls do to them.
-use Rattle.std.specs.Prelude.{◌≡◌, List, [], ◌∷◌, map, Option, Some, None}
+use Rattle.std.specs.Prelude.{◌≡◌, List, [], ◌∷◌, ◌++◌, map, reverse, Option, Some, None}
 use Rattle.cordyceps_base.specs.Element.{Element}
 use Rattle.cordyceps_stack.specs.Shared.Calls.{PartyOf, Takes}
 
@@ -19,3 +19,8 @@ module _ {T H : Type 0} (element : H → Element T) where
   GetsFrom [] party result after =
       (batch : List H) × Takes batch party after.party × GivesFirst (map element batch) result after.blocks
   GetsFrom (b ∷ bs) party result after = (after.party ≡ party) × GivesFirst (b ∷ bs) result after.blocks
+
+  -- the party took all that was shared at once, and it came before the blocks, what was put back first at the front
+  abbrev pub TakesShared : List (Element T) → PartyOf H → LocalOf T H → Type 0
+  TakesShared blocks party after =
+      (batch : List H) × Takes batch party after.party × (after.blocks ≡ reverse (map element batch) ++ blocks)

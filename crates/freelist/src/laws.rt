@@ -8,7 +8,7 @@ ghost use Rattle.freelist.specs.Users.{Life, all_parties, Met, EachOnce};
 ghost use Rattle.freelist.specs.declared.laws.Command.TheVariants as kinds;
 
 use crate::free_list::FreeList;
-use crate::local::Local;
+use crate::local::{Local, pile};
 use cordyceps_base::linked::Linked;
 use cordyceps_base::stack::Links;
 use cordyceps_stack::stack::{Party, Stack};
@@ -59,16 +59,6 @@ impl<'a, T: Linked<Links<T>>> Model for User<'a, T> {
         record { table = u.list.now; hand = u.hand; local = u.local; party = u.party; spare = u.spare } };
 
     ghost invariant = { λ u. AreAt u.list.now u.party u.local u.spare };
-}
-
-/// Pushes the blocks of one stack onto another, in the order in which they are popped.
-fn pile<T: Linked<Links<T>>>(hand: &mut Stack<T>, blocks: Stack<T>)
-    ensures { hand.new ≡ reverse blocks ++ hand.old }
-{
-    let mut blocks = blocks;
-    while let Some(handle) = blocks.pop() {
-        hand.push(handle);
-    }
 }
 
 impl<'a, T: Linked<Links<T>>> User<'a, T> {

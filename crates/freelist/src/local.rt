@@ -1,9 +1,9 @@
 //! The part of a free list that one owner has.
-ghost use Rattle.std.specs.Prelude.{◌≡◌, [], ◌∷◌, false};
+ghost use Rattle.std.specs.Prelude.{◌≡◌, [], ◌∷◌, ◌++◌, reverse, false};
 ghost use Rattle.cordyceps_shared.specs.Standings.{GivesBack};
 ghost use Rattle.cordyceps_stack.specs.Shared.Calls.{LacksRooms};
 ghost use Rattle.cordyceps_shared.specs.Shares.{whole};
-ghost use Rattle.freelist.specs.Blocks.{GetsFrom};
+ghost use Rattle.freelist.specs.Blocks.{GetsFrom, TakesShared};
 
 use cordyceps_base::linked::Linked;
 use cordyceps_base::stack::Links;
@@ -47,6 +47,16 @@ impl<'a, T: Linked<Links<T>>> Model for Local<'a, T> {
     ghost invariant = { λ l. l.party.table ≡ l.shared.now };
 }
 
+/// Pushes the blocks of one stack onto another, in the order in which they are popped.
+pub(crate) fn pile<T: Linked<Links<T>>>(hand: &mut Stack<T>, blocks: Stack<T>)
+    ensures { hand.new ≡ reverse blocks ++ hand.old }
+{
+    let mut blocks = blocks;
+    while let Some(handle) = blocks.pop() {
+        hand.push(handle);
+    }
+}
+
 impl<'a, T: Linked<Links<T>>> Local<'a, T> {
     /// Creates a local part without blocks.
     pub(crate) fn new(shared: &'a TransferStack<T>, party: Party<T>) -> Local<'a, T>
@@ -77,6 +87,24 @@ impl<'a, T: Linked<Links<T>>> Local<'a, T> {
         }
         self.blocks = self.shared.take_all(&mut self.party);
         self.blocks.pop()
+    }
+
+    /// Takes all shared blocks and puts them before the local ones. Of these, the block that was put back first comes
+    /// out first. The party gets their rooms, which `give_back` can then give to those who put blocks back.
+    ///
+    /// `get` takes shared blocks only when no local one is left. So an owner that does not get that far calls this from
+    /// time to time, if other parties wait for rooms.
+    ///
+    /// # Complexity
+    /// O(n), for n shared blocks: one swap of the head, and two walks through them.
+    ///
+    /// # Waits
+    /// Never.
+    pub fn take_shared(&mut self)
+        ensures { TakesShared T.element self.old.blocks self.old.party self.new }
+    {
+        let shared = self.shared.take_all(&mut self.party);
+        pile(&mut self.blocks, shared);
     }
 
     /// Puts a block back, without an atomic step.

@@ -107,6 +107,31 @@ fn rooms_of_taken_blocks_come_back(rt: HostRuntime) {
     dropped(&rt, &drops, 2);
 }
 
+// The owner has blocks of its own, so `get` takes nothing that is shared. It takes that in, and its rooms come back.
+#[test]
+fn an_owner_with_blocks_takes_in_what_is_shared(rt: HostRuntime) {
+    let drops = no_drops(&rt, rt.alloc());
+    let own = pair(&rt, rt.alloc(), 1, &drops);
+    let (three, four) = pair(&rt, rt.alloc(), 3, &drops);
+    let five = made(&rt, block(rt.alloc(), 5, &drops));
+    let (list, party) = made(&rt, FreeList::new(rt.alloc(), 2));
+    let mut owner = Remote::at(&list, party);
+    let mut remote = owner.split(&rt, 2);
+    let mut local = owner.local();
+    puts_own(&mut local, own);
+    remote.puts(&rt, three, true);
+    remote.puts(&rt, four, false);
+    same(&rt, (local.give_back(), remote.refill()), (true, 0));
+    local.take_shared();
+    same(&rt, (local.give_back(), remote.refill()), (true, 2));
+    remote.puts(&rt, five, true);
+    let wanted = [Some(3), Some(4), Some(2), Some(1), Some(5), None];
+    gets(&rt, &mut local, &wanted);
+    finishes(&rt, local, 1);
+    same(&rt, remote.rooms(), 1);
+    dropped(&rt, &drops, 5);
+}
+
 // A party uses its own room and leaves the pool alone, then takes the two rooms there; another finds none.
 #[test]
 fn blocks_are_put_back_into_rooms_of_the_pool(rt: HostRuntime) {

@@ -1,5 +1,5 @@
 -- What a party put in and took out in several calls.
-use Rattle.std.specs.Prelude.{List, [], ◌∷◌, map, reverse}
+use Rattle.std.specs.Prelude.{ℕ, List, [], ◌∷◌, map, reverse}
 use Rattle.cordyceps_shared.specs.Acting as parties
 use Rattle.cordyceps_stack.specs.History.{Event, Push, Taken}
 use Rattle.cordyceps_stack.specs.Shared.Calls.{PartyOf}
@@ -19,3 +19,7 @@ module _ {E A : Type 0} (f : E → A) where
   -- second, each in this order, and each batch oldest first
   abbrev pub Moves : List A → List A → PartyOf E → PartyOf E → Type 0
   Moves sent got u w = parties.Moves put_by got_by sent got u w
+
+  -- the same, with the rooms that the party drew from the pool, and those that it gave to it
+  abbrev pub Balances : List A → List A → ℕ → ℕ → PartyOf E → PartyOf E → Type 0
+  Balances sent got drawn given u w = parties.Balances put_by got_by sent got drawn given u w

@@ -1,5 +1,5 @@
 use Rattle.std.proofs.Common.{◌≡◌, ◌++◌, reverse, length}
-use Rattle.freelist.proofs.laws.pile.Given as goal
+use Rattle.freelist.proofs.local.pile.Given as goal
 
 abbrev pub invariant-loop-handle : goal.invariant-loop-handle
 invariant-loop-handle g l = reverse l.blocks ++ l.hand ≡ reverse l.initial.blocks ++ l.initial.hand
