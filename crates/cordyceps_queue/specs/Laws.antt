@@ -1,11 +1,15 @@
 -- What every legal history says, and that histories say the same read from either end.
-use Rattle.std.specs.Prelude.{◌≡◌, ℕ, suc, ◌⊎◌, List, [], ◌∷◌, ◌++◌, map, flat_map, reverse, Bool, true}
-use Rattle.std.specs.Prelude.{Some, Err, ◌↔◌}
-use Rattle.cordyceps_shared.specs.Histories.{plain}
+use Rattle.std.specs.Prelude.{◌≡◌, ℕ, suc, ◌+◌, ◌≤◌, ◌⊎◌, List, [], ◌∷◌, ◌++◌, length, map, flat_map, reverse, Bool, true}
+use Rattle.std.specs.Prelude.{Result, Some, Err, ◌↔◌}
+use Rattle.atomic_table.specs.Seated.{TableId}
+use Rattle.cordyceps_shared.specs.Histories.{plain, AllOwn}
 use Rattle.cordyceps_shared.specs.Shares.{Name, IsOf}
-use Rattle.cordyceps_shared.specs.Standings.{name_of}
+use Rattle.cordyceps_shared.specs.Standings.{name_of, new_party, GivesBack}
+use Rattle.cordyceps_queue.specs.declared.cores.steps.TryDequeueError.{TryDequeueError}
 use Rattle.cordyceps_queue.specs.declared.cores.steps.TryDequeueError.TheVariants as error
 use Rattle.cordyceps_queue.specs.Shared.Calls.{PartyOf, Legal, NonePending, NoneHolds, Adds, Dequeues, Consumes}
+use Rattle.cordyceps_queue.specs.Shared.Calls.{Enqueues, Refills}
+use Rattle.cordyceps_queue.specs.Shared.Moves.{Balances, got_by_try}
 use Rattle.cordyceps_queue.specs.History as told
 use Rattle.cordyceps_queue.specs.History.{Event, Take, Busy, actor, comes, went, held, holder, count_of, is_take, is_free}
 use Rattle.cordyceps_queue.specs.Past as past
@@ -110,3 +114,23 @@ abbrev pub BlockedTryIsAnothers : Type 0 → Type 0
 BlockedTryIsAnothers E =
     (u w : PartyOf E) → Legal (plain u.seen) → NonePending u.share (plain u.seen) →
     (d : Consumes (Err error.Inconsistent) u w) → IsOf u.share d.prefix.blocked.by → ⊥
+
+-- what each call makes of a party's rooms
+pub record CallsBalance (E : Type 0) : Type 0 where
+  pub enqueue : (e : E) (u w : PartyOf E) → Enqueues e u w → Balances (λ x. x) (e ∷ []) [] 0 0 u w
+  pub dequeue : (r : Result E TryDequeueError) (u w : PartyOf E) → Dequeues r u w →
+      Balances (λ x. x) [] (got_by_try (λ x. x) r) 0 0 u w
+  pub consume : (r : Result E TryDequeueError) (u w : PartyOf E) → Consumes r u w →
+      Balances (λ x. x) [] (got_by_try (λ x. x) r) 0 0 u w
+  pub refill : (n : ℕ) (u w : PartyOf E) → Refills n u w → Balances (λ x. x) [] [] n 0 u w
+  pub give_back : (n : ℕ) (u w : PartyOf E) → n ≤ u.rooms → GivesBack n true u w → Balances (λ x. x) [] [] 0 n u w
+  pub in_turn : (s g t h : List E) (d r e q : ℕ) (u v w : PartyOf E) → Balances (λ x. x) s g d r u v →
+      Balances (λ x. x) t h e q v w → Balances (λ x. x) (s ++ t) (g ++ h) (d + e) (r + q) u w
+
+-- after any calls by the party of a new queue of k rooms, if each event is its own: its rooms, those of the elements that
+-- are held, and those that it gave to the pool are k and those that it drew from there
+abbrev pub NoRoomIsLost : Type 0 → Type 0
+NoRoomIsLost E =
+    (k : ℕ) (id : TableId) (w : PartyOf E) (sent got : List E) (drawn given : ℕ) →
+    Balances (λ x. x) sent got drawn given (new_party id k) w → Legal (plain w.seen) → AllOwn w.seen →
+    w.rooms + length (held (plain w.seen)) + given ≡ k + drawn

@@ -6,6 +6,7 @@ ghost use Rattle.cordyceps_shared.specs.Shares.{whole};
 ghost use Rattle.cordyceps_queue.specs.History.{held};
 ghost use Rattle.cordyceps_queue.specs.Laws.{LegalBothWays, BlockedBothWays, WasBlockedBothWays, ProducersInOrder, OneHolder};
 ghost use Rattle.cordyceps_queue.specs.Laws.{BusyIsAnothers, BlockedIsAnothers, BlockedTryIsAnothers};
+ghost use Rattle.cordyceps_queue.specs.Laws.{CallsBalance, NoRoomIsLost};
 ghost use Rattle.cordyceps_queue.specs.Cores.Machine.{after_step};
 ghost use Rattle.cordyceps_queue.specs.declared.cores.steps.QueueAnswer.TheVariants as answers;
 ghost use Rattle.cordyceps_queue.specs.declared.cores.steps.QueueStep.TheVariants as kinds;
@@ -56,6 +57,16 @@ pub fn others_doing<E>()
     ensures busy { BusyIsAnothers E }
     ensures blocked { BlockedIsAnothers E }
     ensures blocked_try { BlockedTryIsAnothers E }
+{}
+
+/// States how the rooms of a party add up over its calls: each element that it puts in takes a room, each that it takes
+/// out gives one, and the others come from the pool or go there. So by the calls of a whole party no room is lost.
+///
+/// # Complexity
+/// O(1): it does nothing.
+pub fn rooms_balance<E>()
+    ensures calls { CallsBalance E }
+    ensures none_lost { NoRoomIsLost E }
 {}
 
 /// Enqueues the elements of a batch by a whole party, and closes the queue. They leave in order after those that were

@@ -1,3 +1,4 @@
 pub mod Cores
 pub mod History
+pub mod Laws
 pub mod Shared

@@ -2,6 +2,7 @@
 #![tactic(auto)]
 
 mod cores;
+pub mod laws;
 mod shared;
 pub mod sorted_list;
 pub mod stack;

@@ -1,10 +1,13 @@
 -- What each call makes of a party's rooms, and that none is lost.
-use Rattle.std.proofs.Common.{ℕ, List, [], ◌∷◌, map, reverse, arith}
-use Rattle.std.proofs.lemmas.List.{length-map, length-reverse}
-use Rattle.std.specs.Prelude.{Bool}
+use Rattle.std.proofs.Common.{ℕ, List, [], ◌∷◌, map, reverse, Bool, true, subst, arith}
+use Rattle.std.proofs.lemmas.List.{map-id, length-map, length-reverse}
+use Rattle.cordyceps_shared.specs.Histories.{plain}
+use Rattle.cordyceps_shared.proofs.Balancing.{balances_then, balances_given, balances_whole}
+use Rattle.cordyceps_stack.specs.History.{held, Legal}
+use Rattle.cordyceps_stack.specs.Laws.{CallsBalance, NoRoomIsLost}
 use Rattle.cordyceps_stack.specs.Shared.Calls.{PartyOf, PushesAt, PushesAllAt, PushesRefilled, Misses, MissesRefilled, Takes, Refills}
-use Rattle.cordyceps_stack.specs.Shared.Moves.{Balances}
-use Rattle.cordyceps_stack.proofs.SharedTheory.PartyMoves.{moves_push, moves_push_all, moves_miss, moves_refilled, moves_miss_refilled, moves_refill, moves_take}
+use Rattle.cordyceps_stack.specs.Shared.Moves.{Balances, put_by, got_by}
+use Rattle.cordyceps_stack.proofs.SharedTheory.PartyMoves.{all_kept, moves_push, moves_push_all, moves_miss, moves_refilled, moves_miss_refilled, moves_refill, moves_take}
 
 module _ {E A : Type 0} (f : E → A) where
   pub balances_push : (n : ℕ) (e : E) (first : Bool) (u w : PartyOf E) → PushesAt n e first u w → Balances f (f e ∷ []) [] 0 0 u w
@@ -34,3 +37,23 @@ module _ {E A : Type 0} (f : E → A) where
     moves = moves_take f batch u w c;
     rooms = omega (arith, c.1, length-map (reverse batch) f, length-reverse batch);
   }
+
+-- ---- all calls, and a party whose events are all its own
+module _ {E : Type 0} where
+  pub calls_balance : CallsBalance E
+  calls_balance = record {
+    push = balances_push (λ x. x);
+    push_all = λ n es first u w c. subst (λ z. Balances (λ x. x) z [] 0 0 u w) (map-id (reverse es)) (balances_push_all (λ x. x) n es first u w c);
+    miss = balances_miss (λ x. x);
+    take_all = λ batch u w c. subst (λ z. Balances (λ x. x) [] z 0 0 u w) (map-id (reverse batch)) (balances_take (λ x. x) batch u w c);
+    refill = balances_refill (λ x. x);
+    give_back = λ n u w room gave. balances_given (put_by (λ x. x)) (got_by (λ x. x)) n true u w room gave;
+    in_turn = balances_then (put_by (λ x. x)) (got_by (λ x. x));
+  }
+
+  pub no_room_is_lost : NoRoomIsLost E
+  no_room_is_lost k id w sent got drawn given b legal alone =
+      let left = held (plain w.seen) in
+      let all = balances_whole (put_by (λ x. x)) (got_by (λ x. x)) (λ h. Legal h) (λ h. map (λ x. x) (held h)) (λ h l. all_kept (λ x. x) h l) k id w sent got drawn given b legal alone in
+      let as_many = length-map left (λ x. x) in
+      omega (arith, all, as_many)
