@@ -4,8 +4,6 @@
 pub mod addresses;
 mod asked;
 mod cursor;
-mod merging;
-mod placing;
 mod renewing;
 pub mod stable_list;
 pub mod stable_sorted_list;
