@@ -6,5 +6,6 @@ mod Numbers
 mod Pops
 mod Puts
 mod Renewals
+mod Retimed
 mod Rows
 mod Spreads

@@ -3,6 +3,7 @@
 ghost use Rattle.std.specs.Prelude.{◌≡◌, ℕ, ◌<◌, ◌≤◌, ◌==◌, [], ◌∷◌, ◌++◌, length, max, MatchOption, MatchResult, ◌⊎◌};
 ghost use Rattle.std.specs.List.Sorted.{IsPermutation};
 ghost use Rattle.std.specs.Fn.{FnOnceReturnsAtMut};
+ghost use Rattle.std.specs.List.{AllByRecursion};
 ghost use Rattle.std.specs.Ordering.{nat_cmp};
 ghost use Rattle.std.specs.declared.cmp.Ordering.{Ordering};
 ghost use denote.RawPtr.{Ptr};
@@ -48,14 +49,18 @@ use std::marker::Model;
 /// # Examples
 /// From `timers::Timers::restart` of `cordyceps_shared_uses`:
 /// ```
-/// let deadline = timer.get().deadline.max(self.queue.now());
-/// timer.get_mut().deadline = deadline;
+/// if self.queue.len() == usize::MAX {
+///     return Err(timer);
+/// }
 /// Ok(self.queue.push(timer))
 /// ```
 ///
 /// From `timers::Timers::stop_due` of `cordyceps_shared_uses`:
 /// ```
-/// self.queue.pop_due(now)
+/// let first = self.queue.pop_due(now);
+/// let clock = self.queue.now();
+/// self.queue.set_times(NotBefore { clock });
+/// first
 /// ```
 #[derive(Drop)]
 pub struct ClockQueue<T, O: Times<T>> {
@@ -107,6 +112,26 @@ impl<T: Linked<Links<T>>, O: Times<T>> ClockQueue<T, O> {
     {
         let ClockQueue { clock, .. } = self;
         *clock
+    }
+
+    /// Replaces the function of times by `time`. Requires that this returns the same time as the old one for each value
+    /// that the old one makes due at the clock or later. So each element stays due when it was.
+    ///
+    /// # Complexity
+    /// O(1).
+    pub fn set_times(&mut self, time: O)
+    where
+        O: Drop,
+        requires callable { O.can_compute self.old.time }
+        requires same { (of anew : T → ℕ) → O.computes_by self.old.time of → O.computes_by time anew
+            → (value : T) → self.old.clock ≤ of value → anew value ≡ of value }
+        ensures nodes { self.new.nodes ≡ self.old.nodes }
+        ensures now { self.new.clock ≡ self.old.clock }
+        ensures time { self.new.time ≡ time }
+        ensures due { (of anew : T → ℕ) → O.computes_by self.old.time of → O.computes_by time anew
+            → AllByRecursion (λ n. anew n.1.value ≡ of n.1.value) self.new.nodes }
+    {
+        self.time = time;
     }
 
     /// Returns the number of elements.

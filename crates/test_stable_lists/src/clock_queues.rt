@@ -23,6 +23,8 @@ enum Call {
     PopDue(u64),
     /// Reads the time of the element that is due first.
     Front,
+    /// Replaces the function of times by an equal one.
+    SetTimes,
 }
 
 /// The times of elements: their values.
@@ -90,6 +92,10 @@ fn make_call(
         Call::PopFront => Reply::Out(parts(queue.pop_front())),
         Call::PopDue(now) => Reply::Out(parts(queue.pop_due(*now))),
         Call::Front => Reply::Read(first_time(queue)),
+        Call::SetTimes => {
+            queue.set_times(ByValue);
+            Reply::Read(first_time(queue))
+        }
     }
 }
 
@@ -134,6 +140,7 @@ const CALLS: &[(Call, Reply, usize, u64)] = &[
     (Call::PopFront, Reply::Out(Some((5, 3))), 4, 3),
     (Call::PopFront, Reply::Out(Some((8, 3))), 3, 3),
     (Call::TryPush((9, 2)), Reply::Out(Some((9, 2))), 3, 3),
+    (Call::SetTimes, Reply::Read(Some(5)), 3, 3),
     (Call::PopFront, Reply::Out(Some((1, 5))), 2, 5),
     (Call::TryPush((9, u64::MAX)), Reply::Out(None), 3, 5),
     (Call::PopFront, Reply::Out(Some((3, 5))), 2, 5),
