@@ -1,5 +1,5 @@
 -- What accounts of a scheduler hold after a task went in or out, and that all tasks are found again in the end.
-use Rattle.std.proofs.Common.{◌≡◌, ℕ, ◌+◌, ◌-◌, ◌*◌, ◌^◌, ◌≤◌, min, max, Bool, ◌&&◌, true, false, cond, nat_lt, List, [], ◌∷◌, ◌++◌, map, refl, sym, ap, ◌∙◌, subst, eq-eqb, arith}
+use Rattle.std.proofs.Common.{◌≡◌, ℕ, ◌+◌, ◌-◌, ◌*◌, Bool, ◌&&◌, true, false, cond, nat_lt, List, [], ◌∷◌, ◌++◌, map, refl, sym, ap, ◌∙◌, subst, eq-eqb, arith}
 use Rattle.std.specs.Prelude.{Result, Ok, Err, nat_eq}
 use denote.RawPtr.{Ptr}
 use Rattle.cordyceps.specs.Elements.Element.{Element, Elements}
@@ -24,8 +24,8 @@ use Rattle.cordyceps_shared_uses.specs.declared.scheduler.name.Name.{Name}
 use Rattle.cordyceps_shared_uses.specs.declared.scheduler.work.Work.{Work}
 use Rattle.cordyceps_shared_uses.specs.Accounts.{Entries, Moved, Holds, IsOpen, after_getting, after_giving, joined}
 use Rattle.cordyceps_shared_uses.specs.Names.{name_of, names, asleep}
-use Rattle.cordyceps_shared_uses.specs.Scheduler.{all_done, paused}
-use Rattle.cordyceps_shared_uses.specs.Timers.{Running, not_before, started}
+use Rattle.cordyceps_shared_uses.specs.Scheduler.{all_done}
+use Rattle.cordyceps_shared_uses.specs.Timers.{Running, started, time_of}
 use Rattle.cordyceps_shared_uses.specs.Ways.{Seat, Sent, SentAll, Woken, Came, Settles}
 
 -- ---- what is in a place
@@ -39,9 +39,9 @@ module _ (f : Name → ℕ) where
   started_by false x y s t is = omega arith
 
   -- one more sleeps
-  tally_started : (q : Ptr) (t : Element (Timer Work)) (s : Nodes (Timer Work)) → tally f (sleeping (started q t s)) ≡ f (name_of t) + tally f (sleeping s)
-  tally_started q t [] = refl
-  tally_started q t (x ∷ s) = started_by (nat_lt t.value.deadline x.1.value.deadline) x (q, t) s (started q t s) (tally_started q t s)
+  tally_started : (clock : ℕ) (q : Ptr) (t : Element (Timer Work)) (s : Nodes (Timer Work)) → tally f (sleeping (started clock q t s)) ≡ f (name_of t) + tally f (sleeping s)
+  tally_started clock q t [] = refl
+  tally_started clock q t (x ∷ s) = started_by (nat_lt (time_of clock t) (time_of clock x.1)) x (q, t) s (started clock q t s) (tally_started clock q t s)
 
   -- one more waits
   tally_put : (s : Elements (Timer Work)) (e : Element (Timer Work)) → tally f (names (s ++ e ∷ [])) ≡ f (name_of e) + tally f (names s)
@@ -58,17 +58,10 @@ open_moved o m = (m.table ∙ o.0, m.parts ∙ o.1)
 holds_got : {x : Name} {a b : Entries} (xs ys : List Name) → Holds a xs → b ≡ after_getting x a → ((f : Name → ℕ) → tally f ys ≡ f x + tally f xs) → Holds b ys
 holds_got xs ys h e more f = omega (arith, h f, more f, ap (λ (z : Entries). tally f z.got) e, ap (λ (z : Entries). tally f z.gave) e)
 
--- no pause ends before the clock
-pub paused_later : (now clock : ℕ) (t : Element (Timer Work)) → clock ≤ now → now ≤ min (now + t.value.payload.pause) (2 ^ 64 - 1) → not_before clock (paused now t) ≡ paused now t
-paused_later now clock t passed later =
-    let d = min (now + t.value.payload.pause) (2 ^ 64 - 1) in
-    let same : max d clock ≡ d = omega (arith, passed, later) in
-    ap (λ (k : ℕ). record { id = t.id; value = record { deadline = k; payload = t.value.payload } }) same
-
 -- a task went to sleep; its deadline may be another than before
 pub holds_slept : {x : Name} {a b : Entries} (q : Ptr) (t : Element (Timer Work)) (s u : Running Work) → Holds a (asleep s) → b ≡ after_getting x a → x ≡ name_of t
-    → u.nodes ≡ started q t s.nodes → Holds b (asleep u)
-holds_slept q t s u h e same is = holds_got (asleep s) (asleep u) h e (λ f. ap (λ z. tally f (map (λ n. name_of n.1) z)) is ∙ (tally_started f q t s.nodes ∙ ap (λ y. f y + tally f (asleep s)) (sym same)))
+    → u.nodes ≡ started s.clock q t s.nodes → Holds b (asleep u)
+holds_slept q t s u h e same is = holds_got (asleep s) (asleep u) h e (λ f. ap (λ z. tally f (map (λ n. name_of n.1) z)) is ∙ (tally_started f s.clock q t s.nodes ∙ ap (λ y. f y + tally f (asleep s)) (sym same)))
 
 pub holds_put : {x : Name} {a b : Entries} (t : Element (Timer Work)) (s u : Elements (Timer Work)) → Holds a (names s) → b ≡ after_getting x a → x ≡ name_of t
     → u ≡ s ++ t ∷ [] → Holds b (names u)

@@ -21,7 +21,7 @@ ghost use denote.RawPtr.{Ptr};
 ghost use Rattle.cordyceps.specs.Elements.Nodes.{spots};
 ghost use Rattle.cordyceps.specs.Spots.BySpot.{HasSpot, IsTaken};
 ghost use Rattle.cordyceps.specs.Spots.Spots.{AreDistinct};
-ghost use Rattle.cordyceps_shared_uses.specs.Timers.{started, new_timer, not_before, due, first_deadline};
+ghost use Rattle.cordyceps_shared_uses.specs.Timers.{started, new_timer, due, first_time, time_of};
 
 use cordyceps::clock_queue::Times;
 use cordyceps::list::Links;
@@ -56,42 +56,43 @@ impl<L: Kind, P: Drop> Linked<L> for Timer<P> {
 /// A timer that does not run, in a node that `Timers::restart` starts again.
 pub type Stopped<P> = Node<Timer<P>, Links<Timer<P>>>;
 
-/// The times of timers: their deadlines.
+/// The times of timers: their deadlines, or the clock where that is later.
 #[derive(Drop)]
-struct ByDeadline;
+struct NotBefore {
+    clock: u64,
+}
 
-impl<P> Times<Timer<P>> for ByDeadline {
-    ghost computes_by = { λ _ of. of ≡ (λ t. t.deadline) };
+impl<P> Times<Timer<P>> for NotBefore {
+    ghost computes_by = { λ own of. of ≡ (λ t. max t.deadline own.clock) };
 
     ghost can_compute = { λ _. ⊤ };
 
-    ghost computes = { λ _ _. ((λ t. t.deadline), refl) };
+    ghost computes = { λ own _. ((λ t. max t.deadline own.clock), refl) };
 
     fn time(&self, timer: &Timer<P>) -> u64 {
-        timer.deadline
+        timer.deadline.max(self.clock)
     }
 }
 
-/// Timers that run, and a clock. The clock is the latest of the deadlines of those that came out when due and of the
-/// times at which none was due. A deadline before the clock counts as the clock. At most `usize::MAX` timers run.
+/// Timers that run, and a clock. A timer fires at its deadline, or at the clock if its deadline has passed. The clock
+/// is the latest of the times at which timers came out when due and of those at which none was due. At most
+/// `usize::MAX` timers run.
 ///
-/// A contract sees each timer with its spot, the earliest deadline first and equals as they were started, and the
-/// clock.
+/// A timer comes out as it was started, also where its deadline had passed. A contract sees each timer with its spot,
+/// the first to fire first and equals as they were started, and the clock.
 #[derive(Drop)]
 pub struct Timers<P> {
-    queue: ClockQueue<Timer<P>, ByDeadline>,
+    queue: ClockQueue<Timer<P>, NotBefore>,
 }
 
 impl<P> Model for Timers<P> {
-    ghost use Rattle.cordyceps.specs.Elements.Nodes.{spots};
-    ghost use Rattle.cordyceps.specs.Spots.Spots.{AreDistinct};
-    ghost use Rattle.cordyceps_shared_uses.specs.Timers.{InOrder, Running, arranged};
+    ghost use Rattle.cordyceps_shared_uses.specs.Timers.{AreKept, Running, arranged};
 
     ghost Value = { Running P };
 
-    ghost view = { λ t. record { nodes = arranged t.queue.nodes; clock = t.queue.clock } };
+    ghost view = { λ t. record { nodes = arranged t.queue.clock t.queue.nodes; clock = t.queue.clock } };
 
-    ghost invariant = { λ t. InOrder (arranged t.queue.nodes) × AreDistinct (spots t.queue.nodes) };
+    ghost invariant = { λ t. AreKept t.queue.nodes t.queue.clock t.queue.time.clock };
 }
 
 impl<P: Drop> Timers<P> {
@@ -103,11 +104,11 @@ impl<P: Drop> Timers<P> {
         ensures { result ≡ record { nodes = []; clock = 0 } }
     {
         Timers {
-            queue: ClockQueue::new_with_times(ByDeadline),
+            queue: ClockQueue::new_with_times(NotBefore { clock: 0 }),
         }
     }
 
-    /// Returns the clock. A timer that is started with an earlier deadline is due then.
+    /// Returns the clock. A timer that is started with an earlier deadline fires at once.
     ///
     /// # Complexity
     /// O(1).
@@ -117,8 +118,8 @@ impl<P: Drop> Timers<P> {
         self.queue.now()
     }
 
-    /// Starts a timer and returns its spot. It fires after all whose deadline is not later. Allocates one node, whose
-    /// number is the deadline.
+    /// Starts a timer and returns its spot. It fires after all that do not fire later: at its deadline, or at the clock
+    /// if the deadline has passed. Allocates one node, whose number is the deadline.
     ///
     /// # Errors
     /// If memory is refused, or `usize::MAX` timers run, the payload is returned, and the timers are unchanged.
@@ -127,7 +128,7 @@ impl<P: Drop> Timers<P> {
     /// O(1).
     pub fn start(&mut self, alloc: Global, deadline: u64, payload: P) -> Result<Spot, Refused<P>>
         ensures started { IfOk result (λ spot.
-            self.new.nodes ≡ started spot (not_before self.old.clock (new_timer deadline payload)) self.old.nodes) }
+            self.new.nodes ≡ started self.old.clock spot (new_timer deadline payload) self.old.nodes) }
         ensures clock { self.new.clock ≡ self.old.clock }
         ensures kept { OnErr result (self.new ≡ self.old) }
         ensures returned { IfErr result (λ e. e.value ≡ payload) }
@@ -149,8 +150,8 @@ impl<P: Drop> Timers<P> {
         }
     }
 
-    /// Starts a timer in the node that it has and returns its spot. It fires after all whose deadline is not later.
-    /// Allocates nothing.
+    /// Starts a timer in the node that it has and returns its spot. It fires after all that do not fire later: at its
+    /// deadline, or at the clock if the deadline has passed. Allocates nothing.
     ///
     /// # Errors
     /// If `usize::MAX` timers run, the timer is returned, and those that run are unchanged.
@@ -159,7 +160,7 @@ impl<P: Drop> Timers<P> {
     /// O(1).
     pub fn restart(&mut self, timer: Stopped<P>) -> Result<Spot, Stopped<P>>
         ensures started { IfOk result (λ spot.
-            self.new.nodes ≡ started spot (not_before self.old.clock timer) self.old.nodes) }
+            self.new.nodes ≡ started self.old.clock spot timer self.old.nodes) }
         ensures succeeds { length self.old.nodes < usize.MAX → IsOk result }
         ensures clock { self.new.clock ≡ self.old.clock }
         ensures kept { OnErr result (self.new ≡ self.old) }
@@ -169,9 +170,6 @@ impl<P: Drop> Timers<P> {
         if self.queue.len() == usize::MAX {
             return Err(timer);
         }
-        let mut timer = timer;
-        let deadline = timer.get().deadline.max(self.queue.now());
-        timer.get_mut().deadline = deadline;
         Ok(self.queue.push(timer))
     }
 
@@ -188,50 +186,55 @@ impl<P: Drop> Timers<P> {
         self.queue.remove(spot)
     }
 
-    /// Returns the earliest deadline, or `None` if no timer runs.
+    /// Returns the time at which the next timer fires, or `None` if no timer runs. This is the earliest deadline, or
+    /// the clock if that deadline has passed.
     ///
     /// # Complexity
-    /// O(k), for k timers whose deadlines differ from the clock in no higher bit than the earliest one does; at worst
-    /// these are all timers.
+    /// O(k), for k timers whose times differ from the clock in no higher bit than the earliest one does; at worst these
+    /// are all timers.
     pub fn first_deadline(&self) -> Option<u64>
-        ensures { result ≡ first_deadline self.now.nodes }
+        ensures { result ≡ first_time self.now.clock self.now.nodes }
     {
         let first = self.queue.get(self.queue.front()?);
-        Some(first.deadline)
+        Some(first.deadline.max(self.queue.now()))
     }
 
-    /// Removes the earliest timer in its node and returns it, if it is due at the time `now`. The clock is then at its
-    /// deadline. Returns `None` if no timer is due. All timers stay then, and the clock is set to `now`, if that is
-    /// later.
+    /// Removes the first timer in its node and returns it, if it fires at the time `now` or before. The clock is then
+    /// at its deadline, or stays if that had passed. Returns `None` if no timer is due. All timers stay then, and the
+    /// clock is set to `now`, if that is later.
     ///
     /// # Complexity
     /// O(1) amortized, for any number of timers: each is moved at most 64 times before it comes out.
     pub fn stop_due(&mut self, now: u64) -> Option<Stopped<P>>
         ensures stopped { MatchOption result
-            ((self.new.nodes ≡ self.old.nodes) × (due now self.old.nodes ≡ []))
-            (λ t. (spot : Ptr) × (self.old.nodes ≡ (spot, t) ∷ self.new.nodes) × (t.value.deadline ≤ now)) }
+            ((self.new.nodes ≡ self.old.nodes) × (due self.old.clock now self.old.nodes ≡ []))
+            (λ t. (spot : Ptr) × (self.old.nodes ≡ (spot, t) ∷ self.new.nodes)
+            × (time_of self.old.clock t ≤ now)) }
         ensures clock { MatchOption result
             (self.new.clock ≡ max self.old.clock now)
-            (λ t. self.new.clock ≡ t.value.deadline) }
+            (λ t. self.new.clock ≡ time_of self.old.clock t) }
         ensures distinct { AreDistinct (spots self.new.nodes) }
     {
-        self.queue.pop_due(now)
+        let first = self.queue.pop_due(now);
+        let clock = self.queue.now();
+        self.queue.set_times(NotBefore { clock });
+        first
     }
 
-    /// Removes the earliest timer, frees its node and returns it, if it is due at the time `now`. The clock is then at
-    /// its deadline. Returns `None` if no timer is due. All timers stay then, and the clock is set to `now`, if that is
-    /// later.
+    /// Removes the first timer, frees its node and returns it, if it fires at the time `now` or before. The clock is
+    /// then at its deadline, or stays if that had passed. Returns `None` if no timer is due. All timers stay then, and
+    /// the clock is set to `now`, if that is later.
     ///
     /// # Complexity
     /// That of `stop_due`.
     pub fn pop_due(&mut self, now: u64) -> Option<Timer<P>>
         ensures popped { MatchOption result
-            ((self.new.nodes ≡ self.old.nodes) × (due now self.old.nodes ≡ []))
+            ((self.new.nodes ≡ self.old.nodes) × (due self.old.clock now self.old.nodes ≡ []))
             (λ t. (spot : Ptr) × (id : ℕ) × (self.old.nodes ≡ (spot, record { id = id; value = t }) ∷ self.new.nodes)
-            × (t.deadline ≤ now)) }
+            × (max t.deadline self.old.clock ≤ now)) }
         ensures clock { MatchOption result
             (self.new.clock ≡ max self.old.clock now)
-            (λ t. self.new.clock ≡ t.deadline) }
+            (λ t. self.new.clock ≡ max t.deadline self.old.clock) }
         ensures distinct { AreDistinct (spots self.new.nodes) }
     {
         match self.stop_due(now) {

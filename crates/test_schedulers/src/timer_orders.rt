@@ -28,11 +28,14 @@ fn start(
     }
 }
 
-/// Compares the numbers of the timers that come at some times with those that are wanted.
-fn come(rt: &impl Abort, timers: &mut Timers<Counted>, wanted: &[(u64, Option<u64>)]) {
+/// A timer's deadline, as it was given, and its number.
+type Pair = (u64, u64);
+
+/// Compares the deadlines and numbers of the timers that come at some times with those that are wanted.
+fn come(rt: &impl Abort, timers: &mut Timers<Counted>, wanted: &[(u64, Option<Pair>)]) {
     for (now, wanted) in wanted {
         let came = match timers.pop_due(*now) {
-            Some(timer) => Some(timer.payload.value),
+            Some(timer) => Some((timer.deadline, timer.payload.value)),
             None => None,
         };
         same(rt, (*now, came), (*now, *wanted));
@@ -48,10 +51,10 @@ fn due_timers_come_in_order(rt: HostRuntime) {
     }
     let wanted = [
         (9, None),
-        (10, Some(2)),
-        (10, Some(4)),
-        (25, Some(3)),
-        (29, Some(5)),
+        (10, Some((10, 2))),
+        (10, Some((10, 4))),
+        (25, Some((20, 3))),
+        (29, Some((20, 5))),
         (29, None),
     ];
     come(&rt, &mut timers, &wanted);
@@ -67,7 +70,7 @@ fn cancels(
     alloc: Global,
     deadlines: (u64, u64, u64),
     number: u64,
-    (next, last): (u64, u64),
+    (next, last): (Pair, Pair),
 ) {
     let drops = no_drops(rt, alloc);
     let mut timers = Timers::new();
@@ -98,10 +101,10 @@ fn cancels(
 #[test]
 fn a_cancelled_timer_leaves_the_others_in_order(rt: HostRuntime) {
     for (deadlines, number, left) in [
-        ((30, 10, 20), 1, (2, 3)),
-        ((30, 10, 20), 2, (3, 1)),
-        ((30, 10, 20), 3, (2, 1)),
-        ((10, 10, 10), 2, (1, 3)),
+        ((30, 10, 20), 1, ((10, 2), (20, 3))),
+        ((30, 10, 20), 2, ((20, 3), (30, 1))),
+        ((30, 10, 20), 3, ((10, 2), (30, 1))),
+        ((10, 10, 10), 2, ((10, 1), (10, 3))),
     ] {
         cancels(&rt, rt.alloc(), deadlines, number, left);
     }
@@ -117,13 +120,38 @@ fn a_cancelled_timer_is_started_again(rt: HostRuntime) {
     come(&rt, &mut timers, &[(19, None)]);
     cancelled.get_mut().deadline = 30;
     same(&rt, timers.restart(cancelled).is_ok(), true);
-    let wanted = [(29, Some(1)), (29, None), (30, Some(2)), (30, None)];
+    let wanted = [
+        (29, Some((20, 1))),
+        (29, None),
+        (30, Some((30, 2))),
+        (30, None),
+    ];
     come(&rt, &mut timers, &wanted);
     same(&rt, drops.count(), 2);
 }
 
 #[test]
-fn a_deadline_that_has_passed_counts_as_now(rt: HostRuntime) {
+fn a_timer_that_is_started_again_too_late_fires_at_once(rt: HostRuntime) {
+    let drops = no_drops(&rt, rt.alloc());
+    let mut timers = Timers::new();
+    start(&rt, &mut timers, rt.alloc(), 20, 1, &drops);
+    let spot = start(&rt, &mut timers, rt.alloc(), 10, 2, &drops);
+    let cancelled = timers.cancel(spot);
+    come(&rt, &mut timers, &[(15, None)]);
+    same(&rt, timers.restart(cancelled).is_ok(), true);
+    same(&rt, (timers.now(), timers.first_deadline()), (15, Some(15)));
+    let wanted = [
+        (14, None),
+        (15, Some((10, 2))),
+        (19, None),
+        (20, Some((20, 1))),
+    ];
+    come(&rt, &mut timers, &wanted);
+    same(&rt, drops.count(), 2);
+}
+
+#[test]
+fn a_timer_whose_deadline_has_passed_comes_as_it_was_given(rt: HostRuntime) {
     let drops = no_drops(&rt, rt.alloc());
     let mut timers = Timers::new();
     same(&rt, (timers.now(), timers.first_deadline()), (0, None));
@@ -135,13 +163,13 @@ fn a_deadline_that_has_passed_counts_as_now(rt: HostRuntime) {
     same(&rt, (timers.now(), timers.first_deadline()), (50, Some(50)));
     let wanted = [
         (49, None),
-        (50, Some(1)),
-        (50, Some(3)),
-        (51, Some(4)),
+        (50, Some((30, 1))),
+        (50, Some((50, 3))),
+        (51, Some((0, 4))),
         (69, None),
     ];
     come(&rt, &mut timers, &wanted);
     same(&rt, (timers.now(), timers.first_deadline()), (69, Some(70)));
-    come(&rt, &mut timers, &[(80, Some(2)), (80, None)]);
+    come(&rt, &mut timers, &[(80, Some((70, 2))), (80, None)]);
     same(&rt, (timers.now(), drops.count()), (80, 4));
 }

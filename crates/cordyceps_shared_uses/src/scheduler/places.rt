@@ -119,7 +119,8 @@ impl<L: Run> Sleepers<L> {
             (λ _. mine.new ≡ mine.old) }
         ensures sleeps { OnOk result
             ((spot : Ptr)
-            × (self.new.timers.nodes ≡ started spot (paused self.old.time task) self.old.timers.nodes)) }
+            × (self.new.timers.nodes
+            ≡ started self.old.timers.clock spot (paused self.old.time task) self.old.timers.nodes)) }
         ensures time { self.new.time ≡ self.old.time }
         ensures succeeds { length self.old.timers.nodes < usize.MAX → IsOk result }
         ensures kept { OnErr result (self.new.timers ≡ self.old.timers) }
@@ -150,7 +151,8 @@ impl<L: Run> Sleepers<L> {
             (mine.new ≡ mine.old)
             (λ task. mine.new ≡ after_getting (name_of task) mine.old) }
         ensures woken { MatchOption result
-            ((self.new.timers.nodes ≡ self.old.timers.nodes) × (due self.old.time self.old.timers.nodes ≡ []))
+            ((self.new.timers.nodes ≡ self.old.timers.nodes)
+            × (due self.old.timers.clock self.old.time self.old.timers.nodes ≡ []))
             (λ task. (spot : Ptr) × (self.old.timers.nodes ≡ (spot, task) ∷ self.new.timers.nodes)
             × (task.value.deadline ≤ self.old.time)) }
         ensures time { MatchOption result

@@ -1,25 +1,35 @@
-use Rattle.std.proofs.Common.{◌≡◌, length, max, refl, ap, ◌∙◌, arith}
-use Rattle.cordyceps_shared_uses.specs.Timers.{Running, started}
+use Rattle.std.proofs.Common.{ℕ, length, ap, ◌∙◌, sym, arith}
+use Rattle.cordyceps_shared_uses.specs.declared.timers.NotBefore.{NotBefore}
+use Rattle.cordyceps_shared_uses.specs.declared.timers.Timer.{Timer}
+use Rattle.cordyceps_shared_uses.specs.Timers.{Running, arranged, started}
 use Rattle.cordyceps_shared_uses.proofs.Arranging.{as_long, distinct, in_order, pushed}
+use Rattle.cordyceps_shared_uses.proofs.Deadlines.{times_are}
 use Rattle.cordyceps_shared_uses.proofs.timers.Timers.restart.Goals as goal
 
 pub invariant_of-self : goal.invariant_of-self
-invariant_of-self g c = (in_order c.push.new.self.nodes, c.push.ensures.distinct)
+invariant_of-self g c = record {
+  order = in_order c.push.new.self.clock c.push.new.self.nodes;
+  distinct = c.push.ensures.distinct;
+  counts = ap (λ (t : NotBefore). t.clock) c.push.ensures.time ∙ c.self.invariant.counts ∙ sym c.push.ensures.now;
+}
+
+pub push-requires-clause-due : goal.push-requires-clause-due
+push-requires-clause-due g c of by =
+    let timer : Timer g.row.P.Denot = c.args.timer.value in
+    omega (arith, c.self.invariant.counts, ap (λ (f : Timer g.row.P.Denot → ℕ). f timer) by)
 
 pub returns-then-len-clause-succeeds : goal.returns-then-len-clause-succeeds
 returns-then-len-clause-succeeds g c =
-    let nodes = c.self.inside.queue.nodes in
-    λ few. absurd (omega (arith, few, c.len.ensures, c.if-len.true, as_long nodes, ap (λ (t : Running g.row.P.Denot). length t.nodes) c.self.view_is))
+    let was = c.self.inside.queue in
+    λ few. absurd (omega (arith, few, c.len.ensures, c.if-len.true, as_long was.clock was.nodes, ap (λ (t : Running g.row.P.Denot). length t.nodes) c.self.view_is))
 
 pub returns-clause-started : goal.returns-clause-started
 returns-clause-started g c =
-    let was = c.self.inside.queue.nodes in
-    let nodes = ap (λ (t : Running g.row.P.Denot). t.nodes) c.self.view_is in
-    let clock = c.now.ensures ∙ ap (λ (t : Running g.row.P.Denot). t.clock) c.self.view_is in
-    let deadline : c.max-deadline.result ≡ max c.args.timer.value.deadline c.args.self.now.clock = c.max-deadline.ensures ∙ (λ i. max (c.get.ensures i).deadline (clock i)) in
-    let value = c.get_mut.ensures.value in
-    pushed was c.push.new.self.nodes c.push.result _ (λ a h. c.push.ensures.arrivals _ a refl h)
-    ∙ (λ i. started c.push.result (record { id = c.args.timer.id; value = record { deadline = deadline i; payload = (value i).payload } }) (nodes i))
+    let was = c.self.inside.queue in
+    ap (λ k. arranged k c.push.new.self.nodes) c.push.ensures.now
+    ∙ pushed was.clock was.nodes c.push.new.self.nodes c.push.result c.args.timer
+    (λ a h. c.push.ensures.arrivals _ a (times_are was.clock was.time.clock c.self.invariant.counts) h)
+    ∙ ap (λ (t : Running g.row.P.Denot). started t.clock c.push.result c.args.timer t.nodes) c.self.view_is
 
 pub returns-clause-distinct : goal.returns-clause-distinct
-returns-clause-distinct g c = distinct c.push.new.self.nodes c.push.ensures.distinct
+returns-clause-distinct g c = distinct c.push.new.self.clock c.push.new.self.nodes c.push.ensures.distinct

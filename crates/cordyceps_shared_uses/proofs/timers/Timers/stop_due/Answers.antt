@@ -1,28 +1,53 @@
-use Rattle.std.proofs.Common.{max, refl, ap, sym, ◌∙◌}
-use Rattle.cordyceps_shared_uses.specs.Timers.{Running, due}
-use Rattle.cordyceps_shared_uses.proofs.Arranging.{distinct, in_order, none_due_of, popped, so, stayed}
+use Rattle.std.proofs.Common.{◌≡◌, ℕ, ◌≤◌, ◌∷◌, max, ap, sym, ◌∙◌, subst, arith}
+use Rattle.cordyceps.specs.Elements.Nodes.{spots}
+use Rattle.cordyceps.specs.Spots.Spots.{AreDistinct}
+use Rattle.cordyceps_shared_uses.specs.declared.timers.NotBefore.{NotBefore}
+use Rattle.cordyceps_shared_uses.specs.declared.timers.Timer.{Timer}
+use Rattle.cordyceps_shared_uses.specs.Timers.{Running, arranged, due, time_of}
+use Rattle.cordyceps_shared_uses.proofs.Arranging.{arranged_same, distinct, in_order, none_due_of, popped, so, stayed}
+use Rattle.cordyceps_shared_uses.proofs.Deadlines.{times_are}
 use Rattle.cordyceps_shared_uses.proofs.timers.Timers.stop_due.Goals as goal
 
+pub set_times-requires-clause-same : goal.set_times-requires-clause-same
+set_times-requires-clause-same g c of anew by becomes value later =
+    let at : (Timer g.row.P.Denot → ℕ) → ℕ = λ f. f value in
+    omega (arith, later, c.pop_due-first.ensures.later, ap at by, ap at becomes, c.now-clock.ensures, ap (λ (t : NotBefore). t.clock) c.pop_due-first.ensures.time, c.self.invariant.counts)
+
 pub invariant_of-self : goal.invariant_of-self
-invariant_of-self g c = (in_order c.pop_due.new.self.nodes, c.pop_due.ensures.distinct)
+invariant_of-self g c =
+    let set = c.set_times.ensures in record {
+      order = in_order c.set_times.new.self.clock c.set_times.new.self.nodes;
+      distinct = subst (λ l. AreDistinct (spots l)) (sym set.nodes) c.pop_due-first.ensures.distinct;
+      counts = ap (λ (t : NotBefore). t.clock) set.time ∙ c.now-clock.ensures ∙ sym set.now;
+    }
 
 pub returns-clause-stopped : goal.returns-clause-stopped
 returns-clause-stopped g c =
-    let was = c.self.inside.queue.nodes in let left = c.pop_due.new.self.nodes in
+    let was = c.self.inside.queue in let left = c.pop_due-first.new.self in let new = c.set_times.new.self in let set = c.set_times.ensures in
     let view = ap (λ (t : Running g.row.P.Denot). t.nodes) c.self.view_is in
-    so c.pop_due.result c.pop_due.ensures.due
-    (λ none. let (_, _, tells) = none in let (later, holds) = tells _ refl in
-    let same = stayed was left holds in
-    (same ∙ view, ap (due c.args.now) (sym (same ∙ view)) ∙ none_due_of c.args.now left later))
-    (λ t some. let (spot, tells, _) = some in let (_, early, holds) = tells _ refl in
-    (spot, sym view ∙ popped was left spot t holds, early))
+    let counts = ap (λ (t : NotBefore). t.clock) c.pop_due-first.ensures.time ∙ c.self.invariant.counts in
+    let fires = set.due _ _ (times_are was.clock left.time.clock counts) (times_are new.clock c.now-clock.result (c.now-clock.ensures ∙ sym set.now)) in
+    let moved : arranged new.clock new.nodes ≡ arranged was.clock left.nodes = arranged_same was.clock new.clock new.nodes fires ∙ ap (arranged was.clock) set.nodes in
+    let own = times_are was.clock was.time.clock c.self.invariant.counts in
+    so c.pop_due-first.result c.pop_due-first.ensures.due
+    (λ none. let (_, _, tells) = none in let (later, holds) = tells _ own in
+    let same = stayed was.clock was.nodes left.nodes holds in
+    (moved ∙ same ∙ view, ap (λ (t : Running g.row.P.Denot). due t.clock c.args.now t.nodes) (sym c.self.view_is) ∙ ap (due was.clock c.args.now) (sym same) ∙ none_due_of was.clock c.args.now left.nodes later))
+    (λ t some. let (spot, tells, _) = some in let (_, early, holds) = tells _ own in (
+      spot,
+      sym view ∙ popped was.clock was.nodes left.nodes spot t holds ∙ ap (λ l. (spot, t) ∷ l) (sym moved),
+      subst (λ (r : Running g.row.P.Denot). time_of r.clock t ≤ c.args.now) c.self.view_is early,
+    ))
 
 pub returns-clause-clock : goal.returns-clause-clock
 returns-clause-clock g c =
-    let view = ap (λ (t : Running g.row.P.Denot). max t.clock c.args.now) c.self.view_is in
-    so c.pop_due.result c.pop_due.ensures.due
-    (λ none. let (clock, _, _) = none in clock ∙ view)
-    (λ t some. let (_, tells, _) = some in let (clock, _, _) = tells _ refl in clock)
+    let was = c.self.inside.queue in let set = c.set_times.ensures in
+    let own = times_are was.clock was.time.clock c.self.invariant.counts in
+    so c.pop_due-first.result c.pop_due-first.ensures.due
+    (λ none. let (clock, _, _) = none in set.now ∙ clock ∙ ap (λ (t : Running g.row.P.Denot). max t.clock c.args.now) c.self.view_is)
+    (λ t some. let (_, tells, _) = some in let (clock, _, _) = tells _ own in set.now ∙ clock ∙ ap (λ (r : Running g.row.P.Denot). time_of r.clock t) c.self.view_is)
 
 pub returns-clause-distinct : goal.returns-clause-distinct
-returns-clause-distinct g c = distinct c.pop_due.new.self.nodes c.pop_due.ensures.distinct
+returns-clause-distinct g c =
+    let new = c.set_times.new.self in
+    distinct new.clock new.nodes (subst (λ l. AreDistinct (spots l)) (sym c.set_times.ensures.nodes) c.pop_due-first.ensures.distinct)

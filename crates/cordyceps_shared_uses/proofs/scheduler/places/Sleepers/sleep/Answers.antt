@@ -4,8 +4,8 @@ use Rattle.cordyceps.specs.Elements.Nodes.{Nodes}
 use Rattle.cordyceps_shared_uses.specs.declared.timers.Timer.{Timer}
 use Rattle.cordyceps_shared_uses.specs.declared.scheduler.work.Work.{Work}
 use Rattle.cordyceps_shared_uses.specs.Names.{name_of}
-use Rattle.cordyceps_shared_uses.specs.Timers.{not_before, started}
-use Rattle.cordyceps_shared_uses.proofs.Scheduling.{open_got, holds_slept, paused_later}
+use Rattle.cordyceps_shared_uses.specs.Timers.{started}
+use Rattle.cordyceps_shared_uses.proofs.Scheduling.{open_got, holds_slept}
 use Rattle.cordyceps_shared_uses.proofs.scheduler.places.Sleepers.sleep.Goals as goal
 
 pub invariant_of-self : goal.invariant_of-self
@@ -22,9 +22,8 @@ pub returns-in-Ok-clause-sleeps : goal.returns-in-Ok-clause-sleeps
 returns-in-Ok-clause-sleeps g c =
     let was = c.args.self.now in let spot = c.in-Ok.field-0 in
     let ends : c.end_of_pause.result ≡ min (was.time + c.args.task.value.payload.pause) (2 ^ 64 - 1) = c.end_of_pause.ensures.is ∙ ap (λ (v : Timer Work). min (was.time + v.payload.pause) (2 ^ 64 - 1)) c.get.ensures in
-    let put : Element (Timer Work) → Nodes (Timer Work) = λ t. started spot t was.timers.nodes in (
+    let put : Element (Timer Work) → Nodes (Timer Work) = λ t. started was.timers.clock spot t was.timers.nodes in (
       spot,
       c.in-Ok.ensures.started
-          ∙ (λ i. put (not_before was.timers.clock (record { id = c.args.task.id; value = record { deadline = ends i; payload = (c.get_mut.ensures.value i).payload } })))
-          ∙ ap put (paused_later was.time was.timers.clock c.args.task was.passed (subst (λ k. was.time ≤ k) ends c.end_of_pause.ensures.later)),
+          ∙ (λ i. put (record { id = c.args.task.id; value = record { deadline = ends i; payload = (c.get_mut.ensures.value i).payload } })),
     )
