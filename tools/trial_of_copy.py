@@ -1,13 +1,28 @@
-"""What tools/first_run tries of tools/copy: a first copy, an upgrade, and what stands in the way of one."""
+"""What tools/first_run tries of tools/copy: a first copy, an upgrade, what stands in the way of one, and a copy that is
+broken off or whose record was tampered with."""
 
+import hashlib
 import os
 import shutil
 
-from common import text_of, write
+from common import files_in, text_of, write
 
 BASE = "crates/cordyceps_base/src/lib.rt"
 START = "crates/cordyceps_start"
 GONE = "crates/cordyceps_list/src/gone.rt"
+RECORD = "cordyceps.sums"
+SUM = "0" * 64
+# Records that no copy has left, and what is said of each.
+RECORDS = (
+    (b"", "cordyceps.sums there does not begin with the version"),
+    (b"\xff\xfe", "cordyceps.sums there is no text in UTF-8"),
+    (f"{SUM}  {BASE}\n".encode(), "cordyceps.sums there does not begin with the version"),
+    (b"# cordyceps 0.1.0\n../..\n", "cordyceps.sums there has a line that names no file of a crate: '../..'"),
+    *(
+        (f"# cordyceps 0.1.0\n{{sum}}  {it}\n".encode(), "cordyceps.sums there has a line that names no file of a crate: ")
+        for it in ("../theirs", "{outside}", "crates/../../theirs", "crates/a/../../../theirs", "crates/cordyceps_base")
+    ),
+)
 
 
 def names_in(text):
@@ -28,6 +43,12 @@ class Trial:
         if ran.status != status or ran.err or line not in ran.out.splitlines():
             self.faults.append(f"tools/copy {' '.join(words)}: {ran}")
 
+    def refused(self, line, *command):
+        """Calls tools/copy, which ends with status 2 and a line that begins so."""
+        ran = self.checkout.run(command=command or [f"{self.top}/tools/copy", self.other])
+        if ran.status != 2 or ran.out or not ran.err.startswith(f"copy: {line}") or ran.err.count("\n") != 1:
+            self.faults.append(f"where {line!r} was to be said: {ran}")
+
     def same(self, *paths):
         """These files are as in the checkout."""
         texts = [(it, text_of(f"{self.top}/{it}"), text_of(f"{self.other}/{it}")) for it in paths]
@@ -46,7 +67,9 @@ class Trial:
         write(f"{self.other}/crates.txt", "app: cordyceps_list\n")
         write(f"{self.top}/{GONE}", "//! Gone in the next version.\n")
         self.copied(0, "HANDLES: copied", "lists")
-        self.same(BASE, f"{START}/src/lib.rt", "HANDLES", ".gitignore", GONE)
+        self.same(BASE, f"{START}/src/lib.rt", "HANDLES", ".gitignore", GONE, "tools/check")
+        if not os.access(f"{self.other}/tools/check", os.X_OK):
+            self.faults.append("tools/check cannot be run there")
         self.crates("cordyceps_base", "cordyceps_list", "cordyceps_start", "app")
 
     def upgrade(self):
@@ -80,11 +103,53 @@ class Trial:
         self.crates(*all_of_them)
 
 
+    def tampered(self):
+        """A record that names what is no file of a crate, and a link that leads out, are refused: nothing is removed."""
+        outside = f"{os.path.dirname(self.other)}/theirs"
+        write(outside, "Theirs.\n")
+        sum = hashlib.sha256(b"Theirs.\n").hexdigest()
+        record = text_of(f"{self.other}/{RECORD}")
+        for text, said in RECORDS:
+            text = text.replace(b"{sum}", sum.encode()).replace(b"{outside}", outside.encode())
+            with open(f"{self.other}/{RECORD}", "wb") as it:
+                it.write(text)
+            self.refused(said)
+        write(f"{self.other}/{RECORD}", record)
+        folder = f"{self.other}/crates/cordyceps_list/src"
+        os.rename(folder, f"{outside}.src")
+        os.symlink(f"{outside}.src", folder)
+        os.remove(f"{outside}.src/lib.rt")
+        self.refused("crates/cordyceps_list/src/")
+        if not os.path.exists(outside) or os.path.exists(f"{outside}.src/lib.rt"):
+            self.faults.append("it changed what lies outside")
+        os.remove(outside)
+        shutil.rmtree(f"{outside}.src")
+        self.refused("DEST is empty", f"{self.top}/tools/copy", "", "lists")
+
+    def broken_off(self):
+        """A first copy that cannot write, or was broken off, is completed by the next call."""
+        shutil.rmtree(self.other)
+        limited = 'ulimit -f 16 && exec "$0" "$@"'
+        self.refused("/", "bash", "-c", limited, f"{self.top}/tools/copy", self.other, "lists")
+        parts = files_in(self.other)
+        if not parts or any(it.endswith(".new") for it in parts) or os.path.exists(f"{self.other}/{RECORD}"):
+            self.faults.append(f"where it could not write, it left {parts}")
+        self.copied(0, "crates.txt: lines written 3", "lists")
+        # (as it is left between cordyceps_start and the record)
+        os.remove(f"{self.other}/{RECORD}")
+        write(f"{self.other}/crates.txt", "app: cordyceps_list\n")
+        self.copied(0, "crates.txt: lines written 3", "lists")
+        self.same(BASE, f"{START}/src/lib.rt", "HANDLES", ".gitignore", "tools/check")
+        self.crates("cordyceps_base", "cordyceps_list", "cordyceps_start", "app")
+
+
 def faults(checkout, other):
     """What is wrong with tools/copy of a checkout, which is left as it was."""
     trial = Trial(checkout, other)
     trial.first()
     trial.upgrade()
     trial.in_the_way()
+    trial.tampered()
+    trial.broken_off()
     shutil.rmtree(other)
     return trial.faults
