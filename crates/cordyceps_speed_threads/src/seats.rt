@@ -52,11 +52,13 @@ impl<'a> Seat for AtStack<'a> {
         }
     }
 
-    fn give_back(&mut self, least: usize) {
+    fn give_back(&mut self, least: usize) -> bool {
         let rooms = self.party.rooms();
-        if rooms >= least {
-            self.stack.give_back(&mut self.party, rooms);
-        }
+        rooms < least || self.stack.give_back(&mut self.party, rooms)
+    }
+
+    fn refill(&mut self) {
+        self.stack.refill(&mut self.party);
     }
 }
 
@@ -143,11 +145,13 @@ impl<'a> Seat for AtQueue<'a> {
         }
     }
 
-    fn give_back(&mut self, least: usize) {
+    fn give_back(&mut self, least: usize) -> bool {
         let rooms = self.party.rooms();
-        if rooms >= least {
-            self.queue.give_back(&mut self.party, rooms);
-        }
+        rooms < least || self.queue.give_back(&mut self.party, rooms)
+    }
+
+    fn refill(&mut self) {
+        self.queue.refill(&mut self.party);
     }
 }
 

@@ -29,8 +29,14 @@ pub trait Seat {
     /// Takes out what one try gives, and puts it after the others.
     fn take<R: Wait>(&mut self, rt: &R, taken: &mut Vec<StackNode>);
 
-    /// Gives all rooms to those that have none, if there are at least `_least`.
-    fn give_back(&mut self, _least: usize) {}
+    /// Gives all rooms to those that have none, if there are at least `_least`. Returns `false` if it has to keep them,
+    /// since rooms that were given back before are still there.
+    fn give_back(&mut self, _least: usize) -> bool {
+        true
+    }
+
+    /// Takes the rooms that were given back.
+    fn refill(&mut self) {}
 }
 
 /// How many threads put elements in, and how many each.
@@ -40,7 +46,7 @@ pub struct Plan {
     pub each: usize,
     /// How many rooms each of them begins with.
     pub rooms: usize,
-    /// How many rooms the taker has when it gives them back. 0 where it never does.
+    /// How many rooms the taker has when it gives them back, while it finds elements. 0 where it never does.
     pub returned: usize,
 }
 
@@ -142,23 +148,27 @@ impl<S: Seat + Drop> Job<S> {
         Some(stopwatch.look(rt))
     }
 
-    /// Puts all of the elements in, the last first.
+    /// Puts all of the elements in, the last first, and then gives back the rooms that are left.
     fn put_all<R: Wait>(&mut self, rt: &R) {
         while let Some(element) = self.elements.pop() {
             put(rt, &mut self.seat, element);
         }
         self.seat.flush(rt);
+        give_all_back(rt, &mut self.seat);
     }
 
-    /// Takes elements out until all are out. Their rooms go back meanwhile.
+    /// Takes elements out until all are out. Their rooms go back meanwhile, and all of them where it finds no element.
     fn take_all<R: Wait>(&mut self, rt: &R) {
         for _ in rt.forever() {
-            if self.elements.len() >= self.takes {
+            let before = self.elements.len();
+            if before >= self.takes {
                 return;
             }
             self.seat.take(rt, &mut self.elements);
             if self.returned > 0 {
-                self.seat.give_back(self.returned);
+                let has_found = self.elements.len() > before;
+                let least = if has_found { self.returned } else { 1 };
+                self.seat.give_back(least);
             }
         }
         unreachable!()
@@ -174,6 +184,17 @@ fn put<S: Seat, R: Wait>(rt: &R, seat: &mut S, element: StackNode) {
             Err(back) => element = back,
         }
         thread::yield_now();
+    }
+    unreachable!()
+}
+
+/// Gives all rooms of a seat back, together with those that others gave back meanwhile.
+fn give_all_back<S: Seat, R: Wait>(rt: &R, seat: &mut S) {
+    for _ in rt.forever() {
+        if seat.give_back(1) {
+            return;
+        }
+        seat.refill();
     }
     unreachable!()
 }
