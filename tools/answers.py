@@ -13,6 +13,10 @@ TOKEN = re.compile(r'"[^"]*"|\w+|=>|->|::|==|!=|<=|>=|&&|\|\||\S')
 STEERS = re.compile(r"=>|==|!=|<=|>=|&&|\|\||[<>!?|;{}]|if|else|match|while|for|in|loop|return|break|continue|move")
 # The word of a goal's name that tells what it asks of a call or of a loop.
 ASKS = re.compile(r"-(requires|init|preserved|smaller)(?:-|$)")
+# The words of a verdict that names the goals which `search` left open, and those that find fault with what the function
+# calls.
+SEARCHED = "`search` did not prove"
+CALLS = re.compile(r"\bit calls `|\ba call of `.* which has no proof\b")
 # Why a body that is not proved is not refused either.
 LITTLE = "a proof names what the edit took away, and no goal refuses it: change a value, and keep the names"
 SAFETY = "is not judged: only goals of safety are open, which an empty contract would have too: change the result"
@@ -268,6 +272,23 @@ def goals_in(lines):
     found = [it for it in map(OPEN.search, lines) if it]
     names = [it for one in found for it in ([one[1]] if one[1] else re.findall("`([^`]+)`", one[2]))]
     return [*dict.fromkeys(names)]
+
+
+def is_for_callees(verdict):
+    """Whether a verdict refuses a function for what it calls, and names no goal of its own.
+
+    >>> is_for_callees("not proved; it calls `base::Chain::empty`, which is not proved")
+    True
+    >>> is_for_callees("no proof: it calls `base::Chain::of_one`, which is not proved")
+    True
+    >>> is_for_callees("no proof: a call of `queue::Consumer::release`, which has no proof: help: prove it first")
+    True
+    >>> is_for_callees("no proof: `search` did not prove `returns`; it calls `base::Chain::get`, which is not proved")
+    False
+    >>> is_for_callees("not proved")
+    False
+    """
+    return SEARCHED not in verdict and bool(CALLS.search(verdict))
 
 
 class Suspect:
