@@ -13,6 +13,8 @@ TOKEN = re.compile(r'"[^"]*"|\w+|=>|->|::|==|!=|<=|>=|&&|\|\||\S')
 STEERS = re.compile(r"=>|==|!=|<=|>=|&&|\|\||[<>!?|;{}]|if|else|match|while|for|in|loop|return|break|continue|move")
 # The word of a goal's name that tells what it asks of a call or of a loop.
 ASKS = re.compile(r"-(requires|init|preserved|smaller)(?:-|$)")
+# The words with which a `search` in an answer says that it stopped at no limit.
+EVERY_WAY = "Every way was tried"
 # The words of a verdict that names the goals which `search` left open, and those that find fault with what the function
 # calls.
 SEARCHED = "`search` did not prove"
@@ -218,6 +220,20 @@ def is_of_contract(goal):
     return asks in ("preserved", "init") or not asks and name in ("returns", "invariant_of")
 
 
+def searched_in(lines, text):
+    """The goals that have a `search` as their answers in this text and that these lines of a check name as not proved,
+    though every way was tried, each with its line.
+
+    >>> line = "./proofs/f/Answers.antt:7:9: error: `f`: `search`: no proof of `goal.f` was found. Every way was tried: .."
+    >>> [len(searched_in([line], f"pub f : goal.f\\nf g c = {it}\\n")) for it in ("search rules", "g (search rules)")]
+    [1, 0]
+    """
+    found = {it[1]: line for line in lines if EVERY_WAY in line for it in [FAILS.search(line)] if it}
+    known = answers_of(text)[1]
+    is_search = {it: re.search(rf"^{re.escape(it)} [^=]*= search\b", known.get(it, ""), re.M) for it in found}
+    return {goal: line for goal, line in found.items() if is_search[goal]}
+
+
 def is_at_limit(line):
     """Whether a line with an open goal says that `search` stopped before it had tried all that it could."""
     return "gave up at one of its limits" in line
@@ -292,19 +308,19 @@ def is_for_callees(verdict):
 
 
 class Suspect:
-    """A function with a wrong body that a check did not prove, and what is tried before that counts as a refusal: the
-    written answers that do not fit are taken away, so that `search` tries these goals, and those that the right body may
-    not have are tried under its names.
+    """A function with a wrong body that a check did not prove, and what is tried before that counts as a refusal: answers
+    that do not fit are taken away, so that `search` tries their goals, and the right body's answers are tried at goals
+    that it may not have.
 
-    A goal refuses the body where it is about the result, `search` did not prove it and stopped at no limit, and the right
-    body has it too, or none of the right body's answers holds under its name."""
+    A goal refuses the body if it is about the result, `search` did not prove it and stopped at no limit, and either the
+    right body has it too, or none of the right body's answers holds under its name."""
 
     def __init__(self, folder, text, keeps, calls):
         # The folder of the function's proof, the text of its answers, whether the edit leaves the paths as they are, and
         # the functions that it calls in place of others, as pairs.
         self.folder, self.text, self.keeps, self.calls = folder, text, keeps, calls
-        # The answers that are taken away, the ways that were found to hold, the goals at which a way did not, and the one
-        # goal that is looked at, with the ways to answer it that are left, and how many checks were asked for.
+        # The answers that are taken away, the ways that were found to hold, the goals at which none did, the one goal that
+        # is looked at, with the ways to answer it that are left, and how many checks were asked for.
         self.gone, self.held, self.tried, self.goal, self.ways, self.tries = set(), [], set(), None, [], 0
         # The goals that are open, each with the line that says so, and the paths of the right body's, once these are
         # known.
@@ -321,58 +337,53 @@ class Suspect:
     def takes(self, lines):
         """Takes what a check said of the function, and answers whether another one has to be asked: not where a goal
         refuses the body, or nothing is left to try."""
-        if self.goal:
-            self.settle(lines)
-        else:
-            self.open = open_in(lines)
-            if self.refuses(is_last=False):
-                return False
-            fail, gone = failing_in(lines, self.text)
-            if self.calls and fail | gone:
-                self.text, self.calls = with_calls(self.text, self.calls), ()
-                self.tries += 1
-                return True
-            new = (fail | gone) - self.gone
-            self.gone |= new
-            # (a goal that is gone leaves no other open, so only where nothing else is there it takes a check to know more)
-            if new & fail or new and not self.open:
-                self.tries += 1
-                return True
-        return self.goes_on()
+        if self.goal and not self.has_way(lines):
+            return self.goes_on()
+        self.open = {**open_in(lines), **searched_in(lines, self.text)}
+        if self.refuses():
+            return False
+        fail, gone = failing_in(lines, self.text)
+        new = (fail | gone) - self.gone
+        if new and self.calls:
+            self.text, self.calls = with_calls(self.text, self.calls), ()
+            return self.asks()
+        self.gone |= new
+        # (to take answers away whose goals are not there opens no goal, so the next way can be tried in the same check)
+        return self.asks() if new & fail or new and not self.open else self.chooses()
 
-    def settle(self, lines):
-        """Takes what a check said of the way that was tried."""
+    def has_way(self, lines):
+        """Whether the way that was tried holds, as a check said."""
         path, clause = parts_of(self.goal)
         if any(of == self.goal or not clause and parts_of(of)[0] == path for it in lines for of in named_in(it)):
-            self.tried.add(self.goal)
             del self.ways[0]
-        else:
-            self.held.append(self.ways[0])
-            self.ways = []
-            self.open = {
-                it: line
-                for it, line in self.open.items()
-                if it != self.goal and (clause or parts_of(it)[0] != path)
-            }
+            return False
+        self.held.append(self.ways[0])
+        self.goal, self.ways = None, []
+        return True
 
     def goes_on(self):
         """Goes on with the goal that is looked at, or another one, and answers whether there is something to try."""
-        if not self.ways:
-            return self.chooses()
-        self.tries += 1
-        return True
+        if self.ways:
+            return self.asks()
+        self.tried.add(self.goal)
+        return self.chooses()
 
     def chooses(self):
         """Chooses the goal that is looked at, and answers whether there is one."""
         self.goal, self.ways = None, []
-        if self.refuses(is_last=True):
+        if self.refuses():
             return False
         left = {it: self.ways_to(it) for it in self.open if it not in self.tried and not self.is_of_right(it)}
         # (those first that can refuse the body, and of these the one that takes fewest checks)
-        self.goal = min((it for it in left if left[it]), key=lambda it: (not self.counts(it), len(left[it])), default=None)
-        self.ways = left[self.goal] if self.goal else []
-        self.tries += bool(self.goal)
-        return bool(self.goal)
+        order = sorted((it for it in left if left[it]), key=lambda it: (not self.counts(it), len(left[it])))
+        if order:
+            self.goal, self.ways = order[0], left[order[0]]
+        return bool(order) and self.asks()
+
+    def asks(self):
+        """Asks for another check."""
+        self.tries += 1
+        return True
 
     def ways_to(self, goal):
         """The ways to answer a goal that the right body may not have by the right body's answers."""
@@ -383,11 +394,11 @@ class Suspect:
         """Whether an open goal can refuse the body."""
         return is_of_contract(goal) and not is_at_limit(self.open[goal])
 
-    def refuses(self, is_last):
-        """Whether an open goal refuses the body, as far as is known, or where nothing else is left to try at it."""
+    def refuses(self):
+        """Whether an open goal refuses the body, as far as is known."""
         for goal, line in self.open.items():
-            is_tried = is_last and goal in self.tried or not self.ways_to(goal)
-            if self.counts(goal) and (self.is_of_right(goal) or is_tried):
+            is_known = goal in self.tried or self.is_of_right(goal) or not self.ways_to(goal)
+            if self.counts(goal) and is_known:
                 self.refused = line
                 return True
         return False
