@@ -103,6 +103,21 @@ class Trial:
         self.crates(*all_of_them)
 
 
+    def programs(self):
+        """A crate of programs is copied when it is asked for, is completed, and is left alone once it was changed."""
+        disk = "crates/cordyceps_disk"
+        self.copied(0, "crates.txt: lines written 1", "disk")
+        self.same(f"{disk}/src/lib.rt", f"{disk}/src/laws.rt")
+        os.remove(f"{self.other}/{disk}/src/laws.rt")
+        self.copied(0, f"{disk}: files new 1", "disk")
+        write(f"{self.other}/{disk}/src/lib.rt", "//! Theirs.\n")
+        os.remove(f"{self.other}/{disk}/src/laws.rt")
+        self.copied(0, "crates.txt: as it was", "disk")
+        self.copied(0, "crates.txt: as it was")
+        self.absent(f"{disk}/src/laws.rt")
+        if text_of(f"{self.other}/{disk}/src/lib.rt") != "//! Theirs.\n":
+            self.faults.append(f"{disk} was changed there, and is lost")
+
     def tampered(self):
         """A record that names what is no file of a crate, and a link that leads out, are refused: nothing is removed."""
         outside = f"{os.path.dirname(self.other)}/theirs"
@@ -149,6 +164,7 @@ def faults(checkout, other):
     trial.first()
     trial.upgrade()
     trial.in_the_way()
+    trial.programs()
     trial.tampered()
     trial.broken_off()
     shutil.rmtree(other)
