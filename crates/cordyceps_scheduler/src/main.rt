@@ -2,8 +2,8 @@
 //! at the end.
 //!
 //! It prints how many tasks were submitted, how many of them sleep, are on their way to a worker, wait for one and are
-//! done, and how many rounds those ran that are done. As long as no thread uses up its turns, the output does not
-//! depend on the order in which the threads run.
+//! done, and how many rounds those ran that are done. A worker keeps no task, since fewer than `usize::MAX` sleep. As
+//! long as no thread uses up its turns, the output does not depend on the order in which the threads run.
 #![tactic(auto)]
 
 use cordyceps::{List, Stack};
@@ -52,6 +52,7 @@ fn show(rt: &HostRuntime, outcome: Outcome) -> io::Result<()> {
         on_way,
         runnable,
         done,
+        kept: _,
     } = outcome;
     let mut sleepers = 0u64;
     for _turn in 0..u64::MAX {

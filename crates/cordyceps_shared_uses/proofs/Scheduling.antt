@@ -1,6 +1,9 @@
 -- What accounts of a scheduler hold after a task went in or out, and that all tasks are found again in the end.
-use Rattle.std.proofs.Common.{◌≡◌, ℕ, ◌+◌, ◌-◌, ◌*◌, Bool, ◌&&◌, true, false, cond, nat_lt, List, [], ◌∷◌, ◌++◌, map, refl, sym, ap, ◌∙◌, subst, eq-eqb, arith}
-use Rattle.std.specs.Prelude.{Result, Ok, Err, nat_eq}
+use Rattle.std.proofs.lemmas.Option.{none-some}
+use Rattle.std.specs.List.{AllByRecursion}
+use Rattle.std.specs.Option.{unwrap_or}
+use Rattle.std.proofs.Common.{◌≡◌, ℕ, ◌+◌, ◌-◌, ◌*◌, ◌^◌, ◌≤◌, min, max, Bool, true, false, cond, nat_lt, List, [], ◌∷◌, ◌++◌, map, Option, Some, refl, sym, ap, ◌∙◌, subst, arith}
+use Rattle.std.specs.Prelude.{Result, Ok, Err}
 use denote.RawPtr.{Ptr}
 use Rattle.cordyceps.specs.Elements.Element.{Element, Elements}
 use Rattle.cordyceps.specs.Elements.Nodes.{Nodes}
@@ -10,7 +13,8 @@ use Rattle.cordyceps.specs.Parties.Seated.{TableId}
 use Rattle.cordyceps.specs.Parties.Sending.{Splits}
 use Rattle.cordyceps.specs.Parties.Shares.{whole}
 use Rattle.cordyceps.specs.Parties.Standings.{new_party, Absorbs, GivesBack}
-use Rattle.cordyceps.proofs.Parties.Counting.{tally_append}
+use Rattle.cordyceps.proofs.Orders.Preorder.{by_test}
+use Rattle.cordyceps.proofs.Parties.Counting.{tally_append, tally_map}
 use Rattle.cordyceps.proofs.Parties.Moving.{moves_none, moves_then, moves_given}
 use Rattle.cordyceps.proofs.Parties.Sending.{exchanged}
 use Rattle.cordyceps.specs.Queues.History.{held}
@@ -23,10 +27,9 @@ use Rattle.cordyceps_shared_uses.specs.declared.timers.Timer.{Timer}
 use Rattle.cordyceps_shared_uses.specs.declared.scheduler.name.Name.{Name}
 use Rattle.cordyceps_shared_uses.specs.declared.scheduler.work.Work.{Work}
 use Rattle.cordyceps_shared_uses.specs.Accounts.{Entries, Moved, Holds, IsOpen, after_getting, after_giving, joined}
-use Rattle.cordyceps_shared_uses.specs.Names.{name_of, names, asleep}
-use Rattle.cordyceps_shared_uses.specs.Scheduler.{all_done}
-use Rattle.cordyceps_shared_uses.specs.Timers.{Running, started, time_of}
-use Rattle.cordyceps_shared_uses.specs.Ways.{Seat, Sent, SentAll, Woken, Came, Settles}
+use Rattle.cordyceps_shared_uses.specs.Names.{name_of, names, asleep, at_birth, by_birth, one_more}
+use Rattle.cordyceps_shared_uses.specs.Timers.{Running, started, first_time, time_of, InOrder, NoneBefore}
+use Rattle.cordyceps_shared_uses.specs.Ways.{Seat, Sent, SentAll, Woken, Came, RanOneEach, Settles}
 
 -- ---- what is in a place
 module _ (f : Name → ℕ) where
@@ -57,6 +60,36 @@ open_moved o m = (m.table ∙ o.0, m.parts ∙ o.1)
 
 holds_got : {x : Name} {a b : Entries} (xs ys : List Name) → Holds a xs → b ≡ after_getting x a → ((f : Name → ℕ) → tally f ys ≡ f x + tally f xs) → Holds b ys
 holds_got xs ys h e more f = omega (arith, h f, more f, ap (λ (z : Entries). tally f z.got) e, ap (λ (z : Entries). tally f z.gave) e)
+
+-- one more that is not before the time leaves none before it
+none_before_started : (now clock : ℕ) (q : Ptr) (t : Element (Timer Work)) (s : Nodes (Timer Work)) → NoneBefore now s → now ≤ t.value.deadline → NoneBefore now (started clock q t s)
+none_before_started now clock q t [] none later = (later, none)
+none_before_started now clock q t (x ∷ s) none later =
+    let put : Bool → Nodes (Timer Work) = λ b. cond b ((q, t) ∷ x ∷ s) (x ∷ started clock q t s) in
+    by_test (nat_lt (time_of clock t) (time_of clock x.1)) (λ y. subst (λ b. NoneBefore now (put b)) (sym y) (later, none))
+    (λ n. subst (λ b. NoneBefore now (put b)) (sym n) (none.0, none_before_started now clock q t s none.1 later))
+
+pub none_missed_started : (now : ℕ) (q : Ptr) (t : Element (Timer Work)) (s u : Running Work) → u.nodes ≡ started s.clock q t s.nodes → NoneBefore now s.nodes → now ≤ t.value.deadline
+    → NoneBefore now u.nodes
+none_missed_started now q t s u is none later = subst (λ l. NoneBefore now l) (sym is) (none_before_started now s.clock q t s.nodes none later)
+
+-- those that fire after one with this deadline are not before it
+none_before_first : (now clock d : ℕ) (s : Nodes (Timer Work)) → clock ≤ now → now ≤ d → AllByRecursion (λ y. max d clock ≤ time_of clock y.1) s → NoneBefore now s → NoneBefore d s
+none_before_first now clock d [] passed later after none = none
+none_before_first now clock d (y ∷ s) passed later after none =
+    let first = after.0 in let own = none.0 in (omega (arith, passed, later, first, own), none_before_first now clock d s passed later after.1 none.1)
+
+-- the time that advanced to the first deadline has passed none
+pub none_missed_first : (now clock after d : ℕ) (s : Nodes (Timer Work)) → clock ≤ now → after ≤ now → InOrder clock s → NoneBefore now s → Some d ≡ first_time after s → NoneBefore d s
+none_missed_first now clock after d [] passed within order none is = absurd (none-some d (sym is))
+none_missed_first now clock after d (x ∷ s) passed within order none is =
+    let same : d ≡ time_of after x.1 = ap (λ (k : Option ℕ). unwrap_or k 0) is in
+    let own = none.0 in
+    let at : d ≡ x.1.value.deadline = omega (arith, same, own, within) in
+    let behind = subst (λ k. AllByRecursion (λ y. max k clock ≤ time_of clock y.1) s) (sym at) order.0 in (
+      omega (arith, at),
+      none_before_first now clock d s passed (subst (λ k. now ≤ k) (sym at) own) behind none.1,
+    )
 
 -- a task went to sleep; its deadline may be another than before
 pub holds_slept : {x : Name} {a b : Entries} (q : Ptr) (t : Element (Timer Work)) (s u : Running Work) → Holds a (asleep s) → b ≡ after_getting x a → x ≡ name_of t
@@ -138,44 +171,50 @@ came_given {v = v} is n gave w given = record {
 }
 
 -- ---- what a worker did
--- t is done, maybe as the task e, which has its name
-pub settles_done : (t e : Element (Timer Work)) (a b : Entries) (before after : Elements (Timer Work)) → b ≡ a → name_of e ≡ name_of t → after ≡ e ∷ before → Settles t a b before after
-settles_done t e a b before after none same is = record {
+-- t is kept, as the task e, which has its name
+pub settles_kept : (t e : Element (Timer Work)) (a b : Entries) (done kept kept' : Elements (Timer Work)) → b ≡ a → name_of e ≡ name_of t → kept' ≡ e ∷ kept
+    → Settles t a b (names done) (names kept) (names done) (names kept')
+settles_kept t e a b done kept kept' none same is = record {
   table = ap (λ (z : Entries). z.table) none;
   parts = ap (λ (z : Entries). z.parts) none;
   got = ap (λ (z : Entries). z.got) none;
   gave = λ f. omega (arith, ap (λ (z : Entries). tally f z.gave) none, ap (λ z. tally f (names z)) is, ap f same);
 }
 
-pub holds_settled : {x : Name} {a b c : Entries} (t : Element (Timer Work)) (before after : Elements (Timer Work)) → Holds a (names before) → b ≡ after_getting x a
-    → name_of t ≡ x → Settles t b c before after → Holds c (names after)
-holds_settled t before after h e same s f =
-    omega (arith, h f, ap (λ (z : Entries). tally f z.got) e, ap (λ (z : Entries). tally f z.gave) e, ap f same, ap (tally f) s.got, s.gave f)
+-- the task that it got ran one round more, if one was left
+pub more_of : (t u : Element (Timer Work)) → u.id ≡ t.id → u.value.payload.number ≡ t.value.payload.number → u.value.payload.rounds ≡ t.value.payload.rounds
+    → u.value.payload.pause ≡ t.value.payload.pause → u.value.payload.ran ≡ min (t.value.payload.ran + 1) t.value.payload.rounds → name_of u ≡ one_more (name_of t)
+more_of t u id number rounds pause ran = λ i. record { id = id i; number = number i; rounds = rounds i; pause = pause i; ran = ran i }
 
--- one more is done, since its sum is always that of the rounds that it ran
-pub done_more : (t : Element (Timer Work)) (s u : Elements (Timer Work)) → t.value.payload.ran ≡ t.value.payload.rounds → u ≡ t ∷ s → all_done s ≡ true → all_done u ≡ true
-done_more t s u ran is all =
-    let w = t.value.payload in
-    let same : w.sum ≡ w.rounds * w.number = w.worked ∙ ap (λ k. k * w.number) ran in
-    ap all_done is ∙ (ap (λ b. (b && nat_eq w.sum (w.rounds * w.number)) && all_done s) (eq-eqb w.ran w.rounds ran) ∙ (ap (λ b. b && all_done s) (eq-eqb w.sum (w.rounds * w.number) same) ∙ all))
+pub ran_settled : {x : Name} {a b c : Entries} (t : Element (Timer Work)) (done kept done' kept' : List Name) → RanOneEach a done kept → b ≡ after_getting x a → name_of t ≡ one_more x
+    → Settles t b c done kept done' kept' → RanOneEach c done' kept'
+ran_settled t done kept done' kept' h e same s f =
+    let more : Name → ℕ = λ x. f (one_more x) in
+    omega (arith, h f, ap (λ (z : Entries). tally more z.got) e, ap (λ (z : Entries). tally f z.gave) e, ap f same, ap (tally more) s.got, s.gave f)
 
 -- ---- in the end
 -- what six accounts got in all is what they gave
-pub six_even : (s r t u v w all : Entries) (ss rs vs ws : List Name) → all ≡ joined (joined (joined (joined (joined s r) t) u) v) w → Same all.got all.gave
-    → Holds s ss → Holds r rs → Holds v vs → Holds w ws
-    → (f : Name → ℕ) → tally f t.got + tally f u.got + tally f ss + tally f rs + tally f vs + tally f ws ≡ tally f t.gave + tally f u.gave
-six_even s r t u v w all ss rs vs ws is even a b c d f =
+pub six_even : (s r t u v w all : Entries) (ss rs vd vk wd wk : List Name) → all ≡ joined (joined (joined (joined (joined s r) t) u) v) w → Same all.got all.gave
+    → Holds s ss → Holds r rs → RanOneEach v vd vk → RanOneEach w wd wk
+    → (f : Name → ℕ)
+    → tally (by_birth f) t.got + tally (by_birth f) u.got + tally (by_birth f) ss + tally (by_birth f) rs + tally (by_birth f) vd + tally (by_birth f) wd
+    + tally (by_birth f) vk + tally (by_birth f) wk
+    ≡ tally (by_birth f) t.gave + tally (by_birth f) u.gave
+six_even s r t u v w all ss rs vd vk wd wk is even a b c d f =
+    let g : Name → ℕ = by_birth f in
+    let first : tally g v.got ≡ tally g v.gave + (tally g vd + tally g vk) = c g in
+    let second : tally g w.got ≡ tally g w.gave + (tally g wd + tally g wk) = d g in
     omega (
       arith,
-      even f,
-      ap (λ (z : Entries). tally f z.got) is,
-      ap (λ (z : Entries). tally f z.gave) is,
-      a f,
-      b f,
-      c f,
-      d f,
-      five f s.got r.got t.got u.got v.got w.got,
-      five f s.gave r.gave t.gave u.gave v.gave w.gave,
+      even g,
+      ap (λ (z : Entries). tally g z.got) is,
+      ap (λ (z : Entries). tally g z.gave) is,
+      a g,
+      b g,
+      first,
+      second,
+      five g s.got r.got t.got u.got v.got w.got,
+      five g s.gave r.gave t.gave u.gave v.gave w.gave,
     )
   where
     five : (f : Name → ℕ) (a b c d e g : List Name) → tally f (((((a ++ b) ++ c) ++ d) ++ e) ++ g) ≡ tally f a + tally f b + tally f c + tally f d + tally f e + tally f g
@@ -190,18 +229,26 @@ found new split mine theirs m =
     exchanged (λ h. map name_of (held h)) (λ h legal. all_kept name_of same_name h legal) new split mine theirs m
 
 -- those that are somewhere are those that were given
-pub all_found : (tasks woken came on_way sleeping waiting first second : List Name) → tasks ++ woken ≡ came ++ on_way
-    → ((f : Name → ℕ) → tally f woken + tally f sleeping + tally f waiting + tally f first + tally f second ≡ tally f came)
-    → Same tasks (sleeping ++ (on_way ++ (waiting ++ (first ++ second))))
-all_found tasks woken came on_way sleeping waiting first second sent even f =
+pub all_found : (tasks woken came on_way sleeping waiting done more kept last : List Name) → tasks ++ woken ≡ came ++ on_way
+    → ((f : Name → ℕ)
+    → tally (by_birth f) woken + tally (by_birth f) sleeping + tally (by_birth f) waiting + tally (by_birth f) done + tally (by_birth f) more + tally (by_birth f) kept
+    + tally (by_birth f) last
+    ≡ tally (by_birth f) came)
+    → Same (map at_birth tasks) (map at_birth (sleeping ++ (on_way ++ (waiting ++ (done ++ (more ++ (kept ++ last)))))))
+all_found tasks woken came on_way sleeping waiting done more kept last sent even f =
+    let g : Name → ℕ = by_birth f in
     omega (
       arith,
-      ap (tally f) sent,
+      tally_map at_birth f tasks,
+      tally_map at_birth f (sleeping ++ (on_way ++ (waiting ++ (done ++ (more ++ (kept ++ last)))))),
+      ap (tally g) sent,
       even f,
-      tally_append f tasks woken,
-      tally_append f came on_way,
-      tally_append f sleeping (on_way ++ (waiting ++ (first ++ second))),
-      tally_append f on_way (waiting ++ (first ++ second)),
-      tally_append f waiting (first ++ second),
-      tally_append f first second,
+      tally_append g tasks woken,
+      tally_append g came on_way,
+      tally_append g sleeping (on_way ++ (waiting ++ (done ++ (more ++ (kept ++ last))))),
+      tally_append g on_way (waiting ++ (done ++ (more ++ (kept ++ last)))),
+      tally_append g waiting (done ++ (more ++ (kept ++ last))),
+      tally_append g done (more ++ (kept ++ last)),
+      tally_append g more (kept ++ last),
+      tally_append g kept last,
     )

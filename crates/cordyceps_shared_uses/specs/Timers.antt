@@ -25,6 +25,10 @@ module _ {P : Type 0} where
   InOrder clock [] = Unit {0}
   InOrder clock (x ∷ s) = AllByRecursion (λ y. time_of clock x.1 ≤ time_of clock y.1) s × InOrder clock s
 
+  -- no deadline is before this time
+  abbrev pub NoneBefore : ℕ → Nodes (Timer P) → Type 0
+  NoneBefore now s = AllByRecursion (λ n. now ≤ n.1.value.deadline) s
+
   -- one more, which is at q, after all that do not fire later
   abbrev pub started : (clock : ℕ) → Ptr → Element (Timer P) → Nodes (Timer P) → Nodes (Timer P)
   started clock q t [] = (q, t) ∷ []

@@ -1,11 +1,11 @@
 -- What a party of the scheduler sent and received, and what its thread's account got and gave.
 use Rattle.std.specs.Prelude.{◌≡◌, ℕ, ◌+◌, List, [], ◌++◌}
-use Rattle.cordyceps.specs.Elements.Element.{Element, Elements}
+use Rattle.cordyceps.specs.Elements.Element.{Element}
 use Rattle.cordyceps.specs.Parties.Counts.{tally}
 use Rattle.cordyceps.specs.Queues.Calls.{PartyOf}
 use Rattle.cordyceps.specs.Queues.Moves.{Moves}
 use Rattle.cordyceps_shared_uses.specs.Accounts.{Entries, Moved}
-use Rattle.cordyceps_shared_uses.specs.Names.{name_of, names}
+use Rattle.cordyceps_shared_uses.specs.Names.{name_of, one_more}
 use Rattle.cordyceps_shared_uses.specs.declared.scheduler.name.Name.{Name}
 use Rattle.cordyceps_shared_uses.specs.declared.scheduler.work.Work.{Work}
 use Rattle.cordyceps_shared_uses.specs.declared.timers.Timer.{Timer}
@@ -36,10 +36,16 @@ pub record Came (a b : Entries) (u w : Seat) : Type 0 where
   pub took : Moves name_of [] tasks u w
   pub moved : Moved [] tasks a b
 
--- a worker, whose account goes from a to b, put t to sleep, or on those that are done
-pub record Settles (t : Element (Timer Work)) (a b : Entries) (before after : Elements (Timer Work)) : Type 0 where
+-- each task that a worker got has run one round more, if one was left, and then either went away from it, or is one of
+-- those that are done or kept
+abbrev pub RanOneEach : Entries → List Name → List Name → Type 0
+RanOneEach a done kept = (f : Name → ℕ)
+    → tally (λ x. f (one_more x)) a.got ≡ tally f a.gave + (tally f done + tally f kept)
+
+-- a worker, whose account goes from a to b, gave t away as it is, or t is one more of those that are done or kept
+pub record Settles (t : Element (Timer Work)) (a b : Entries) (done kept done' kept' : List Name) : Type 0 where
   pub table : b.table ≡ a.table
   pub parts : b.parts ≡ a.parts
   pub got : b.got ≡ a.got
-  pub gave : (f : Name → ℕ)
-      → tally f b.gave + tally f (names after) ≡ f (name_of t) + (tally f a.gave + tally f (names before))
+  pub gave : (f : Name → ℕ) → tally f b.gave + (tally f done' + tally f kept')
+      ≡ f (name_of t) + (tally f a.gave + (tally f done + tally f kept))

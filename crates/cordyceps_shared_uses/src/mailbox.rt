@@ -328,6 +328,10 @@ pub struct Delivered {
 /// # Waits
 /// For the threads that it starts. A sender that finds the queue full tries again until a room is free. The receiver
 /// sleeps while the queue is empty. If no thread can be started for a list, it is sent after others.
+///
+/// Since any number of messages pass through as little as one room, senders and receiver wait for each other. So no
+/// contract states that the call returns, which is tested. If there is a room for each message, nobody has to wait for
+/// another thread: each sender's party gets its rooms by `MpscQueue::split` and calls `enqueue`, which never waits.
 pub fn deliver<R: Threads + Wait + Sync>(
     rt: &R,
     alloc: Global,

@@ -1,14 +1,14 @@
 //! A scheduler that runs tasks on four threads. A task waits for a worker, runs a round, sleeps until it is due again,
 //! and so on until all its rounds are done. It stays in the node in which it was created, which passes through a queue,
 //! a list, timers and a stack.
-ghost use Rattle.std.specs.Prelude.{◌≡◌, ℕ, ◌+◌, ◌≤◌, [], true, IfErr, IfOk, IfSome};
+ghost use Rattle.std.specs.Prelude.{◌≡◌, ℕ, ◌+◌, ◌≤◌, [], map, true, IfErr, IfOk, IfSome};
 ghost use Rattle.std.specs.Thread.{IsSync};
 ghost use Rattle.cordyceps.specs.Parties.Counts.{tally, Same};
-ghost use Rattle.cordyceps_shared_uses.specs.Accounts.{Holds, IsOpen, opened};
-ghost use Rattle.cordyceps_shared_uses.specs.Names.{asleep, names};
+ghost use Rattle.cordyceps_shared_uses.specs.Accounts.{IsOpen, opened};
+ghost use Rattle.cordyceps_shared_uses.specs.Names.{asleep, at_birth, by_birth, names};
 ghost use Rattle.cordyceps_shared_uses.specs.Outcomes.{everywhere};
 ghost use Rattle.cordyceps_shared_uses.specs.Scheduler.{all_done, IsNew};
-ghost use Rattle.cordyceps_shared_uses.specs.Ways.{Came, SentAll};
+ghost use Rattle.cordyceps_shared_uses.specs.Ways.{Came, RanOneEach, SentAll};
 ghost use Rattle.cordyceps_shared_uses.specs.declared.scheduler.name.Name.{Name};
 
 pub mod accounts;
@@ -46,6 +46,8 @@ pub struct Outcome {
     pub runnable: List<Task>,
     /// The tasks that each worker has done, the last first.
     pub done: (Stack<Task>, Stack<Task>),
+    /// The tasks that each worker kept, the last first. There are none, unless `usize::MAX` tasks slept.
+    pub kept: (Stack<Task>, Stack<Task>),
 }
 
 /// Creates a task with a number, the number of its rounds, and the pause between two rounds, in ticks of the
@@ -242,10 +244,10 @@ fn start_worker<'s, E, L: Run + Send + Sync, R: Wait + Sync>(
     turns: u64,
 ) -> Option<JoinHandle<Worked<L>>>
     requires of { IsOpen L.accounts mine }
-    requires none { Holds mine [] }
+    requires none { RanOneEach mine [] [] }
 {
     let work_on = move || -> Worked<L>
-        requires { IsSync R.row × IsOpen L.accounts mine × Holds mine [] }
+        requires { IsSync R.row × IsOpen L.accounts mine × RanOneEach mine [] [] }
     { work(rt, shared, mine, &parker, turns) };
     scope.spawn(work_on).ok()
 }
@@ -271,7 +273,7 @@ fn start_three<'s, E, L: Run + Send + Sync, R: Wait + Sync>(
 ) -> Option<Started<L>>
     requires table { dispatcher.party.table ≡ queue.now.table }
     requires of { IsOpen L.accounts dispatcher.account × IsOpen L.accounts workers.0 × IsOpen L.accounts workers.1 }
-    requires none { Holds workers.0 [] × Holds workers.1 [] }
+    requires none { RanOneEach workers.0 [] [] × RanOneEach workers.1 [] [] }
     ensures { IfSome result (λ s. s.dispatcher.promise.from.value ≡ dispatcher) }
 {
     let dispatcher = start_dispatcher(scope, rt, queue, dispatcher, shared, parker)?;
@@ -327,7 +329,7 @@ fn run_four<L: Run + Send + Sync, R: Threads + Wait + Sync>(
     requires submitter { (submitter.party.table ≡ queue.now.table) × IsOpen L.accounts submitter.account }
     requires dispatcher { (dispatcher.party.table ≡ queue.now.table) × IsOpen L.accounts dispatcher.account }
     requires of { IsOpen L.accounts workers.0 × IsOpen L.accounts workers.1 }
-    requires none { Holds workers.0 [] × Holds workers.1 [] }
+    requires none { RanOneEach workers.0 [] [] × RanOneEach workers.1 [] [] }
     ensures sent { IfOk result (λ e.
         SentAll (names tasks) submitter.account e.submitter.account submitter.party e.submitter.party) }
     ensures came { IfOk result (λ e.
@@ -346,7 +348,7 @@ fn run_four<L: Run + Send + Sync, R: Threads + Wait + Sync>(
             requires { IsSync R.row × (submitter.party.table ≡ queue.now.table)
                 × IsOpen L.accounts submitter.account × (dispatcher.party.table ≡ queue.now.table)
                 × IsOpen L.accounts dispatcher.account × IsOpen L.accounts workers.0
-                × IsOpen L.accounts workers.1 × Holds workers.0 [] × Holds workers.1 [] }
+                × IsOpen L.accounts workers.1 × RanOneEach workers.0 [] [] × RanOneEach workers.1 [] [] }
             ensures sent { IfOk result (λ e.
                 SentAll (names tasks) submitter.account e.submitter.account submitter.party e.submitter.party) }
             ensures came { IfOk result (λ e.
@@ -374,7 +376,7 @@ fn run_four<L: Run + Send + Sync, R: Threads + Wait + Sync>(
 }
 
 /// Merges all accounts, and returns where all tasks are. In the merged account, the tasks that were got are those that
-/// were given.
+/// were given. What runs change is left out of the count, so that a worker gave what it got.
 fn settle<L: Run>(
     shared: Shared<L>,
     on_way: Batch<Task>,
@@ -382,10 +384,11 @@ fn settle<L: Run>(
     workers: (Worked<L>, Worked<L>),
 ) -> Outcome
     requires { IsOpen L.accounts threads.0 × IsOpen L.accounts threads.1 }
-    ensures even { (f : Name → ℕ) → tally f threads.0.got + tally f threads.1.got
-        + tally f (asleep result.asleep) + tally f (names result.runnable)
-        + tally f (names result.done.0) + tally f (names result.done.1)
-        ≡ tally f threads.0.gave + tally f threads.1.gave }
+    ensures even { (f : Name → ℕ) → tally (by_birth f) threads.0.got + tally (by_birth f) threads.1.got
+        + tally (by_birth f) (asleep result.asleep) + tally (by_birth f) (names result.runnable)
+        + tally (by_birth f) (names result.done.0) + tally (by_birth f) (names result.done.1)
+        + tally (by_birth f) (names result.kept.0) + tally (by_birth f) (names result.kept.1)
+        ≡ tally (by_birth f) threads.0.gave + tally (by_birth f) threads.1.gave }
     ensures on_way { result.on_way ≡ on_way }
     ensures done { (all_done result.done.0 ≡ true) × (all_done result.done.1 ≡ true) }
 {
@@ -412,6 +415,7 @@ fn settle<L: Run>(
         on_way,
         runnable,
         done: (first.done, second.done),
+        kept: (first.kept, second.kept),
     }
 }
 
@@ -451,7 +455,7 @@ fn run_in<L: Run + Send + Sync, R: Threads + Wait + Sync>(
     requires account { account ≡ opened accounts.table 6 }
     requires room { 1 ≤ rooms }
     requires few { rooms ≤ MAX_ROOMS }
-    ensures each_once { IfOk result (λ o. Same (names tasks) (everywhere o)) }
+    ensures each_once { IfOk result (λ o. Same (map at_birth (names tasks)) (map at_birth (everywhere o))) }
     ensures done { IfOk result (λ o. (all_done o.done.0 ≡ true) × (all_done o.done.1 ≡ true)) }
     ensures back { IfErr result (λ back. back ≡ tasks) }
 {
@@ -493,13 +497,15 @@ fn run_in<L: Run + Send + Sync, R: Threads + Wait + Sync>(
 
 /// Runs tasks on four threads, and returns where each task is at the end. The submitter sends the tasks to the
 /// dispatcher, and sends a task again when it is due after a sleep. The dispatcher hands them to two workers, which run
-/// one round of a task at a time. At the end each task that was given is in one place: it sleeps, is on its way, waits
-/// for a worker, or is done. A task that is done has run all its rounds.
+/// one round of a task at a time, after which it sleeps, unless it is done. At the end each task that was given is in
+/// one place: it sleeps, is on its way, waits for a worker, is done, or was kept by a worker. A task that is done has run
+/// all its rounds.
 ///
-/// The run ends when all tasks are done, or when the submitter or a worker has used up its `turns` turns. A thread that
-/// finds nothing to do sleeps until another one wakes it. The queue has `rooms` rooms, which bound the number of tasks
-/// that are on their way. The room of a task that was dispatched is used again, so neither the tasks nor their rounds
-/// have a bound. Requires that `rooms` is at least 1 and at most `MAX_ROOMS`.
+/// The run ends when all tasks are done, or when the submitter or a worker has used up its `turns` turns. A worker that
+/// cannot put a task to sleep, since `usize::MAX` tasks sleep, keeps it and ends the run. A thread that finds nothing to
+/// do sleeps until another one wakes it. The queue has `rooms` rooms, which bound the number of tasks that are on their
+/// way. The room of a task that was dispatched is used again, so neither the tasks nor their rounds have a bound.
+/// Requires that `rooms` is at least 1 and at most `MAX_ROOMS`.
 ///
 /// # Errors
 /// If memory is refused, or a thread cannot be started, the tasks are returned, none of which was run. It allocates the
@@ -507,8 +513,8 @@ fn run_in<L: Run + Send + Sync, R: Threads + Wait + Sync>(
 ///
 /// # Complexity
 /// O(`rooms` + n), for n tasks, and at most `turns` turns of the submitter and of each worker, besides the tries while
-/// no room is free. A turn is O(1) amortized, with two exceptions. If no task is due, a turn of the submitter costs as
-/// much as `Timers::first_deadline`. If `usize::MAX` tasks sleep, a worker runs all rounds of a task in one turn.
+/// no room is free. A turn is O(1) amortized, except that, if no task is due, a turn of the submitter costs as much as
+/// `Timers::first_deadline`.
 ///
 /// # Waits
 /// For the threads that it starts, and for two locks. No thread waits for anything else while it holds a lock. The
@@ -522,7 +528,7 @@ pub fn run<R: Threads + Wait + Sync>(
 ) -> Result<Outcome, List<Task>>
     requires room { 1 ≤ rooms }
     requires few { rooms ≤ MAX_ROOMS }
-    ensures each_once { IfOk result (λ o. Same (names tasks) (everywhere o)) }
+    ensures each_once { IfOk result (λ o. Same (map at_birth (names tasks)) (map at_birth (everywhere o))) }
     ensures done { IfOk result (λ o. (all_done o.done.0 ≡ true) × (all_done o.done.1 ≡ true)) }
     ensures back { IfErr result (λ back. back ≡ tasks) }
 {

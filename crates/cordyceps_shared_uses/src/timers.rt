@@ -21,7 +21,7 @@ ghost use denote.RawPtr.{Ptr};
 ghost use Rattle.cordyceps.specs.Elements.Nodes.{spots};
 ghost use Rattle.cordyceps.specs.Spots.BySpot.{HasSpot, IsTaken};
 ghost use Rattle.cordyceps.specs.Spots.Spots.{AreDistinct};
-ghost use Rattle.cordyceps_shared_uses.specs.Timers.{started, new_timer, due, first_time, time_of};
+ghost use Rattle.cordyceps_shared_uses.specs.Timers.{started, new_timer, due, first_time, time_of, InOrder};
 
 use cordyceps::clock_queue::Times;
 use cordyceps::list::Links;
@@ -213,6 +213,7 @@ impl<P: Drop> Timers<P> {
         ensures clock { MatchOption result
             (self.new.clock ≡ max self.old.clock now)
             (λ t. self.new.clock ≡ time_of self.old.clock t) }
+        ensures order { InOrder self.old.clock self.old.nodes }
         ensures distinct { AreDistinct (spots self.new.nodes) }
     {
         let first = self.queue.pop_due(now);

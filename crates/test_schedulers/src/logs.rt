@@ -51,6 +51,21 @@ fn log_twelve<R: Abort + Threads + Wait + Sync>(rt: &R, alloc: Global, rooms: us
 }
 
 #[test]
+fn no_producer_and_one_producer_are_logged(rt: HostRuntime) {
+    let none = made(&rt, log_all(&rt, rt.alloc(), List::new(), 1, 1));
+    same(&rt, none.len(), 0);
+    let mut producers = List::new();
+    producers.push_back(node(&rt, rt.alloc(), 0, producer(&rt, rt.alloc(), 7)));
+    let log = made(&rt, log_all(&rt, rt.alloc(), producers, 1, 1));
+    let mut time = 0u64;
+    for record in log.iter() {
+        same(&rt, (record.time, record.code), (time, 7));
+        time = time.wrapping_add(1);
+    }
+    same(&rt, time, 3);
+}
+
+#[test]
 fn each_producers_records_come_in_order_and_no_wakeup_is_lost(rt: HostRuntime) {
     for rooms in 1..5usize {
         for max in 1..5usize {

@@ -53,6 +53,20 @@ fn each_senders_messages_come_in_order_and_no_wakeup_is_lost(rt: HostRuntime) {
 }
 
 #[test]
+fn no_list_and_one_list_are_delivered(rt: HostRuntime) {
+    let mut lists = Vec::new(rt.alloc());
+    let none = made(&rt, deliver(&rt, rt.alloc(), lists.as_slice(), 1));
+    same(&rt, none.messages.len(), 0);
+    let values = [5, 3, 4];
+    made(
+        &rt,
+        lists.push(made(&rt, Vec::from_array(rt.alloc(), values))),
+    );
+    let all = made(&rt, deliver(&rt, rt.alloc(), lists.as_slice(), 1));
+    same(&rt, all.messages.as_slice(), values.as_slice());
+}
+
+#[test]
 fn messages_are_delivered_where_memory_is_refused(rt: HostRuntime) {
     deliver_twelve(&rt, rt.alloc(), 4);
 }

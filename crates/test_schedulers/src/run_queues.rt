@@ -64,6 +64,24 @@ fn each_job_is_run_once_and_no_wakeup_is_lost(rt: HostRuntime) -> Result<(), All
 }
 
 #[test]
+fn no_job_and_one_job_are_run(rt: HostRuntime) -> Result<(), AllocError> {
+    let none = made(&rt, run_all(&rt, rt.alloc(), Stack::new(), 1));
+    same(&rt, none.jobs.is_empty(), true);
+    let mut jobs = Stack::new();
+    let job = Job {
+        number: 5,
+        square: 0,
+    };
+    jobs.push(node_of(rt.alloc(), 0, job)?);
+    let mut squares = 0u64;
+    for job in made(&rt, run_all(&rt, rt.alloc(), jobs, 1)).jobs {
+        squares = squares.wrapping_add(job.get().square);
+    }
+    same(&rt, squares, 25);
+    Ok(())
+}
+
+#[test]
 fn jobs_come_back_where_memory_is_refused(rt: HostRuntime) -> Result<(), AllocError> {
     run_eight(&rt, rt.alloc(), 4)
 }

@@ -9,7 +9,9 @@ use cordyceps::mpsc_queue::MAX_ROOMS;
 use cordyceps::{List, Node, Stack};
 use cordyceps_shared_uses::scheduler::accounts::{Account, Accounts};
 use cordyceps_shared_uses::scheduler::places::{Run, Runnable, Sleepers, Task};
+use cordyceps_shared_uses::scheduler::work::Work;
 use cordyceps_shared_uses::scheduler::{Outcome, birth, run};
+use cordyceps_shared_uses::timers::Timers;
 use std::alloc::{AllocError, Global};
 use std::marker::Brand;
 use std::process::Abort;
@@ -18,6 +20,14 @@ use std::thread::Threads;
 
 /// How often a thread looks for something to do, at most.
 const TURNS: u64 = 1_000_000_000;
+
+/// The turns that suffice for eight tasks of three rounds. A worker uses a turn for each of its rounds, of which there
+/// are at most 24, and one for each time that it is woken: once for each of the 24 tasks that come to wait, and once at
+/// the end.
+const FEW_TURNS: u64 = 64;
+
+/// The pauses of tasks are below this number.
+const PAUSES: u32 = 4;
 
 /// The number of runs with one number of rooms. All are a thousand runs.
 const ROUNDS: u64 = 250;
@@ -49,13 +59,15 @@ fn tasks(rt: &impl Abort, alloc: Global, count: u32, rounds: u32, pauses: u32) -
 }
 
 /// How many tasks are in each place. Of those that are done, how many came before, have another number than those that
-/// were submitted, or did not run as they should.
+/// were submitted, or did not run and sleep as they should. Of those that sleep, how many ran no round or all, or have
+/// a deadline that no pause leads to.
 #[derive(Debug, PartialEq, Clone, Copy)]
 struct Counts {
     asleep: u64,
     on_way: usize,
     runnable: usize,
     done: u64,
+    kept: u64,
     wrong: u64,
 }
 
@@ -66,8 +78,24 @@ fn all_done(done: u64) -> Counts {
         on_way: 0,
         runnable: 0,
         done,
+        kept: 0,
         wrong: 0,
     }
+}
+
+/// Returns `true` if a task has slept at least as often as a task should that ran so many rounds: each sleep puts its
+/// deadline off by its pause, or by more.
+fn has_slept(task: &Task, sleeps: u32) -> bool {
+    task.deadline >= (sleeps as u64).wrapping_mul(task.payload.pause as u64)
+}
+
+/// Returns the number of tasks.
+fn number_of(tasks: Stack<Task>) -> u64 {
+    let mut number = 0u64;
+    for _task in tasks {
+        number = number.wrapping_add(1);
+    }
+    number
 }
 
 /// Adds those that are done, and marks their numbers. Each should have run this many rounds.
@@ -76,12 +104,37 @@ fn note(counts: &mut Counts, seen: &mut [bool], done: Stack<Task>, rounds: u32) 
         let work = &task.get().payload;
         let number = work.number;
         let sum = (number as u64).wrapping_mul(rounds as u64);
-        let is_right = work.ran == rounds && work.sum == sum;
+        let is_right = work.ran == rounds
+            && work.sum == sum
+            && has_slept(task.get(), rounds.saturating_sub(1));
         counts.done = counts.done.wrapping_add(1);
         match seen.get_mut(number as usize) {
             Some(seen) if is_right && !*seen => *seen = true,
             _ => counts.wrong = counts.wrong.wrapping_add(1),
         }
+    }
+}
+
+/// Returns the latest time that can come where so many tasks run so many rounds. Each deadline is a pause after an
+/// earlier one, or after the start, and no pause is longer than `PAUSES`.
+fn last_time(tasks: usize, rounds: u32) -> u64 {
+    (tasks as u64)
+        .wrapping_mul(rounds as u64)
+        .wrapping_mul(PAUSES as u64)
+}
+
+/// Adds those that sleep. Each should have run a round, have one left, and be woken after a pause.
+fn note_asleep(counts: &mut Counts, asleep: &mut Timers<Work>, rounds: u32, latest: u64) {
+    for _turn in 0..u64::MAX {
+        let Some(task) = asleep.stop_due(u64::MAX) else {
+            return;
+        };
+        let ran = task.get().payload.ran;
+        let is_right = ran > 0 && ran < rounds && has_slept(task.get(), ran);
+        if !is_right || task.get().deadline > latest {
+            counts.wrong = counts.wrong.wrapping_add(1);
+        }
+        counts.asleep = counts.asleep.wrapping_add(1);
     }
 }
 
@@ -92,22 +145,20 @@ fn count(seen: &mut [bool], outcome: Outcome, rounds: u32) -> Counts {
         on_way,
         runnable,
         done,
+        kept,
     } = outcome;
+    let latest = last_time(seen.len(), rounds);
     let mut counts = Counts {
         asleep: 0,
         on_way: on_way.len(),
         runnable: runnable.len(),
         done: 0,
+        kept: number_of(kept.0).wrapping_add(number_of(kept.1)),
         wrong: 0,
     };
     note(&mut counts, seen, done.0, rounds);
     note(&mut counts, seen, done.1, rounds);
-    for _turn in 0..u64::MAX {
-        if asleep.stop_due(u64::MAX).is_none() {
-            break;
-        }
-        counts.asleep = counts.asleep.wrapping_add(1);
-    }
+    note_asleep(&mut counts, &mut asleep, rounds, latest);
     counts
 }
 
@@ -143,6 +194,15 @@ fn each_task_is_done_once(rt: HostRuntime) -> Result<(), AllocError> {
     Ok(())
 }
 
+#[test]
+fn no_task_and_one_task_are_run(rt: HostRuntime) {
+    for number in 0..2u32 {
+        let tasks = tasks(&rt, rt.alloc(), number, 3, PAUSES);
+        let counts = counted(&rt, rt.alloc(), tasks, 1, TURNS, &mut [false; 1], 3);
+        same(&rt, counts, all_done(number as u64));
+    }
+}
+
 /// Makes eight tasks of three rounds each, runs them on a queue of this many rooms, for this many turns, and returns
 /// where they are in the end.
 fn eight<R: Threads + Wait + Abort + Sync>(
@@ -153,7 +213,7 @@ fn eight<R: Threads + Wait + Abort + Sync>(
 ) -> Counts
     requires { (1 ≤ rooms) × (rooms ≤ MAX_ROOMS) }
 {
-    let tasks = tasks(rt, alloc, 8, 3, 4);
+    let tasks = tasks(rt, alloc, 8, 3, PAUSES);
     counted(rt, alloc, tasks, rooms, turns, &mut [false; 8], 3)
 }
 
@@ -185,14 +245,22 @@ fn tasks_stay_somewhere_where_the_turns_end(rt: HostRuntime) {
             on_way,
             runnable,
             done,
+            kept,
             wrong,
         } = eight(&rt, rt.alloc(), 4, turns);
         let places = [asleep, on_way as u64, runnable as u64, done];
         let all = places
             .iter()
             .fold(0u64, |sum, count| sum.wrapping_add(*count));
-        same(&rt, (all, wrong), (8, 0));
+        // a worker runs one round in a turn, and a task is done after three
+        let are_few = done.wrapping_mul(3) <= turns.wrapping_mul(2);
+        same(&rt, (all, kept, wrong, are_few), (8, 0, 0, true));
     }
+}
+
+#[test]
+fn no_turn_is_lost(rt: HostRuntime) {
+    same(&rt, eight(&rt, rt.alloc(), 4, FEW_TURNS), all_done(8));
 }
 
 /// What one thread has that runs tasks alone: the two places, its account, and the numbers of those that are done, in

@@ -50,7 +50,7 @@ pub(crate) trait Chosen {
 impl Chosen for Brand {
     ghost parts = { 0 };
 
-    ghost name = { record { id = 0; number = 0; rounds = 0; pause = 0 } };
+    ghost name = { record { id = 0; number = 0; rounds = 0; pause = 0; ran = 0 } };
 }
 
 /// A split by which an account gives `B::parts` of its parts to a new one.

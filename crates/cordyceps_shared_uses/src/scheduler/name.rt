@@ -1,4 +1,4 @@
-//! The data of a task that stay the same in all collections.
+//! What accounts enter of a task.
 ghost use Rattle.std.specs.Prelude.{◌≡◌};
 ghost use Rattle.cordyceps_shared_uses.specs.Names.{name_of};
 
@@ -6,7 +6,8 @@ use crate::scheduler::work::Work;
 use crate::timers::Timer;
 use cordyceps::{Kind, Node};
 
-/// The data of a task that stay the same while it goes from place to place and runs.
+/// What an account enters of a task that comes or goes: the data that stay the same while it goes from place to place
+/// and runs, and the number of rounds that it has run by then.
 #[derive(Clone, Copy)]
 pub struct Name {
     /// The number of the task's node.
@@ -17,6 +18,8 @@ pub struct Name {
     pub rounds: u32,
     /// The pause between two rounds, in ticks of the scheduler's time.
     pub pause: u32,
+    /// The number of its rounds that were run.
+    pub ran: u32,
 }
 
 impl Name {
@@ -33,6 +36,7 @@ impl Name {
             number: work.number,
             rounds: work.rounds,
             pause: work.pause,
+            ran: work.ran,
         }
     }
 }

@@ -11,19 +11,20 @@ ghost use Rattle.std.specs.Prelude.{
   ◌∷◌,
   ◌++◌,
   length,
-  true,
   IfErr,
   IsOk,
+  nat_lt,
   MatchOption,
   MatchResult,
   OnErr,
   OnOk,
 };
 ghost use denote.RawPtr.{Ptr};
+ghost use Rattle.std.proofs.Props.{props};
 ghost use Rattle.cordyceps_shared_uses.specs.Accounts.{Holds, IsOpen, after_getting, after_giving};
 ghost use Rattle.cordyceps_shared_uses.specs.Names.{asleep, name_of, names};
 ghost use Rattle.cordyceps_shared_uses.specs.Scheduler.{paused};
-ghost use Rattle.cordyceps_shared_uses.specs.Timers.{started, due, until_first};
+ghost use Rattle.cordyceps_shared_uses.specs.Timers.{started, due, until_first, NoneBefore};
 
 use crate::scheduler::accounts::{Account, Accounts};
 use crate::scheduler::name::Name;
@@ -68,7 +69,7 @@ fn end_of_pause(now: u64, pause: u32) -> u64
 /// Tasks that sleep, the earliest deadline first, and the scheduler's time.
 #[derive(Drop)]
 pub struct Sleepers<L: Run> {
-    /// The scheduler's time, in ticks. It advances only when no task is due.
+    /// The scheduler's time, in ticks. It advances only when no task is due, and at most to the earliest deadline.
     pub time: u64,
     /// The tasks that sleep, each until its deadline.
     pub timers: Timers<Work>,
@@ -78,6 +79,7 @@ pub struct Sleepers<L: Run> {
     ghost of: { IsOpen L.accounts account },
     ghost counted: { Holds account (asleep timers) },
     ghost passed: { timers.clock ≤ time },
+    ghost none_missed: { NoneBefore time timers.nodes } by { Prim.hlevel props },
 }
 
 impl<L: Run> Sleepers<L> {
@@ -89,6 +91,9 @@ impl<L: Run> Sleepers<L> {
     pub fn new(account: Account) -> Sleepers<L>
         requires of { IsOpen L.accounts account }
         requires none { Holds account [] }
+        ensures time { result.time ≡ 0 }
+        ensures timers { result.timers ≡ record { nodes = []; clock = 0 } }
+        ensures account { result.account ≡ account }
     {
         Sleepers {
             time: 0,
@@ -140,8 +145,8 @@ impl<L: Run> Sleepers<L> {
     }
 
     /// Wakes the task with the earliest deadline and returns it, if it is due, and enters the transfer to the calling
-    /// thread in both accounts. If no task is due, it returns `None`, and the time advances to the earliest deadline,
-    /// if any task sleeps.
+    /// thread in both accounts. Since no deadline is before the time, it is due exactly if its deadline is the time. If
+    /// no task is due, it returns `None`, and the time advances to the earliest deadline, if any task sleeps.
     ///
     /// # Complexity
     /// O(1) amortized if a task is woken. Otherwise that of `Timers::first_deadline`.
@@ -154,7 +159,7 @@ impl<L: Run> Sleepers<L> {
             ((self.new.timers.nodes ≡ self.old.timers.nodes)
             × (due self.old.timers.clock self.old.time self.old.timers.nodes ≡ []))
             (λ task. (spot : Ptr) × (self.old.timers.nodes ≡ (spot, task) ∷ self.new.timers.nodes)
-            × (task.value.deadline ≤ self.old.time)) }
+            × (task.value.deadline ≡ self.old.time)) }
         ensures time { MatchOption result
             (self.new.time ≡ until_first self.old.time self.old.timers.nodes)
             (λ _. self.new.time ≡ self.old.time) }
@@ -167,6 +172,30 @@ impl<L: Run> Sleepers<L> {
         };
         accounts.give(&mut self.account, mine, Name::of(&task));
         Some(task)
+    }
+
+    /// Wakes the task with the earliest deadline and returns it, and enters the transfer to the calling thread in both
+    /// accounts. If it is not due yet, the time advances to its deadline. Returns `None` if no task sleeps, and the time
+    /// stays.
+    ///
+    /// # Complexity
+    /// That of two calls of `wake`.
+    pub fn wake_first(&mut self, accounts: &Accounts, mine: &mut Account) -> Option<Stopped<Work>>
+        requires { (accounts.now.table ≡ L.accounts) × IsOpen L.accounts mine.old }
+        ensures mine { MatchOption result
+            (mine.new ≡ mine.old)
+            (λ task. mine.new ≡ after_getting (name_of task) mine.old) }
+        ensures woken { MatchOption result
+            (self.old.timers.nodes ≡ [])
+            (λ task. (spot : Ptr) × (self.old.timers.nodes ≡ (spot, task) ∷ self.new.timers.nodes)) }
+        ensures time { MatchOption result
+            (self.new.time ≡ self.old.time)
+            (λ task. self.new.time ≡ task.value.deadline) }
+    {
+        match self.wake(accounts, mine) {
+            Some(task) => Some(task),
+            None => self.wake(accounts, mine),
+        }
     }
 
     /// Returns the tasks that still sleep, and the account of the place.
@@ -208,6 +237,8 @@ impl<L: Run> Runnable<L> {
     pub fn new(account: Account) -> Runnable<L>
         requires of { IsOpen L.accounts account }
         requires none { Holds account [] }
+        ensures tasks { result.tasks ≡ [] }
+        ensures account { result.account ≡ account }
     {
         Runnable {
             tasks: List::new(),
@@ -221,7 +252,7 @@ impl<L: Run> Runnable<L> {
     /// # Complexity
     /// O(1).
     pub fn has_room(&self) -> bool
-        ensures { result ≡ true → length self.now.tasks < usize.MAX }
+        ensures { result ≡ nat_lt (length self.now.tasks) usize.MAX }
     {
         self.tasks.len() < usize::MAX
     }

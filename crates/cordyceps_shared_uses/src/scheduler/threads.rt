@@ -1,10 +1,25 @@
 //! The work of the scheduler's four threads: one sends tasks and wakes them, one dispatches them, and two run them.
-ghost use Rattle.std.specs.Prelude.{◌≡◌, ◌<◌, [], ◌∷◌, true, MatchOption};
+ghost use Rattle.std.specs.Prelude.{
+  ◌≡◌,
+  ◌<◌,
+  [],
+  ◌∷◌,
+  ◌++◌,
+  length,
+  true,
+  false,
+  Ok,
+  Err,
+  MatchOption,
+  MatchResult,
+};
 ghost use Rattle.cordyceps.specs.Elements.Element.{Element};
-ghost use Rattle.cordyceps_shared_uses.specs.Accounts.{Holds, IsOpen, after_getting};
-ghost use Rattle.cordyceps_shared_uses.specs.Names.{names, name_of};
+ghost use Rattle.cordyceps.specs.Queues.Calls.{Dequeues};
+ghost use Rattle.cordyceps_shared_uses.specs.Accounts.{IsOpen, after_getting};
+ghost use Rattle.cordyceps_shared_uses.specs.Names.{names, name_of, one_more};
 ghost use Rattle.cordyceps_shared_uses.specs.Scheduler.{all_done, Ran};
-ghost use Rattle.cordyceps_shared_uses.specs.Ways.{Sent, Came, Settles, Woken};
+ghost use Rattle.cordyceps_shared_uses.specs.Ways.{Sent, Came, RanOneEach, Settles, Woken};
+ghost use Rattle.cordyceps_shared_uses.specs.declared.scheduler.name.Name.{Name};
 ghost use Rattle.cordyceps_shared_uses.specs.declared.scheduler.work.Work.{Work};
 ghost use Rattle.cordyceps_shared_uses.specs.declared.timers.Timer.{Timer};
 
@@ -89,17 +104,20 @@ impl<L: Run> Shared<L> {
     }
 }
 
-/// What a worker returns.
+/// What a worker returns. Each task that it got has run one round more, if one was left. It then went to sleep, is done
+/// or was kept.
 #[derive(Drop)]
 pub struct Worked<L: Run> {
     /// The tasks that it has done, each with all its rounds, the last first.
     pub done: Stack<Task>,
+    /// The tasks that it kept since `usize::MAX` tasks slept, the last first.
+    pub kept: Stack<Task>,
     /// The account of the worker.
     pub account: Account,
     /// The run to which the account belongs.
     pub run: PhantomData<L>,
     ghost of: { IsOpen L.accounts account },
-    ghost counted: { Holds account (names done) },
+    ghost ran: { RanOneEach account (names done) (names kept) },
     ghost finished: { all_done done ≡ true },
 }
 
@@ -149,8 +167,7 @@ pub fn submit<L: Run, R: Wait>(
     }
 }
 
-/// Wakes the task with the earliest deadline, which is due at once or after the time advanced. Returns `None` if no
-/// task sleeps.
+/// Wakes the task with the earliest deadline, by `Sleepers::wake_first`. Returns `None` if no task sleeps.
 fn wake_first<L: Run, R: Wait>(
     rt: &R,
     shared: &Shared<L>,
@@ -162,10 +179,7 @@ fn wake_first<L: Run, R: Wait>(
         (λ task. mine.new ≡ after_getting (name_of task) mine.old) }
 {
     let mut sleepers = shared.sleepers.lock(rt);
-    if let Some(task) = sleepers.wake(&shared.accounts, mine) {
-        return Some(task);
-    }
-    sleepers.wake(&shared.accounts, mine)
+    sleepers.wake_first(&shared.accounts, mine)
 }
 
 /// Wakes tasks that are due, at most one in each of `turns` turns, and sends them to the dispatcher. While no task
@@ -203,9 +217,38 @@ pub fn wake<L: Run, R: Wait>(
     shared.call_off();
 }
 
-/// Takes a task from the queue and appends it to those that wait for a worker. The workers are woken if no task waited.
-/// Gives the room of the task to the pool. Returns why, if it finds no task to take, and `Busy` if `usize::MAX` tasks
-/// wait.
+/// Takes a task from the queue and appends it to those that wait for a worker. Returns why, if it finds no task to take,
+/// and `Busy` if `usize::MAX` tasks wait.
+fn take_in<L: Run>(
+    queue: &MpscQueue<Task>,
+    party: &mut Party<Task>,
+    runnable: &mut Runnable<L>,
+    accounts: &Accounts,
+    mine: &mut Account,
+) -> Result<(), TryDequeueError>
+    requires table { party.old.table ≡ queue.now.table }
+    requires of { (accounts.now.table ≡ L.accounts) × IsOpen L.accounts mine.old }
+    ensures came { Came mine.old mine.new party.old party.new }
+    ensures tasks { MatchResult result
+        (λ _. (task : Element (Timer Work)) × Dequeues (Ok task) party.old party.new
+        × (runnable.new.tasks ≡ runnable.old.tasks ++ task ∷ []))
+        (λ why. (runnable.new.tasks ≡ runnable.old.tasks)
+        × (length runnable.old.tasks < usize.MAX → Dequeues (Err why) party.old party.new)) }
+{
+    if !runnable.has_room() {
+        return Err(TryDequeueError::Busy);
+    }
+    match queue.try_dequeue(party) {
+        Ok(task) => {
+            runnable.put(accounts, mine, task.into_kind());
+            Ok(())
+        }
+        Err(why) => Err(why),
+    }
+}
+
+/// Moves a task from the queue to those that wait for a worker, by `take_in`. The workers are woken if no task waited.
+/// Gives the room of the task to the pool.
 fn dispatch_one<L: Run, R: Wait>(
     rt: &R,
     queue: &MpscQueue<Task>,
@@ -218,12 +261,8 @@ fn dispatch_one<L: Run, R: Wait>(
     ensures { Came mine.old mine.new party.old party.new }
 {
     let mut runnable = shared.runnable.lock(rt);
-    if !runnable.has_room() {
-        return Err(TryDequeueError::Busy);
-    }
     let is_first = runnable.tasks.is_empty();
-    let task = queue.try_dequeue(party)?;
-    runnable.put(&shared.accounts, mine, task.into_kind());
+    take_in(queue, party, &mut runnable, &shared.accounts, mine)?;
     drop(runnable);
     if is_first {
         shared.alarms.wake_workers();
@@ -268,7 +307,7 @@ pub fn dispatch<L: Run, R: Wait>(
 
 /// Runs one round of a task, if one is left.
 fn run_round(task: &mut Node<Task, list::Links<Task>>)
-    ensures name { name_of task.new ≡ name_of task.old }
+    ensures name { name_of task.new ≡ one_more (name_of task.old) }
     ensures one { task.old.value.payload.ran < task.old.value.payload.rounds
         → Ran 1 task.old.value.payload task.new.value.payload }
     ensures none { task.old.value.payload.ran ≡ task.old.value.payload.rounds → task.new ≡ task.old }
@@ -277,14 +316,6 @@ fn run_round(task: &mut Node<Task, list::Links<Task>>)
     if !work.is_done() {
         work.run();
     }
-}
-
-/// Runs all rounds of a task that are left.
-fn run_rest(task: &mut Node<Task, list::Links<Task>>)
-    ensures name { name_of task.new ≡ name_of task.old }
-    ensures ran { task.new.value.payload.ran ≡ task.new.value.payload.rounds }
-{
-    task.get_mut().payload.finish();
 }
 
 /// Pushes a task onto those that are done, and counts it as done. The last one ends the run for all threads.
@@ -297,28 +328,30 @@ fn retire<L: Run>(shared: &Shared<L>, done: &mut Stack<Task>, task: Node<Task, l
     }
 }
 
-/// Runs all rounds of a task that are left, and retires it.
-fn run_out<L: Run>(shared: &Shared<L>, done: &mut Stack<Task>, task: Node<Task, list::Links<Task>>)
-    ensures { (e : Element (Timer Work)) × (done.new ≡ e ∷ done.old) × (name_of e ≡ name_of task)
-        × (e.value.payload.ran ≡ e.value.payload.rounds) }
+/// Keeps a task for which there is no room to sleep, and calls the run off, since not all tasks can be done.
+fn keep<L: Run>(shared: &Shared<L>, kept: &mut Stack<Task>, task: Node<Task, list::Links<Task>>)
+    ensures { kept.new ≡ task ∷ kept.old }
 {
-    let mut awake = task;
-    run_rest(&mut awake);
-    retire(shared, done, awake);
+    kept.push(task.into_kind());
+    shared.call_off();
 }
 
 /// Retires a task that is done, and puts another one to sleep, which wakes the submitter. If `usize::MAX` tasks sleep,
-/// it runs the rounds that are left at once and retires the task.
+/// it keeps the task.
 fn settle<L: Run, R: Wait>(
     rt: &R,
     shared: &Shared<L>,
     mine: &mut Account,
     done: &mut Stack<Task>,
+    kept: &mut Stack<Task>,
     task: Node<Task, list::Links<Task>>,
 )
     requires { IsOpen L.accounts mine.old }
-    ensures settles { Settles task mine.old mine.new done.old done.new }
-    ensures kept { task.value.payload.ran ≡ task.value.payload.rounds → done.new ≡ task ∷ done.old }
+    ensures settles { Settles task mine.old mine.new
+        (names done.old) (names kept.old) (names done.new) (names kept.new) }
+    ensures retired { task.value.payload.ran ≡ task.value.payload.rounds
+        → (mine.new ≡ mine.old) × (done.new ≡ task ∷ done.old) × (kept.new ≡ kept.old) }
+    ensures not_done { task.value.payload.ran < task.value.payload.rounds → done.new ≡ done.old }
     ensures finished { all_done done.old ≡ true → all_done done.new ≡ true }
 {
     if task.get().payload.is_done() {
@@ -330,7 +363,7 @@ fn settle<L: Run, R: Wait>(
         shared.alarms.submitter.unpark();
         return;
     };
-    run_out(shared, done, awake);
+    keep(shared, kept, awake);
 }
 
 /// Takes a task that waits, runs one round of it and settles it. Returns `false` if no task waits.
@@ -339,11 +372,15 @@ fn work_one<L: Run, R: Wait>(
     shared: &Shared<L>,
     mine: &mut Account,
     done: &mut Stack<Task>,
+    kept: &mut Stack<Task>,
 ) -> bool
     requires { IsOpen L.accounts mine.old }
     ensures of { IsOpen L.accounts mine.new }
-    ensures held { Holds mine.old (names done.old) → Holds mine.new (names done.new) }
+    ensures ran { RanOneEach mine.old (names done.old) (names kept.old)
+        → RanOneEach mine.new (names done.new) (names kept.new) }
     ensures finished { all_done done.old ≡ true → all_done done.new ≡ true }
+    ensures one { result ≡ true → (name : Name) × (mine.new.got ≡ name ∷ mine.old.got) }
+    ensures none { result ≡ false → (mine.new ≡ mine.old) × (done.new ≡ done.old) × (kept.new ≡ kept.old) }
 {
     let next = shared.runnable.lock(rt).take(&shared.accounts, mine);
     let Some(task) = next else {
@@ -351,16 +388,17 @@ fn work_one<L: Run, R: Wait>(
     };
     let mut task = task;
     run_round(&mut task);
-    settle(rt, shared, mine, done, task);
+    settle(rt, shared, mine, done, kept, task);
     true
 }
 
 /// Runs one round of one task in each of `turns` turns, and returns the tasks that are done. The others sleep until
 /// their next round. While no task waits, this thread sleeps. It ends early if all tasks are done, or the run was
-/// called off. After its last turn, it calls the run off.
+/// called off. After its last turn, it calls the run off. If `usize::MAX` tasks sleep, it keeps the task that it would
+/// put to sleep, and calls the run off.
 ///
 /// # Complexity
-/// O(`turns`), unless `usize::MAX` tasks sleep: it then runs all rounds of a task in one turn.
+/// O(`turns`).
 ///
 /// # Waits
 /// For the locks of the two places, and for a task to take.
@@ -372,21 +410,22 @@ pub fn work<L: Run, R: Wait>(
     turns: u64,
 ) -> Worked<L>
     requires of { IsOpen L.accounts mine }
-    requires none { Holds mine [] }
+    requires none { RanOneEach mine [] [] }
 {
     let mut mine = mine;
-    let mut done = Stack::new();
+    let (mut done, mut kept) = (Stack::new(), Stack::new());
     for _turn in 0..turns {
         if shared.is_over() {
             break;
         }
-        if !work_one(rt, shared, &mut mine, &mut done) {
+        if !work_one(rt, shared, &mut mine, &mut done, &mut kept) {
             parker.park(rt);
         }
     }
     shared.call_off();
     Worked {
         done,
+        kept,
         account: mine,
         run: PhantomData,
     }

@@ -77,19 +77,4 @@ impl Work {
         *sum += *number as u64;
         *ran += 1;
     }
-
-    /// Runs all rounds that are left, one after the other.
-    ///
-    /// # Complexity
-    /// O(k), for k rounds that are left.
-    pub fn finish(&mut self)
-        ensures number { self.new.number ≡ self.old.number }
-        ensures rounds { self.new.rounds ≡ self.old.rounds }
-        ensures pause { self.new.pause ≡ self.old.pause }
-        ensures ran { self.new.ran ≡ self.old.rounds }
-    {
-        while !self.is_done() {
-            self.run();
-        }
-    }
 }

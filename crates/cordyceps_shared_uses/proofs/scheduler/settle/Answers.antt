@@ -15,5 +15,5 @@ returns-clause-even g c =
     let all =
     c.absorb-5.ensures ∙ ap (λ (z : Entries). joined z w.account) (c.absorb-4.ensures ∙ ap (λ (z : Entries). joined z v.account) (c.absorb-3.ensures ∙ ap (λ (z : Entries). joined z u) (c.absorb-2.ensures ∙ ap (λ (z : Entries). joined z t) c.absorb.ensures)))
     in
-    six_even s.1 r.1 t u v.account w.account c.absorb-5.new.account (asleep s.0) (names r.0) (names v.done) (names w.done) all c.audit.ensures.even
-    c.into_tasks-asleep.ensures.held c.into_tasks-runnable.ensures.held v.counted w.counted
+    six_even s.1 r.1 t u v.account w.account c.absorb-5.new.account (asleep s.0) (names r.0) (names v.done) (names v.kept) (names w.done) (names w.kept) all c.audit.ensures.even
+    c.into_tasks-asleep.ensures.held c.into_tasks-runnable.ensures.held v.ran w.ran

@@ -3,7 +3,7 @@ use Rattle.cordyceps.specs.Elements.Nodes.{spots}
 use Rattle.cordyceps.specs.Spots.Spots.{AreDistinct}
 use Rattle.cordyceps_shared_uses.specs.declared.timers.NotBefore.{NotBefore}
 use Rattle.cordyceps_shared_uses.specs.declared.timers.Timer.{Timer}
-use Rattle.cordyceps_shared_uses.specs.Timers.{Running, arranged, due, time_of}
+use Rattle.cordyceps_shared_uses.specs.Timers.{Running, InOrder, arranged, due, time_of}
 use Rattle.cordyceps_shared_uses.proofs.Arranging.{arranged_same, distinct, in_order, none_due_of, popped, so, stayed}
 use Rattle.cordyceps_shared_uses.proofs.Deadlines.{times_are}
 use Rattle.cordyceps_shared_uses.proofs.timers.Timers.stop_due.Goals as goal
@@ -46,6 +46,9 @@ returns-clause-clock g c =
     so c.pop_due-first.result c.pop_due-first.ensures.due
     (λ none. let (clock, _, _) = none in set.now ∙ clock ∙ ap (λ (t : Running g.row.P.Denot). max t.clock c.args.now) c.self.view_is)
     (λ t some. let (_, tells, _) = some in let (clock, _, _) = tells _ own in set.now ∙ clock ∙ ap (λ (r : Running g.row.P.Denot). time_of r.clock t) c.self.view_is)
+
+pub returns-clause-order : goal.returns-clause-order
+returns-clause-order g c = subst (λ (t : Running g.row.P.Denot). InOrder t.clock t.nodes) c.self.view_is c.self.invariant.order
 
 pub returns-clause-distinct : goal.returns-clause-distinct
 returns-clause-distinct g c =

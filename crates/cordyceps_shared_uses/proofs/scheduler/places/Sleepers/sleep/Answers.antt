@@ -1,11 +1,11 @@
-use Rattle.std.proofs.Common.{◌≡◌, ◌+◌, ◌-◌, ◌≤◌, ◌^◌, min, ap, sym, ◌∙◌, subst}
+use Rattle.std.proofs.Common.{◌≡◌, ◌+◌, ◌-◌, ◌≤◌, ◌^◌, min, ap, sym, ◌∙◌, subst, arith}
 use Rattle.cordyceps.specs.Elements.Element.{Element}
 use Rattle.cordyceps.specs.Elements.Nodes.{Nodes}
 use Rattle.cordyceps_shared_uses.specs.declared.timers.Timer.{Timer}
 use Rattle.cordyceps_shared_uses.specs.declared.scheduler.work.Work.{Work}
 use Rattle.cordyceps_shared_uses.specs.Names.{name_of}
 use Rattle.cordyceps_shared_uses.specs.Timers.{started}
-use Rattle.cordyceps_shared_uses.proofs.Scheduling.{open_got, holds_slept}
+use Rattle.cordyceps_shared_uses.proofs.Scheduling.{open_got, holds_slept, none_missed_started}
 use Rattle.cordyceps_shared_uses.proofs.scheduler.places.Sleepers.sleep.Goals as goal
 
 pub invariant_of-self : goal.invariant_of-self
@@ -16,6 +16,8 @@ invariant_of-self g c =
       of = open_got was.of c.give.ensures.got;
       counted = holds_slept c.in-Ok.field-0 _ was.timers c.restart.new.self was.counted c.give.ensures.got same c.in-Ok.ensures.started;
       passed = subst (λ k. k ≤ was.time) (sym c.restart.ensures.clock) was.passed;
+      none_missed =
+          none_missed_started was.time c.in-Ok.field-0 _ was.timers c.restart.new.self c.in-Ok.ensures.started was.none_missed (omega (arith, c.end_of_pause.ensures.later));
     }
 
 pub returns-in-Ok-clause-sleeps : goal.returns-in-Ok-clause-sleeps
