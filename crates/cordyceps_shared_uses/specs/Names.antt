@@ -6,7 +6,7 @@ use Rattle.cordyceps_shared_uses.specs.declared.scheduler.name.Name.{Name}
 use Rattle.cordyceps_shared_uses.specs.declared.scheduler.work.Work.{Work}
 use Rattle.cordyceps_shared_uses.specs.Timers.{Running}
 
--- its node's number, its own, how many rounds it has, how long it sleeps between two of them, and how many of them it ran
+-- its node's number, its own, how many rounds it has, how long it sleeps between two of them, and how many it ran
 abbrev pub name_of : Element (Timer Work) → Name
 name_of e = record {
   id = e.id;

@@ -498,13 +498,13 @@ fn run_in<L: Run + Send + Sync, R: Threads + Wait + Sync>(
 /// Runs tasks on four threads, and returns where each task is at the end. The submitter sends the tasks to the
 /// dispatcher, and sends a task again when it is due after a sleep. The dispatcher hands them to two workers, which run
 /// one round of a task at a time, after which it sleeps, unless it is done. At the end each task that was given is in
-/// one place: it sleeps, is on its way, waits for a worker, is done, or was kept by a worker. A task that is done has run
-/// all its rounds.
+/// one place: it sleeps, is on its way, waits for a worker, is done, or was kept by a worker. A task that is done has
+/// run all its rounds.
 ///
 /// The run ends when all tasks are done, or when the submitter or a worker has used up its `turns` turns. A worker that
-/// cannot put a task to sleep, since `usize::MAX` tasks sleep, keeps it and ends the run. A thread that finds nothing to
-/// do sleeps until another one wakes it. The queue has `rooms` rooms, which bound the number of tasks that are on their
-/// way. The room of a task that was dispatched is used again, so neither the tasks nor their rounds have a bound.
+/// cannot put a task to sleep, since `usize::MAX` tasks sleep, keeps it and ends the run. A thread that finds nothing
+/// to do sleeps until another one wakes it. The queue has `rooms` rooms, which bound the number of tasks that are on
+/// their way. The room of a task that was dispatched is used again, so neither the tasks nor their rounds have a bound.
 /// Requires that `rooms` is at least 1 and at most `MAX_ROOMS`.
 ///
 /// # Errors

@@ -175,8 +175,8 @@ impl<L: Run> Sleepers<L> {
     }
 
     /// Wakes the task with the earliest deadline and returns it, and enters the transfer to the calling thread in both
-    /// accounts. If it is not due yet, the time advances to its deadline. Returns `None` if no task sleeps, and the time
-    /// stays.
+    /// accounts. If it is not due yet, the time advances to its deadline. Returns `None` if no task sleeps. The time
+    /// stays the same then.
     ///
     /// # Complexity
     /// That of two calls of `wake`.

@@ -217,8 +217,8 @@ pub fn wake<L: Run, R: Wait>(
     shared.call_off();
 }
 
-/// Takes a task from the queue and appends it to those that wait for a worker. Returns why, if it finds no task to take,
-/// and `Busy` if `usize::MAX` tasks wait.
+/// Takes a task from the queue and appends it to those that wait for a worker. Returns why, if it finds no task to
+/// take, and `Busy` if `usize::MAX` tasks wait.
 fn take_in<L: Run>(
     queue: &MpscQueue<Task>,
     party: &mut Party<Task>,
