@@ -4,8 +4,7 @@
 //! reply.
 
 pub use cordyceps_commands::{
-    Act, CursorCall, CursorCommand, Filter, Item, ListCall, ListCommand, ListEnd, ListMove, Reply,
-    Side, SortedCommand, StackCommand, Turn,
+    CursorCommand, Filter, Item, ListCommand, ListEnd, Reply, SortedCommand, StackCommand, Turn,
 };
 pub use cordyceps_tables::replay::{
     Lists, Played, Sorteds, Stacks, replay_lists, replay_sorted, replay_stacks,

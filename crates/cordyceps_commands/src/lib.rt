@@ -8,9 +8,7 @@ mod sorted_command;
 mod stack_command;
 
 pub use item::Item;
-pub use list_command::{
-    Act, CursorCall, CursorCommand, Filter, ListCall, ListCommand, ListEnd, ListMove, Side, Turn,
-};
+pub use list_command::{CursorCommand, Filter, ListCommand, ListEnd, Turn};
 pub use reply::Reply;
 pub use sorted_command::SortedCommand;
 pub use stack_command::StackCommand;

@@ -31,18 +31,9 @@ pub enum Filter {
     All,
 }
 
-/// A side of a cursor's item.
-#[derive(Clone, Copy, Debug, PartialEq, Eq)]
-pub enum Side {
-    /// After the item. At the null place, before the first item.
-    After,
-    /// Before the item. At the null place, after the last item.
-    Before,
-}
-
-/// One call of a `CursorMut` that neither inserts items nor names another list. The reply is named after the colon.
+/// One line of a cursor block: one call of a `CursorMut`. The reply is named after the colon.
 #[derive(Clone, Copy)]
-pub enum CursorCall {
+pub enum CursorCommand {
     /// Moves the cursor to the next place: `Done`.
     MoveNext,
     /// Moves the cursor to the previous place: `Done`.
@@ -69,86 +60,63 @@ pub enum CursorCall {
     RemoveCurrent,
     /// Removes the first item that passes, from the cursor on: `Found` or `Nothing`.
     RemoveFirst(Filter),
-}
-
-/// One line of a cursor block: one call of a `CursorMut`, or the end. The reply is named after the colon.
-#[derive(Clone, Copy)]
-pub enum CursorCommand {
-    /// Makes a call on the cursor's list alone: the call's reply.
-    One(CursorCall),
-    /// Inserts an item on a side of the cursor's, if the length is below `usize::MAX`: `Done` or `NotThere`.
-    Insert(Side, Item),
-    /// Moves the items on a side of the cursor's to a list, if that is another one and empty: `Done` or `NotThere`.
-    Split(Side, u8),
-    /// Moves all items of a list to a side of the cursor's, if that is another list and the sum of the lengths is at
-    /// most `usize::MAX`: `Done` or `NotThere`.
-    Splice(Side, u8),
+    /// Inserts an item after the cursor's, if the length is below `usize::MAX`: `Done` or `NotThere`.
+    InsertAfter(Item),
+    /// Inserts an item before the cursor's, if the length is below `usize::MAX`: `Done` or `NotThere`.
+    InsertBefore(Item),
+    /// Moves the items after the cursor's to a list, if that is another one and empty: `Done` or `NotThere`.
+    SplitAfter(u8),
+    /// Moves the items before the cursor's to a list, if that is another one and empty: `Done` or `NotThere`.
+    SplitBefore(u8),
+    /// Moves all items of a list after the cursor's, if that is another list and the sum of the lengths is at most
+    /// `usize::MAX`: `Done` or `NotThere`.
+    SpliceAfter(u8),
+    /// Moves all items of a list before the cursor's, if that is another list and the sum of the lengths is at most
+    /// `usize::MAX`: `Done` or `NotThere`.
+    SpliceBefore(u8),
     /// Ends the block, which may also end without it: `Done`.
     End,
 }
 
-/// One call of a list. The reply is named after the colon.
+/// One command on lists. Its first field is the number of the list, from 0 to 15. The reply is named after the colon.
 #[derive(Drop)]
-pub enum ListCall {
+pub enum ListCommand {
     /// Prepends an item, if the list's length is below `usize::MAX`: `Done` or `NotThere`.
-    PushFront(Item),
+    PushFront(u8, Item),
     /// Appends an item, if the list's length is below `usize::MAX`: `Done` or `NotThere`.
-    PushBack(Item),
+    PushBack(u8, Item),
     /// Removes the first item: `Found`, or `Nothing` if the list is empty.
-    PopFront,
+    PopFront(u8),
     /// Removes the last item: `Found`, or `Nothing` if the list is empty.
-    PopBack,
+    PopBack(u8),
     /// Reads the first item: `Found`, or `Nothing` if the list is empty.
-    Front,
+    Front(u8),
     /// Reads the last item: `Found`, or `Nothing` if the list is empty.
-    Back,
+    Back(u8),
     /// Sets the value of the first item: `Done`, or `Nothing` if the list is empty.
-    SetFront(u64),
+    SetFront(u8, u64),
     /// Sets the value of the last item: `Done`, or `Nothing` if the list is empty.
-    SetBack(u64),
+    SetBack(u8, u64),
     /// Counts the items: `Len`.
-    Len,
-    /// Removes the first item with this number: `Found`, or `Nothing` if there is none.
-    Remove(u64),
-    /// Adds a number to the value of each item, modulo 2^64: `Done`.
-    Bump(u64),
-    /// Reads items by an iterator, from both ends: `Show`.
-    Walk(Vec<Turn>),
-    /// Removes all items, and shows those that an iterator returns, from both ends: `Show`.
-    Into(Vec<Turn>),
-    /// Removes the items that pass, at most this many: `Show`.
-    Drain(Filter, u64),
-    /// Reads all items: `Show`.
-    Show,
-}
-
-/// A move of items between a list and another one. The reply is named after the colon.
-#[derive(Clone, Copy)]
-pub enum ListMove {
-    /// Moves all items of the other list to the back, if these are two lists and the sum of the lengths is at most
-    /// `usize::MAX`: `Done` or `NotThere`.
-    Append,
-    /// Keeps this many items, and moves the others to the other list, if that is another one and empty: `Done`,
+    Len(u8),
+    /// Moves all items of the second list to the back of the first, if these are two lists and the sum of the lengths
+    /// is at most `usize::MAX`: `Done` or `NotThere`.
+    Append(u8, u8),
+    /// Keeps this many items, and moves the others to the second list, if that is another one and empty: `Done`,
     /// `Nothing` if the number is above the length, or `NotThere`.
-    Split(u64),
-}
-
-/// What a command does with its list.
-#[derive(Drop)]
-pub enum Act {
-    /// Makes a call on the list alone: the call's reply.
-    One(ListCall),
-    /// Moves items between the list and the one with this number, from 0 to 15: the move's reply.
-    Two(u8, ListMove),
+    Split(u8, u64, u8),
+    /// Removes the first item with this number: `Found`, or `Nothing` if there is none.
+    Remove(u8, u64),
+    /// Adds a number to the value of each item, modulo 2^64: `Done`.
+    Bump(u8, u64),
+    /// Reads items by an iterator, from both ends: `Show`.
+    Walk(u8, Vec<Turn>),
+    /// Removes all items, and shows those that an iterator returns, from both ends: `Show`.
+    Into(u8, Vec<Turn>),
+    /// Removes the items that pass, at most this many: `Show`.
+    Drain(u8, Filter, u64),
+    /// Reads all items: `Show`.
+    Show(u8),
     /// Runs the lines of a block on a cursor that begins at this end: `Block`. An `End` may come last.
-    Block(ListEnd, Vec<CursorCommand>),
-}
-
-/// One command on lists.
-#[derive(Drop)]
-pub struct ListCommand {
-    /// The number of the list, from 0 to 15.
-    pub list: u8,
-    /// What the command does with it.
-    pub act: Act,
+    Cursor(u8, ListEnd, Vec<CursorCommand>),
 }

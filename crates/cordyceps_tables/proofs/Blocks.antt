@@ -14,12 +14,12 @@ use Rattle.cordyceps_commands.specs.declared.item.Item.{Item}
 use Rattle.cordyceps_commands.specs.declared.reply.Reply.{Reply}
 use Rattle.cordyceps_commands.specs.declared.list_command.ListEnd.{ListEnd}
 use Rattle.cordyceps_commands.specs.declared.list_command.CursorCommand.{CursorCommand}
-use Rattle.cordyceps_commands.specs.declared.list_command.CursorCommand.TheVariants.{Split, Splice}
-use Rattle.cordyceps_commands.specs.declared.list_command.Side.{Side}
-use Rattle.cordyceps_commands.specs.declared.list_command.Side.TheVariants.{After}
+use Rattle.cordyceps_commands.specs.declared.list_command.CursorCommand.TheVariants as lines
+use Rattle.cordyceps_tables.specs.declared.replay.blocks.Side.{Side}
+use Rattle.cordyceps_tables.specs.declared.replay.blocks.Side.TheVariants.{After}
 use Rattle.cordyceps_commands.specs.Replies.{Line, lines_of, done, found_or_nothing}
 use Rattle.cordyceps_tables.specs.Tables.{Table, held_at}
-use Rattle.cordyceps_tables.specs.Blocks.{Spot, State, run_lines, first_place, set_at, Goes, line_step, moved_to, state_of, Cuts, LineRuns, cut_beside, put_beside, split_to, splice_from}
+use Rattle.cordyceps_tables.specs.Blocks.{Spot, State, run_lines, first_place, set_at, Goes, call_on, line_step, moved_to, state_of, Cuts, Reaches, cut_beside, put_beside, split_to, splice_from, split_on, splice_on, made_for}
 
 pub goes_written : (old new : CursorMut Item) (s : Elements Item) (k at : ℕ) (o : Option Item) (item : Item) (value : ℕ) (reply : Reply) →
     Stands old new (with_value s at (record item { value = value })) k → Some item ≡ o → lines_of reply ≡ done ∷ [] → Goes old new (set_at s k at o value) reply
@@ -96,7 +96,7 @@ module _ (n m : ℕ) (table : Table) (old new : CursorMut Item) (reply : Reply) 
       (rw done_so (same_state (set table m gone) (set table m cut.1) n (elements new) cut.0.0 (place new) cut.0.1 (ap (λ t. set table m t) cuts.cut_off) cuts.stands.elements_are cuts.stands.place_is), rw done_so told)
 
   pub split_steps : (side : Side) (gone : Elements Item) → true ≡ (not (nat_eq n m) && nat_eq (length (held_at table m)) 0) → Cuts old new gone (cut_beside side (elements old) (place old)) → lines_of reply ≡ done ∷ [] →
-      LineRuns n table (set table m gone) old new (Split side m) reply
+      Reaches n (set table m gone) old new (split_on (state_of table n old) n side m) reply
   split_steps side gone free cuts told =
       let run = split_run gone (cut_beside side (elements old) (place old)) free cuts told in
       let held = put_back table n (elements old) within in
@@ -111,7 +111,7 @@ module _ (n m : ℕ) (table : Table) (old new : CursorMut Item) (reply : Reply) 
 
   pub splice_steps : (side : Side) → true ≡ (not (nat_eq n m) && nat_le (length (elements old) + length (held_at table m)) 18446744073709551615) →
       Stands old new (put_beside side (elements old) (place old) (held_at table m)).0 (put_beside side (elements old) (place old) (held_at table m)).1 → lines_of reply ≡ done ∷ [] →
-      LineRuns n table (set table m []) old new (Splice side m) reply
+      Reaches n (set table m []) old new (splice_on (state_of table n old) n side m) reply
   splice_steps side fits stands told =
       let run = splice_run (put_beside side (elements old) (place old) (held_at table m)) fits stands told in
       let held = put_back table n (elements old) within in
@@ -119,14 +119,37 @@ module _ (n m : ℕ) (table : Table) (old new : CursorMut Item) (reply : Reply) 
       record { same_reference = stands.same_reference; state_is = rw (held, other) (rw (held, other) at run.0); told = rw (held, other) (rw (held, other) at run.1) }
 
 -- a line on the cursor's list alone
-pub alone_steps : (n : ℕ) (table : Table) (old new : CursorMut Item) (line : CursorCommand) (to : Spot × Line) (reply : Reply) → line_step n (state_of table n old) line ≡ moved_to (table, place old) n to →
-    Goes old new to reply → LineRuns n table table old new line reply
-alone_steps n table old new line to reply step goes =
+pub alone_steps : (n : ℕ) (table : Table) (old new : CursorMut Item) (step : State × Line) (to : Spot × Line) (reply : Reply) → step ≡ moved_to (table, place old) n to →
+    Goes old new to reply → Reaches n table old new step reply
+alone_steps n table old new step to reply is goes =
     record {
       same_reference = goes.stands.same_reference;
-      state_is = rw step (same_state table table n (elements new) to.0.0 (place new) to.0.1 refl goes.stands.elements_are goes.stands.place_is);
-      told = rw step goes.told;
+      state_is = rw is (same_state table table n (elements new) to.0.0 (place new) to.0.1 refl goes.stands.elements_are goes.stands.place_is);
+      told = rw is goes.told;
     }
+
+-- a line that neither inserts an item nor names another list
+pub record IsCall (line : CursorCommand) : Type 0 where
+  pub no_insert_after : (item : Item) → line ≡ lines.InsertAfter item → ⊥
+  pub no_insert_before : (item : Item) → line ≡ lines.InsertBefore item → ⊥
+  pub no_split_after : (other : ℕ) → line ≡ lines.SplitAfter other → ⊥
+  pub no_split_before : (other : ℕ) → line ≡ lines.SplitBefore other → ⊥
+  pub no_splice_after : (other : ℕ) → line ≡ lines.SpliceAfter other → ⊥
+  pub no_splice_before : (other : ℕ) → line ≡ lines.SpliceBefore other → ⊥
+
+pub call_steps : (n : ℕ) (table : Table) (k : ℕ) (line : CursorCommand) → IsCall line → line_step n (table, k) line ≡ moved_to (table, k) n (call_on (held_at table n) k line)
+call_steps n table k (lines.InsertAfter item) is = absurd (is.no_insert_after item refl)
+call_steps n table k (lines.InsertBefore item) is = absurd (is.no_insert_before item refl)
+call_steps n table k (lines.SplitAfter other) is = absurd (is.no_split_after other refl)
+call_steps n table k (lines.SplitBefore other) is = absurd (is.no_split_before other refl)
+call_steps n table k (lines.SpliceAfter other) is = absurd (is.no_splice_after other refl)
+call_steps n table k (lines.SpliceBefore other) is = absurd (is.no_splice_before other refl)
+call_steps n table k line is = refl
+
+pub makes_nothing : (line : CursorCommand) → IsCall line → made_for line ≡ []
+makes_nothing (lines.InsertAfter item) is = absurd (is.no_insert_after item refl)
+makes_nothing (lines.InsertBefore item) is = absurd (is.no_insert_before item refl)
+makes_nothing line is = refl
 
 -- it sees what the list holds
 pub sees_list : (n : ℕ) (table : Table) (s : Elements Item) (k : ℕ) (to : Elements Item → Spot × Line) → n < length table → moved_to (set table n s, k) n (to (held_at (set table n s) n)) ≡ moved_to (table, k) n (to s)

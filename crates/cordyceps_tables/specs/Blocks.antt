@@ -10,15 +10,13 @@ pub use Rattle.cordyceps_commands.specs.ListCommands.{OtherFits, EndsBlock, Bloc
 use Rattle.cordyceps_commands.specs.declared.item.Item.{Item}
 use Rattle.cordyceps_commands.specs.declared.list_command.ListEnd.{ListEnd}
 use Rattle.cordyceps_commands.specs.declared.list_command.ListEnd.TheVariants as ends
-use Rattle.cordyceps_commands.specs.declared.list_command.Side.{Side}
-use Rattle.cordyceps_commands.specs.declared.list_command.Side.TheVariants as sides
-use Rattle.cordyceps_commands.specs.declared.list_command.CursorCall.{CursorCall}
-use Rattle.cordyceps_commands.specs.declared.list_command.CursorCall.TheVariants as calls
 use Rattle.cordyceps_commands.specs.declared.list_command.CursorCommand.{CursorCommand}
 use Rattle.cordyceps_commands.specs.declared.list_command.CursorCommand.TheVariants as lines
 use Rattle.cordyceps_commands.specs.declared.reply.Reply.{Reply}
 use Rattle.cordyceps_commands.specs.Replies.{Line, lines_of, block_begins, done, nothing, len, not_there}
 use Rattle.cordyceps_commands.specs.Replies.{found_or_nothing, index_or_nothing}
+use Rattle.cordyceps_tables.specs.declared.replay.blocks.Side.{Side}
+use Rattle.cordyceps_tables.specs.declared.replay.blocks.Side.TheVariants as sides
 use Rattle.cordyceps_tables.specs.Tables.{Table, element_of, held_at}
 use Rattle.cordyceps_tables.specs.Filters.{first_passing, all_but}
 
@@ -51,32 +49,35 @@ abbrev pub insert : Side → Elements Item → ℕ → Element Item → Spot × 
 insert side s k e =
     if nat_lt (length s) 18446744073709551615 then (put_beside side s k (e ∷ []), done) else ((s, k), not_there)
 
--- the elements and the cursor's place after a call on its list alone, and the reply
-abbrev pub call_on : Elements Item → ℕ → CursorCall → Spot × Line
-call_on s k calls.MoveNext = ((s, next_place (length s) k), done)
-call_on s k calls.MovePrev = ((s, prev_place (length s) k), done)
-call_on s k calls.Current = ((s, k), found_or_nothing (slice_get (values s) k))
-call_on s k calls.PeekNext = ((s, k), found_or_nothing (slice_get (values s) (next_place (length s) k)))
-call_on s k calls.PeekPrev = ((s, k), found_or_nothing (slice_get (values s) (prev_place (length s) k)))
-call_on s k calls.Index = ((s, k), index_or_nothing (index_at (length s) k))
-call_on s k calls.Len = ((s, k), len (length s))
-call_on s k (calls.Set value) = set_at s k k (slice_get (values s) k) value
-call_on s k (calls.SetNext value) =
+-- The elements and the cursor's place after a line on its list alone, and the reply. Lines that insert an item, or name
+-- another list, are not run so.
+abbrev pub call_on : Elements Item → ℕ → CursorCommand → Spot × Line
+call_on s k lines.MoveNext = ((s, next_place (length s) k), done)
+call_on s k lines.MovePrev = ((s, prev_place (length s) k), done)
+call_on s k lines.Current = ((s, k), found_or_nothing (slice_get (values s) k))
+call_on s k lines.PeekNext = ((s, k), found_or_nothing (slice_get (values s) (next_place (length s) k)))
+call_on s k lines.PeekPrev = ((s, k), found_or_nothing (slice_get (values s) (prev_place (length s) k)))
+call_on s k lines.Index = ((s, k), index_or_nothing (index_at (length s) k))
+call_on s k lines.Len = ((s, k), len (length s))
+call_on s k (lines.Set value) = set_at s k k (slice_get (values s) k) value
+call_on s k (lines.SetNext value) =
     set_at s k (next_place (length s) k) (slice_get (values s) (next_place (length s) k)) value
-call_on s k (calls.SetPrev value) =
+call_on s k (lines.SetPrev value) =
     set_at s k (prev_place (length s) k) (slice_get (values s) (prev_place (length s) k)) value
-call_on s k calls.Next = ((s, if nat_lt k (length s) then k + 1 else k), found_or_nothing (slice_get (values s) k))
-call_on s k calls.RemoveCurrent = remove s k
-call_on s k (calls.RemoveFirst filter) = remove s (first_passing filter true s k)
+call_on s k lines.Next = ((s, if nat_lt k (length s) then k + 1 else k), found_or_nothing (slice_get (values s) k))
+call_on s k lines.RemoveCurrent = remove s k
+call_on s k (lines.RemoveFirst filter) = remove s (first_passing filter true s k)
+call_on s k lines.End = ((s, k), done)
+call_on s k line = ((s, k), not_there)
 
 -- a cursor's list and its place became these, and this is the reply
 pub record Goes (old new : CursorMut Item) (to : Spot × Line) (reply : Reply) : Type 0 where
   pub stands : Stands old new to.0.0 to.0.1
   pub told : lines_of reply ≡ to.1 ∷ []
 
--- the same by a call
-abbrev pub Obeys : CursorMut Item → CursorMut Item → CursorCall → Reply → Type 0
-Obeys old new call reply = Goes old new (call_on (elements old) (place old) call) reply
+-- the same by a line on the list alone
+abbrev pub Obeys : CursorMut Item → CursorMut Item → CursorCommand → Reply → Type 0
+Obeys old new line reply = Goes old new (call_on (elements old) (place old) line) reply
 
 -- a table, and a cursor's place in one of its lists
 abbrev pub State : Type 0
@@ -112,16 +113,28 @@ splice_from (table, k) list other joined =
 abbrev pub moved_to : State → ℕ → Spot × Line → State × Line
 moved_to (table, k) list to = ((slice_set table list to.0.0, to.0.1), to.1)
 
+-- one more element on a side of the cursor's
+abbrev pub insert_on : State → ℕ → Side → Item → State × Line
+insert_on (table, k) list side item = moved_to (table, k) list (insert side (held_at table list) k (element_of item))
+
+-- what is on a side of the cursor's element becomes the other list
+abbrev pub split_on : State → ℕ → Side → ℕ → State × Line
+split_on (table, k) list side other = split_to (table, k) list other (cut_beside side (held_at table list) k)
+
+-- all of the other list goes to a side of the cursor's element
+abbrev pub splice_on : State → ℕ → Side → ℕ → State × Line
+splice_on (table, k) list side other =
+    splice_from (table, k) list other (put_beside side (held_at table list) k (held_at table other))
+
 -- the table and the cursor's place after a line of a block on the list with a number, and the reply
 abbrev pub line_step : ℕ → State → CursorCommand → State × Line
-line_step list (table, k) (lines.One call) = moved_to (table, k) list (call_on (held_at table list) k call)
-line_step list (table, k) (lines.Insert side item) =
-    moved_to (table, k) list (insert side (held_at table list) k (element_of item))
-line_step list (table, k) (lines.Split side other) =
-    split_to (table, k) list other (cut_beside side (held_at table list) k)
-line_step list (table, k) (lines.Splice side other) =
-    splice_from (table, k) list other (put_beside side (held_at table list) k (held_at table other))
-line_step list (table, k) lines.End = ((table, k), done)
+line_step list (table, k) (lines.InsertAfter item) = insert_on (table, k) list sides.After item
+line_step list (table, k) (lines.InsertBefore item) = insert_on (table, k) list sides.Before item
+line_step list (table, k) (lines.SplitAfter other) = split_on (table, k) list sides.After other
+line_step list (table, k) (lines.SplitBefore other) = split_on (table, k) list sides.Before other
+line_step list (table, k) (lines.SpliceAfter other) = splice_on (table, k) list sides.After other
+line_step list (table, k) (lines.SpliceBefore other) = splice_on (table, k) list sides.Before other
+line_step list (table, k) line = moved_to (table, k) list (call_on (held_at table list) k line)
 
 -- the table after lines on a cursor that begins at an end of a list, and the replies to them after earlier ones
 abbrev pub run_lines : Table → ℕ → ListEnd → List CursorCommand → List Line → Table × List Line
@@ -137,16 +150,22 @@ block table list end lines = run_lines table list end lines (block_begins ∷ do
 abbrev pub state_of : Table → ℕ → CursorMut Item → State
 state_of table list cursor = (slice_set table list (elements cursor), place cursor)
 
--- a table and a cursor on the list with a number went on by a line, and this is the reply
-pub record LineRuns (list : ℕ) (table new_table : Table) (old new : CursorMut Item) (line : CursorCommand)
-    (reply : Reply) : Type 0 where
+-- a table and a cursor on the list with a number came to this state, and this is the reply
+pub record Reaches (list : ℕ) (new_table : Table) (old new : CursorMut Item) (to : State × Line) (reply : Reply) :
+    Type 0 where
   pub same_reference : lender new ≡ lender old
-  pub state_is : state_of new_table list new ≡ (line_step list (state_of table list old) line).0
-  pub told : lines_of reply ≡ (line_step list (state_of table list old) line).1 ∷ []
+  pub state_is : state_of new_table list new ≡ to.0
+  pub told : lines_of reply ≡ to.1 ∷ []
+
+-- the same by a line
+abbrev pub LineRuns : ℕ → Table → Table → CursorMut Item → CursorMut Item → CursorCommand → Reply → Type 0
+LineRuns list table new_table old new line reply =
+    Reaches list new_table old new (line_step list (state_of table list old) line) reply
 
 -- the nodes that a line puts in, and those of many lines
 abbrev pub made_for : CursorCommand → Elements Item
-made_for (lines.Insert side item) = element_of item ∷ []
+made_for (lines.InsertAfter item) = element_of item ∷ []
+made_for (lines.InsertBefore item) = element_of item ∷ []
 made_for line = []
 
 abbrev pub made_for_all : List CursorCommand → Elements Item

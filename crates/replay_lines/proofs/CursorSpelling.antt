@@ -1,8 +1,6 @@
 -- A line of a block is a command's exactly if it is that command's spelling.
 use Rattle.std.proofs.Common.{◌≡◌, ℕ, List, [], ◌∷◌, Option, Some, None, IfSome, refl, sym, ◌∙◌, ap, subst, codes}
 use Rattle.std.specs.Option.{option_map}
-use Rattle.cordyceps_commands.specs.declared.list_command.Side.TheVariants as sides
-use Rattle.cordyceps_commands.specs.declared.list_command.CursorCall.TheVariants as calls
 use Rattle.cordyceps_commands.specs.declared.list_command.CursorCommand.{CursorCommand}
 use Rattle.cordyceps_commands.specs.declared.list_command.CursorCommand.TheVariants as lines
 use Rattle.cordyceps_commands.specs.ListCommands.{OtherFits}
@@ -25,12 +23,12 @@ IsWord word verbs.Set = word ≡ codes "set"
 IsWord word verbs.SetNext = word ≡ codes "setn"
 IsWord word verbs.SetPrev = word ≡ codes "setp"
 IsWord word verbs.RemoveFirst = word ≡ codes "first"
-IsWord word (verbs.Insert sides.After) = word ≡ codes "insa"
-IsWord word (verbs.Insert sides.Before) = word ≡ codes "insb"
-IsWord word (verbs.Split sides.After) = word ≡ codes "splita"
-IsWord word (verbs.Split sides.Before) = word ≡ codes "splitb"
-IsWord word (verbs.Splice sides.After) = word ≡ codes "splicea"
-IsWord word (verbs.Splice sides.Before) = word ≡ codes "spliceb"
+IsWord word verbs.InsertAfter = word ≡ codes "insa"
+IsWord word verbs.InsertBefore = word ≡ codes "insb"
+IsWord word verbs.SplitAfter = word ≡ codes "splita"
+IsWord word verbs.SplitBefore = word ≡ codes "splitb"
+IsWord word verbs.SpliceAfter = word ≡ codes "splicea"
+IsWord word verbs.SpliceBefore = word ≡ codes "spliceb"
 
 alone : (word other : List ℕ) → word ≡ other → (word ∷ [] ≡ other ∷ []) × Unit {0}
 alone word other same = (ap (λ (w : List ℕ). w ∷ []) same, tt)
@@ -38,9 +36,9 @@ alone word other same = (ap (λ (w : List ℕ). w ∷ []) same, tt)
 bare_word : (word : List ℕ) (c : CursorCommand) → bare_of word ≡ Some c → IsBare word c
 bare_word word c is =
     let P = IsBare word in
-    look P word (codes "next") (lines.One calls.MoveNext) _ c (alone word _) (look P word (codes "prev") (lines.One calls.MovePrev) _ c (alone word _) (look P word (codes "cur") (lines.One calls.Current) _ c (alone word _)
-    (look P word (codes "pnext") (lines.One calls.PeekNext) _ c (alone word _) (look P word (codes "pprev") (lines.One calls.PeekPrev) _ c (alone word _) (look P word (codes "index") (lines.One calls.Index) _ c (alone word _)
-    (look P word (codes "len") (lines.One calls.Len) _ c (alone word _) (look P word (codes "step") (lines.One calls.Next) _ c (alone word _) (look P word (codes "remove") (lines.One calls.RemoveCurrent) _ c (alone word _)
+    look P word (codes "next") lines.MoveNext _ c (alone word _) (look P word (codes "prev") lines.MovePrev _ c (alone word _) (look P word (codes "cur") lines.Current _ c (alone word _)
+    (look P word (codes "pnext") lines.PeekNext _ c (alone word _) (look P word (codes "pprev") lines.PeekPrev _ c (alone word _) (look P word (codes "index") lines.Index _ c (alone word _)
+    (look P word (codes "len") lines.Len _ c (alone word _) (look P word (codes "step") lines.Next _ c (alone word _) (look P word (codes "remove") lines.RemoveCurrent _ c (alone word _)
     (look P word (codes "end") lines.End _ c (alone word _) (in_none P c)))))))))) is
 
 some_bare : (word : List ℕ) (v : CursorVerb) → option_map (λ c. verbs.Bare c) (bare_of word) ≡ Some v → IsWord word v
@@ -51,22 +49,22 @@ verb_word : (word : List ℕ) (v : CursorVerb) → verb_of word ≡ Some v → I
 verb_word word v is =
     let P = IsWord word in
     look P word (codes "set") verbs.Set _ v (λ e. e) (look P word (codes "setn") verbs.SetNext _ v (λ e. e) (look P word (codes "setp") verbs.SetPrev _ v (λ e. e)
-    (look P word (codes "first") verbs.RemoveFirst _ v (λ e. e) (look P word (codes "insa") (verbs.Insert sides.After) _ v (λ e. e) (look P word (codes "insb") (verbs.Insert sides.Before) _ v (λ e. e)
-    (look P word (codes "splita") (verbs.Split sides.After) _ v (λ e. e) (look P word (codes "splitb") (verbs.Split sides.Before) _ v (λ e. e) (look P word (codes "splicea") (verbs.Splice sides.After) _ v (λ e. e)
-    (look P word (codes "spliceb") (verbs.Splice sides.Before) _ v (λ e. e) (some_bare word v)))))))))) is
+    (look P word (codes "first") verbs.RemoveFirst _ v (λ e. e) (look P word (codes "insa") verbs.InsertAfter _ v (λ e. e) (look P word (codes "insb") verbs.InsertBefore _ v (λ e. e)
+    (look P word (codes "splita") verbs.SplitAfter _ v (λ e. e) (look P word (codes "splitb") verbs.SplitBefore _ v (λ e. e) (look P word (codes "splicea") verbs.SpliceAfter _ v (λ e. e)
+    (look P word (codes "spliceb") verbs.SpliceBefore _ v (λ e. e) (some_bare word v)))))))))) is
 
 command_words : (v : CursorVerb) (word : List ℕ) (ws : List (List ℕ)) (c : CursorCommand) → IsWord word v → command_with v ws ≡ Some c → (word ∷ ws ≡ words_of c) × OtherFits c
 command_words (verbs.Bare command) = λ word ws c same is. made words_of OtherFits nothing_form word (λ none. command) (λ none. same.0) (λ none can. same.1) word ws c refl is
-command_words verbs.Set = made words_of OtherFits value_form (codes "set") (λ v. lines.One (calls.Set v)) (λ v. refl) (λ v can. tt)
-command_words verbs.SetNext = made words_of OtherFits value_form (codes "setn") (λ v. lines.One (calls.SetNext v)) (λ v. refl) (λ v can. tt)
-command_words verbs.SetPrev = made words_of OtherFits value_form (codes "setp") (λ v. lines.One (calls.SetPrev v)) (λ v. refl) (λ v can. tt)
-command_words verbs.RemoveFirst = made words_of OtherFits (only_form filter_kind) (codes "first") (λ f. lines.One (calls.RemoveFirst f)) (λ f. refl) (λ f can. tt)
-command_words (verbs.Insert sides.After) = made words_of OtherFits item_form (codes "insa") (λ i. lines.Insert sides.After i) (λ i. refl) (λ i can. tt)
-command_words (verbs.Insert sides.Before) = made words_of OtherFits item_form (codes "insb") (λ i. lines.Insert sides.Before i) (λ i. refl) (λ i can. tt)
-command_words (verbs.Split sides.After) = made words_of OtherFits structure_form (codes "splita") (λ l. lines.Split sides.After l) (λ l. refl) (λ l can. can)
-command_words (verbs.Split sides.Before) = made words_of OtherFits structure_form (codes "splitb") (λ l. lines.Split sides.Before l) (λ l. refl) (λ l can. can)
-command_words (verbs.Splice sides.After) = made words_of OtherFits structure_form (codes "splicea") (λ l. lines.Splice sides.After l) (λ l. refl) (λ l can. can)
-command_words (verbs.Splice sides.Before) = made words_of OtherFits structure_form (codes "spliceb") (λ l. lines.Splice sides.Before l) (λ l. refl) (λ l can. can)
+command_words verbs.Set = made words_of OtherFits value_form (codes "set") (λ v. lines.Set v) (λ v. refl) (λ v can. tt)
+command_words verbs.SetNext = made words_of OtherFits value_form (codes "setn") (λ v. lines.SetNext v) (λ v. refl) (λ v can. tt)
+command_words verbs.SetPrev = made words_of OtherFits value_form (codes "setp") (λ v. lines.SetPrev v) (λ v. refl) (λ v can. tt)
+command_words verbs.RemoveFirst = made words_of OtherFits (only_form filter_kind) (codes "first") (λ f. lines.RemoveFirst f) (λ f. refl) (λ f can. tt)
+command_words verbs.InsertAfter = made words_of OtherFits item_form (codes "insa") (λ i. lines.InsertAfter i) (λ i. refl) (λ i can. tt)
+command_words verbs.InsertBefore = made words_of OtherFits item_form (codes "insb") (λ i. lines.InsertBefore i) (λ i. refl) (λ i can. tt)
+command_words verbs.SplitAfter = made words_of OtherFits structure_form (codes "splita") (λ l. lines.SplitAfter l) (λ l. refl) (λ l can. can)
+command_words verbs.SplitBefore = made words_of OtherFits structure_form (codes "splitb") (λ l. lines.SplitBefore l) (λ l. refl) (λ l can. can)
+command_words verbs.SpliceAfter = made words_of OtherFits structure_form (codes "splicea") (λ l. lines.SpliceAfter l) (λ l. refl) (λ l can. can)
+command_words verbs.SpliceBefore = made words_of OtherFits structure_form (codes "spliceb") (λ l. lines.SpliceBefore l) (λ l. refl) (λ l can. can)
 
 all_words : (ws : List (List ℕ)) (c : CursorCommand) → cursor_command_of_words ws ≡ Some c → (ws ≡ words_of c) × OtherFits c
 all_words [] c is = cc
@@ -81,25 +79,25 @@ line_fits line None is = tt
 line_fits line (Some c) is = (all_words (words line) c (sym is)).1
 
 spelled : (c : CursorCommand) → OtherFits c → HasNumbers c → cursor_command_of (spelling_of c) ≡ Some c
-spelled (lines.One calls.MoveNext) fits numbers = read_back cursor_command_of_words nothing_form (codes "next") (λ none. lines.One calls.MoveNext) tt refl refl tt
-spelled (lines.One calls.MovePrev) fits numbers = read_back cursor_command_of_words nothing_form (codes "prev") (λ none. lines.One calls.MovePrev) tt refl refl tt
-spelled (lines.One calls.Current) fits numbers = read_back cursor_command_of_words nothing_form (codes "cur") (λ none. lines.One calls.Current) tt refl refl tt
-spelled (lines.One calls.PeekNext) fits numbers = read_back cursor_command_of_words nothing_form (codes "pnext") (λ none. lines.One calls.PeekNext) tt refl refl tt
-spelled (lines.One calls.PeekPrev) fits numbers = read_back cursor_command_of_words nothing_form (codes "pprev") (λ none. lines.One calls.PeekPrev) tt refl refl tt
-spelled (lines.One calls.Index) fits numbers = read_back cursor_command_of_words nothing_form (codes "index") (λ none. lines.One calls.Index) tt refl refl tt
-spelled (lines.One calls.Len) fits numbers = read_back cursor_command_of_words nothing_form (codes "len") (λ none. lines.One calls.Len) tt refl refl tt
-spelled (lines.One (calls.Set value)) fits numbers = read_back cursor_command_of_words value_form (codes "set") (λ v. lines.One (calls.Set v)) value refl refl numbers
-spelled (lines.One (calls.SetNext value)) fits numbers = read_back cursor_command_of_words value_form (codes "setn") (λ v. lines.One (calls.SetNext v)) value refl refl numbers
-spelled (lines.One (calls.SetPrev value)) fits numbers = read_back cursor_command_of_words value_form (codes "setp") (λ v. lines.One (calls.SetPrev v)) value refl refl numbers
-spelled (lines.One calls.Next) fits numbers = read_back cursor_command_of_words nothing_form (codes "step") (λ none. lines.One calls.Next) tt refl refl tt
-spelled (lines.One calls.RemoveCurrent) fits numbers = read_back cursor_command_of_words nothing_form (codes "remove") (λ none. lines.One calls.RemoveCurrent) tt refl refl tt
-spelled (lines.One (calls.RemoveFirst filter)) fits numbers = read_back cursor_command_of_words (only_form filter_kind) (codes "first") (λ f. lines.One (calls.RemoveFirst f)) filter refl refl tt
-spelled (lines.Insert sides.After item) fits numbers = read_back cursor_command_of_words item_form (codes "insa") (λ i. lines.Insert sides.After i) item refl refl numbers
-spelled (lines.Insert sides.Before item) fits numbers = read_back cursor_command_of_words item_form (codes "insb") (λ i. lines.Insert sides.Before i) item refl refl numbers
-spelled (lines.Split sides.After list) fits numbers = read_back cursor_command_of_words structure_form (codes "splita") (λ l. lines.Split sides.After l) list refl refl fits
-spelled (lines.Split sides.Before list) fits numbers = read_back cursor_command_of_words structure_form (codes "splitb") (λ l. lines.Split sides.Before l) list refl refl fits
-spelled (lines.Splice sides.After list) fits numbers = read_back cursor_command_of_words structure_form (codes "splicea") (λ l. lines.Splice sides.After l) list refl refl fits
-spelled (lines.Splice sides.Before list) fits numbers = read_back cursor_command_of_words structure_form (codes "spliceb") (λ l. lines.Splice sides.Before l) list refl refl fits
+spelled lines.MoveNext fits numbers = read_back cursor_command_of_words nothing_form (codes "next") (λ none. lines.MoveNext) tt refl refl tt
+spelled lines.MovePrev fits numbers = read_back cursor_command_of_words nothing_form (codes "prev") (λ none. lines.MovePrev) tt refl refl tt
+spelled lines.Current fits numbers = read_back cursor_command_of_words nothing_form (codes "cur") (λ none. lines.Current) tt refl refl tt
+spelled lines.PeekNext fits numbers = read_back cursor_command_of_words nothing_form (codes "pnext") (λ none. lines.PeekNext) tt refl refl tt
+spelled lines.PeekPrev fits numbers = read_back cursor_command_of_words nothing_form (codes "pprev") (λ none. lines.PeekPrev) tt refl refl tt
+spelled lines.Index fits numbers = read_back cursor_command_of_words nothing_form (codes "index") (λ none. lines.Index) tt refl refl tt
+spelled lines.Len fits numbers = read_back cursor_command_of_words nothing_form (codes "len") (λ none. lines.Len) tt refl refl tt
+spelled (lines.Set value) fits numbers = read_back cursor_command_of_words value_form (codes "set") (λ v. lines.Set v) value refl refl numbers
+spelled (lines.SetNext value) fits numbers = read_back cursor_command_of_words value_form (codes "setn") (λ v. lines.SetNext v) value refl refl numbers
+spelled (lines.SetPrev value) fits numbers = read_back cursor_command_of_words value_form (codes "setp") (λ v. lines.SetPrev v) value refl refl numbers
+spelled lines.Next fits numbers = read_back cursor_command_of_words nothing_form (codes "step") (λ none. lines.Next) tt refl refl tt
+spelled lines.RemoveCurrent fits numbers = read_back cursor_command_of_words nothing_form (codes "remove") (λ none. lines.RemoveCurrent) tt refl refl tt
+spelled (lines.RemoveFirst filter) fits numbers = read_back cursor_command_of_words (only_form filter_kind) (codes "first") (λ f. lines.RemoveFirst f) filter refl refl tt
+spelled (lines.InsertAfter item) fits numbers = read_back cursor_command_of_words item_form (codes "insa") (λ i. lines.InsertAfter i) item refl refl numbers
+spelled (lines.InsertBefore item) fits numbers = read_back cursor_command_of_words item_form (codes "insb") (λ i. lines.InsertBefore i) item refl refl numbers
+spelled (lines.SplitAfter list) fits numbers = read_back cursor_command_of_words structure_form (codes "splita") (λ l. lines.SplitAfter l) list refl refl fits
+spelled (lines.SplitBefore list) fits numbers = read_back cursor_command_of_words structure_form (codes "splitb") (λ l. lines.SplitBefore l) list refl refl fits
+spelled (lines.SpliceAfter list) fits numbers = read_back cursor_command_of_words structure_form (codes "splicea") (λ l. lines.SpliceAfter l) list refl refl fits
+spelled (lines.SpliceBefore list) fits numbers = read_back cursor_command_of_words structure_form (codes "spliceb") (λ l. lines.SpliceBefore l) list refl refl fits
 spelled lines.End fits numbers = read_back cursor_command_of_words nothing_form (codes "end") (λ none. lines.End) tt refl refl tt
 
 pub read_spelled : (line : List ℕ) (command : CursorCommand) → OtherFits command → HasNumbers command → spelling_of command ≡ line → cursor_command_of line ≡ Some command

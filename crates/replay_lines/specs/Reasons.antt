@@ -28,7 +28,7 @@ abbrev pub reason_text : Reason → List ℕ
 reason_text reasons.TooLong = codes "too long"
 reason_text reasons.Empty = codes "empty line"
 reason_text reasons.CarriageReturn = codes "carriage return"
-reason_text reasons.Spaces = codes "two spaces"
+reason_text reasons.StraySpace = codes "stray space"
 reason_text reasons.NoSuchWord = codes "no such word"
 reason_text reasons.LeadingZero = codes "leading zero"
 reason_text reasons.TooGreat = codes "number too great"
@@ -45,9 +45,10 @@ abbrev pub has_carriage_return : List ℕ → Bool
 has_carriage_return [] = false
 has_carriage_return (byte ∷ bytes) = nat_eq byte 13 || has_carriage_return bytes
 
--- What is wrong with a word whatever its place is: it is empty, or it has digits alone and spells no number.
+-- What is wrong with a word whatever its place is: it is empty, as beside a stray space, or it has digits alone and
+-- spells no number.
 abbrev pub fault_of : List ℕ → Option Reason
-fault_of [] = Some reasons.Spaces
+fault_of [] = Some reasons.StraySpace
 fault_of (digit ∷ digits) =
     if digits_only (digit ∷ digits) && not (is_some (number_of (digit ∷ digits))) then
     Some (if nat_eq digit 48 then reasons.LeadingZero else reasons.TooGreat) else None
@@ -88,8 +89,10 @@ list_structures_with lists.Split = structures.FirstAndThird
 list_structures_with verb = structures.First
 
 abbrev pub cursor_structures_with : CursorVerb → Structures
-cursor_structures_with (cursors.Split side) = structures.First
-cursor_structures_with (cursors.Splice side) = structures.First
+cursor_structures_with cursors.SplitAfter = structures.First
+cursor_structures_with cursors.SplitBefore = structures.First
+cursor_structures_with cursors.SpliceAfter = structures.First
+cursor_structures_with cursors.SpliceBefore = structures.First
 cursor_structures_with verb = structures.Nowhere
 
 abbrev pub list_structures : List ℕ → Option Structures
@@ -117,7 +120,7 @@ reason_after structures words =
 
 abbrev pub reason_of_words : Vocabulary → List (List ℕ) → Reason
 reason_of_words vocabulary [] = reasons.OtherWords
-reason_of_words vocabulary ([] ∷ words) = reasons.Spaces
+reason_of_words vocabulary ([] ∷ words) = reasons.StraySpace
 reason_of_words vocabulary ((byte ∷ bytes) ∷ words) =
     unwrap_or (option_map (λ structures. reason_after structures words) (structures_of vocabulary (byte ∷ bytes)))
     reasons.NoSuchWord

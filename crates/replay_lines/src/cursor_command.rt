@@ -9,7 +9,7 @@ ghost use Rattle.cordyceps_commands.specs.declared.list_command.CursorCommand.{C
 use crate::line_words::{item, nothing, only_word, structure, value};
 use crate::list_words::filter;
 use crate::words::Words;
-use cordyceps_commands::{CursorCall, CursorCommand, Side};
+use cordyceps_commands::CursorCommand;
 
 /// A command word of a block.
 #[derive(Clone, Copy)]
@@ -24,35 +24,41 @@ pub enum CursorVerb {
     SetPrev,
     /// `first F`: removes the first item that passes, from the cursor on.
     RemoveFirst,
-    /// `insa ID V` and `insb ID V`: inserts an item on this side of the cursor's.
-    Insert(Side),
-    /// `splita M` and `splitb M`: moves the items on this side of the cursor's to list M.
-    Split(Side),
-    /// `splicea M` and `spliceb M`: moves all items of list M to this side of the cursor's.
-    Splice(Side),
+    /// `insa ID V`: inserts an item after the cursor's.
+    InsertAfter,
+    /// `insb ID V`: inserts an item before the cursor's.
+    InsertBefore,
+    /// `splita M`: moves the items after the cursor's to list M.
+    SplitAfter,
+    /// `splitb M`: moves the items before the cursor's to list M.
+    SplitBefore,
+    /// `splicea M`: moves all items of list M after the cursor's.
+    SpliceAfter,
+    /// `spliceb M`: moves all items of list M before the cursor's.
+    SpliceBefore,
 }
 
 fn read_bare(word: &[u8]) -> Option<CursorCommand>
     ensures { result ≡ bare_of word.now }
 {
     if word == b"next".as_slice() {
-        Some(CursorCommand::One(CursorCall::MoveNext))
+        Some(CursorCommand::MoveNext)
     } else if word == b"prev".as_slice() {
-        Some(CursorCommand::One(CursorCall::MovePrev))
+        Some(CursorCommand::MovePrev)
     } else if word == b"cur".as_slice() {
-        Some(CursorCommand::One(CursorCall::Current))
+        Some(CursorCommand::Current)
     } else if word == b"pnext".as_slice() {
-        Some(CursorCommand::One(CursorCall::PeekNext))
+        Some(CursorCommand::PeekNext)
     } else if word == b"pprev".as_slice() {
-        Some(CursorCommand::One(CursorCall::PeekPrev))
+        Some(CursorCommand::PeekPrev)
     } else if word == b"index".as_slice() {
-        Some(CursorCommand::One(CursorCall::Index))
+        Some(CursorCommand::Index)
     } else if word == b"len".as_slice() {
-        Some(CursorCommand::One(CursorCall::Len))
+        Some(CursorCommand::Len)
     } else if word == b"step".as_slice() {
-        Some(CursorCommand::One(CursorCall::Next))
+        Some(CursorCommand::Next)
     } else if word == b"remove".as_slice() {
-        Some(CursorCommand::One(CursorCall::RemoveCurrent))
+        Some(CursorCommand::RemoveCurrent)
     } else if word == b"end".as_slice() {
         Some(CursorCommand::End)
     } else {
@@ -72,17 +78,17 @@ pub(crate) fn read_verb(word: &[u8]) -> Option<CursorVerb>
     } else if word == b"first".as_slice() {
         Some(CursorVerb::RemoveFirst)
     } else if word == b"insa".as_slice() {
-        Some(CursorVerb::Insert(Side::After))
+        Some(CursorVerb::InsertAfter)
     } else if word == b"insb".as_slice() {
-        Some(CursorVerb::Insert(Side::Before))
+        Some(CursorVerb::InsertBefore)
     } else if word == b"splita".as_slice() {
-        Some(CursorVerb::Split(Side::After))
+        Some(CursorVerb::SplitAfter)
     } else if word == b"splitb".as_slice() {
-        Some(CursorVerb::Split(Side::Before))
+        Some(CursorVerb::SplitBefore)
     } else if word == b"splicea".as_slice() {
-        Some(CursorVerb::Splice(Side::After))
+        Some(CursorVerb::SpliceAfter)
     } else if word == b"spliceb".as_slice() {
-        Some(CursorVerb::Splice(Side::Before))
+        Some(CursorVerb::SpliceBefore)
     } else {
         read_bare(word).map(CursorVerb::Bare)
     }
@@ -94,16 +100,16 @@ fn read_with(verb: CursorVerb, words: Words) -> Option<CursorCommand>
 {
     match verb {
         CursorVerb::Bare(command) => nothing(words).map(|()| command),
-        CursorVerb::Set => Some(CursorCommand::One(CursorCall::Set(value(words)?))),
-        CursorVerb::SetNext => Some(CursorCommand::One(CursorCall::SetNext(value(words)?))),
-        CursorVerb::SetPrev => Some(CursorCommand::One(CursorCall::SetPrev(value(words)?))),
-        CursorVerb::RemoveFirst => {
-            let filter = filter(only_word(words)?)?;
-            Some(CursorCommand::One(CursorCall::RemoveFirst(filter)))
-        }
-        CursorVerb::Insert(side) => Some(CursorCommand::Insert(side, item(words)?)),
-        CursorVerb::Split(side) => Some(CursorCommand::Split(side, structure(words)?)),
-        CursorVerb::Splice(side) => Some(CursorCommand::Splice(side, structure(words)?)),
+        CursorVerb::Set => value(words).map(CursorCommand::Set),
+        CursorVerb::SetNext => value(words).map(CursorCommand::SetNext),
+        CursorVerb::SetPrev => value(words).map(CursorCommand::SetPrev),
+        CursorVerb::RemoveFirst => filter(only_word(words)?).map(CursorCommand::RemoveFirst),
+        CursorVerb::InsertAfter => item(words).map(CursorCommand::InsertAfter),
+        CursorVerb::InsertBefore => item(words).map(CursorCommand::InsertBefore),
+        CursorVerb::SplitAfter => structure(words).map(CursorCommand::SplitAfter),
+        CursorVerb::SplitBefore => structure(words).map(CursorCommand::SplitBefore),
+        CursorVerb::SpliceAfter => structure(words).map(CursorCommand::SpliceAfter),
+        CursorVerb::SpliceBefore => structure(words).map(CursorCommand::SpliceBefore),
     }
 }
 

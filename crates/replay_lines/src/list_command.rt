@@ -4,15 +4,14 @@ ghost use Rattle.std.specs.Option.{option_map};
 ghost use Rattle.replay_lines.specs.Words.{words_left};
 ghost use Rattle.replay_lines.specs.LineWords.{nothing_of};
 ghost use Rattle.replay_lines.specs.ListVerbs.{end_verb_of, verb_of};
-ghost use Rattle.replay_lines.specs.ListScript.{meaning_of_act, meaning_of_command, meaning_with, meaning_of, LineFits};
+ghost use Rattle.replay_lines.specs.ListScript.{meaning_of_command, meaning_with, meaning_of, LineFits};
 ghost use Rattle.replay_lines.specs.Spelling.{spelling_of, HasNumbers};
-ghost use Rattle.cordyceps_commands.specs.declared.list_command.Act.{Act};
 ghost use Rattle.cordyceps_commands.specs.declared.list_command.ListCommand.{ListCommand};
 
 use crate::line_words::{item, nothing, structure, value};
 use crate::list_words::{drain_words, end_word, split_words, turns_word};
 use crate::words::{Words, structure_number};
-use cordyceps_commands::{Act, ListCall, ListCommand, ListMove};
+use cordyceps_commands::ListCommand;
 use std::alloc::{AllocError, Global};
 
 /// A command word of the mode.
@@ -109,43 +108,68 @@ pub(crate) fn read_verb(word: &[u8]) -> Option<Verb>
     }
 }
 
-/// Returns the act of a call, unless a word is left.
-fn bare(words: Words, call: ListCall) -> Option<Act>
-    ensures { result ≡ option_map (λ none. Act.One call) (nothing_of (words_left words.entry.rest)) }
+/// Returns the command, unless a word is left.
+fn bare(words: Words, command: ListCommand) -> Option<ListCommand>
+    ensures { result ≡ option_map (λ none. command) (nothing_of (words_left words.entry.rest)) }
 {
     nothing(words)?;
-    Some(Act::One(call))
+    Some(command)
+}
+
+/// Reads the words after the number of a list, if the command word takes no turns.
+fn read_plain(alloc: Global, verb: Verb, list: u8, words: Words) -> Option<ListCommand>
+    requires walk { verb ≡ Verb.Walk → ⊥ }
+    requires into { verb ≡ Verb.Into → ⊥ }
+    ensures { option_map meaning_of_command result ≡ meaning_with verb list (words_left words.entry.rest) }
+{
+    match verb {
+        Verb::PushFront => Some(ListCommand::PushFront(list, item(words)?)),
+        Verb::PushBack => Some(ListCommand::PushBack(list, item(words)?)),
+        Verb::PopFront => bare(words, ListCommand::PopFront(list)),
+        Verb::PopBack => bare(words, ListCommand::PopBack(list)),
+        Verb::Front => bare(words, ListCommand::Front(list)),
+        Verb::Back => bare(words, ListCommand::Back(list)),
+        Verb::SetFront => Some(ListCommand::SetFront(list, value(words)?)),
+        Verb::SetBack => Some(ListCommand::SetBack(list, value(words)?)),
+        Verb::Len => bare(words, ListCommand::Len(list)),
+        Verb::Append => Some(ListCommand::Append(list, structure(words)?)),
+        Verb::Split => {
+            let (at, other) = split_words(words)?;
+            Some(ListCommand::Split(list, at, other))
+        }
+        Verb::Remove => Some(ListCommand::Remove(list, value(words)?)),
+        Verb::Bump => Some(ListCommand::Bump(list, value(words)?)),
+        Verb::Walk | Verb::Into => unreachable!(),
+        Verb::Drain => {
+            let (filter, most) = drain_words(words)?;
+            Some(ListCommand::Drain(list, filter, most))
+        }
+        Verb::Show => bare(words, ListCommand::Show(list)),
+        Verb::Cursor => Some(ListCommand::Cursor(list, end_word(words)?, Vec::new(alloc))),
+    }
 }
 
 /// Reads the words after the number of a list.
-fn read_act(alloc: Global, verb: Verb, words: Words) -> Result<Option<Act>, AllocError>
+fn read_with(
+    alloc: Global,
+    verb: Verb,
+    list: u8,
+    words: Words,
+) -> Result<Option<ListCommand>, AllocError>
     ensures value { IfOk result
-        (λ read. option_map meaning_of_act read ≡ meaning_with verb (words_left words.entry.rest)) }
-    ensures err { OnErr result (is_some (meaning_with verb (words_left words.entry.rest)) ≡ true) }
+        (λ read. option_map meaning_of_command read ≡ meaning_with verb list (words_left words.entry.rest)) }
+    ensures err { OnErr result (is_some (meaning_with verb list (words_left words.entry.rest)) ≡ true) }
 {
     match verb {
-        Verb::PushFront => Ok(item(words).map(ListCall::PushFront).map(Act::One)),
-        Verb::PushBack => Ok(item(words).map(ListCall::PushBack).map(Act::One)),
-        Verb::PopFront => Ok(bare(words, ListCall::PopFront)),
-        Verb::PopBack => Ok(bare(words, ListCall::PopBack)),
-        Verb::Front => Ok(bare(words, ListCall::Front)),
-        Verb::Back => Ok(bare(words, ListCall::Back)),
-        Verb::SetFront => Ok(value(words).map(ListCall::SetFront).map(Act::One)),
-        Verb::SetBack => Ok(value(words).map(ListCall::SetBack).map(Act::One)),
-        Verb::Len => Ok(bare(words, ListCall::Len)),
-        Verb::Append => Ok(structure(words).map(|m| Act::Two(m, ListMove::Append))),
-        Verb::Split => Ok(split_words(words).map(|(at, m)| Act::Two(m, ListMove::Split(at)))),
-        Verb::Remove => Ok(value(words).map(ListCall::Remove).map(Act::One)),
-        Verb::Bump => Ok(value(words).map(ListCall::Bump).map(Act::One)),
-        Verb::Walk => Ok(turns_word(alloc, words)?.map(ListCall::Walk).map(Act::One)),
-        Verb::Into => Ok(turns_word(alloc, words)?.map(ListCall::Into).map(Act::One)),
-        Verb::Drain => Ok(
-            drain_words(words)
-                .map(|(f, k)| ListCall::Drain(f, k))
-                .map(Act::One),
-        ),
-        Verb::Show => Ok(bare(words, ListCall::Show)),
-        Verb::Cursor => Ok(end_word(words).map(|end| Act::Block(end, Vec::new(alloc)))),
+        Verb::Walk => {
+            let turns = turns_word(alloc, words)?;
+            Ok(turns.map(|turns| ListCommand::Walk(list, turns)))
+        }
+        Verb::Into => {
+            let turns = turns_word(alloc, words)?;
+            Ok(turns.map(|turns| ListCommand::Into(list, turns)))
+        }
+        _ => Ok(read_plain(alloc, verb, list, words)),
     }
 }
 
@@ -161,8 +185,7 @@ fn read_words(alloc: Global, line: &[u8]) -> Result<Option<ListCommand>, AllocEr
     let Some(list) = words.next_word().and_then(structure_number) else {
         return Ok(None);
     };
-    let act = read_act(alloc, verb, words)?;
-    Ok(act.map(|act| ListCommand { list, act }))
+    read_with(alloc, verb, list, words)
 }
 
 /// Reads a line of mode `list` outside of blocks, or returns `None` if the line is bad. The first line of a block is

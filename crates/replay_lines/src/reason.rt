@@ -19,7 +19,7 @@ pub enum Reason {
     /// The line has a carriage return.
     CarriageReturn,
     /// A space is at an end of the line, or beside another space.
-    Spaces,
+    StraySpace,
     /// The first word is no command word of the mode.
     NoSuchWord,
     /// A number begins with a zero, and has more digits.
@@ -43,7 +43,7 @@ impl fmt::Display for Reason {
             Reason::TooLong => "too long",
             Reason::Empty => "empty line",
             Reason::CarriageReturn => "carriage return",
-            Reason::Spaces => "two spaces",
+            Reason::StraySpace => "stray space",
             Reason::NoSuchWord => "no such word",
             Reason::LeadingZero => "leading zero",
             Reason::TooGreat => "number too great",
@@ -110,7 +110,7 @@ fn fault(word: &[u8]) -> Option<Reason>
     ensures { result ≡ fault_of word.now }
 {
     if word.is_empty() {
-        return Some(Reason::Spaces);
+        return Some(Reason::StraySpace);
     }
     if !are_digits(word) || number(word).is_some() {
         return None;
@@ -201,7 +201,8 @@ fn structures_in_list(word: &[u8]) -> Option<Structures>
         None => {}
     }
     match cursor_command::read_verb(word)? {
-        CursorVerb::Split(_) | CursorVerb::Splice(_) => Some(Structures::First),
+        CursorVerb::SplitAfter | CursorVerb::SplitBefore => Some(Structures::First),
+        CursorVerb::SpliceAfter | CursorVerb::SpliceBefore => Some(Structures::First),
         _ => Some(Structures::Nowhere),
     }
 }
@@ -242,7 +243,7 @@ fn judge(vocabulary: Vocabulary, mut words: Words) -> Reason
 {
     match words.next_word() {
         None => Reason::OtherWords,
-        Some([]) => Reason::Spaces,
+        Some([]) => Reason::StraySpace,
         Some(first) => match structures_after(vocabulary, first) {
             Some(structures) => judge_after(structures, words),
             None => Reason::NoSuchWord,

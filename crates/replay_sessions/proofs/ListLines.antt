@@ -8,44 +8,46 @@ use Rattle.std.proofs.lemmas.List.{append-nil, take_at}
 use Rattle.cordyceps_commands.specs.declared.list_command.CursorCommand.{CursorCommand}
 use Rattle.cordyceps_commands.specs.declared.list_command.CursorCommand.TheVariants as lines
 use Rattle.cordyceps_commands.specs.declared.list_command.ListEnd.{ListEnd}
-use Rattle.cordyceps_commands.specs.declared.list_command.ListCall.TheVariants as calls
-use Rattle.cordyceps_commands.specs.declared.list_command.Act.{Act}
-use Rattle.cordyceps_commands.specs.declared.list_command.Act.TheVariants as acts
+use Rattle.cordyceps_commands.specs.declared.list_command.ListCommand.{ListCommand}
+use Rattle.cordyceps_commands.specs.declared.list_command.ListCommand.TheVariants as commands
 use Rattle.cordyceps_commands.specs.Replies.{Line}
 use Rattle.cordyceps_tables.specs.Tables.{Table}
 use Rattle.cordyceps_tables.specs.Blocks.{OtherFits, EndsBlock, BlockFits}
-use Rattle.cordyceps_tables.specs.Lists.{act_on}
+use Rattle.cordyceps_tables.specs.Lists.{step}
 use Rattle.replay_sessions.specs.declared.block.Block.{Block}
 use Rattle.replay_lines.specs.ReplyText.{text_of}
-use Rattle.replay_lines.specs.ListScript.{Meaning, meaning_of_act, meaning_of}
+use Rattle.replay_lines.specs.ListScript.{Meaning, meaning_of_command, meaning_of}
 use Rattle.replay_lines.specs.CursorScript.{cursor_command_of}
 use Rattle.replay_driver.specs.Script.{RanOrNot}
 use Rattle.replay_driver.specs.Steps.{TakesLine, Ends}
 use Rattle.replay_sessions.specs.ListMachine.{list_machine, Open, State, run_block, longer, outside_with_text, take_outside, take_inside, take_line}
 use Rattle.replay_sessions.specs.OpenBlocks.{open_as, open_of, IsNoEnd, AreOpen, IsOpen, CanRun, Closes, CameBackOrRan}
 
-pub some_meaning : (meaning : Option (ℕ × Meaning)) → is_some meaning ≡ true → (m : ℕ × Meaning) × (Some m ≡ meaning)
+pub some_meaning : (meaning : Option Meaning) → is_some meaning ≡ true → (m : Meaning) × (Some m ≡ meaning)
 some_meaning (Some m) is = (m, refl)
 some_meaning None is = cc
 
--- a command that is no block does what its line asks for
-stepped : (table : Table) (list : ℕ) (act : Act) → ((end : ListEnd) (lines : Vec CursorCommand Global) → act ≡ acts.Block end lines → ⊥) →
-    take_outside table (list, meaning_of_act act) ≡ outside_with_text (act_on table list act)
-stepped table list (acts.One (calls.Walk turns)) single = refl
-stepped table list (acts.One (calls.Into turns)) single = refl
-stepped table list (acts.Block end lines) single = absurd (single end lines refl)
-stepped table list act single = refl
+-- it opens no block
+abbrev pub IsNoBlock : ListCommand → Type 0
+IsNoBlock command = (list : ℕ) (end : ListEnd) (lines : Vec CursorCommand Global) → command ≡ commands.Cursor list end lines → ⊥
 
-pub outside : (table : Table) (line : List ℕ) (meaning : ℕ × Meaning) → Some meaning ≡ meaning_of line → take_line (table, None) line ≡ Some (take_outside table meaning)
+-- a command that is no block does what its line asks for
+stepped : (table : Table) (command : ListCommand) → IsNoBlock command → take_outside table (meaning_of_command command) ≡ outside_with_text (step table command)
+stepped table (commands.Walk list turns) single = refl
+stepped table (commands.Into list turns) single = refl
+stepped table (commands.Cursor list end lines) single = absurd (single list end lines refl)
+stepped table command single = refl
+
+pub outside : (table : Table) (line : List ℕ) (meaning : Meaning) → Some meaning ≡ meaning_of line → take_line (table, None) line ≡ Some (take_outside table meaning)
 outside table line meaning is = rw (← is) refl
 
-pub entered : (table : Table) (line : List ℕ) (list : ℕ) (act : Act) → Some (list, meaning_of_act act) ≡ meaning_of line → ((end : ListEnd) (lines : Vec CursorCommand Global) → act ≡ acts.Block end lines → ⊥) →
-    take_line (table, None) line ≡ Some (outside_with_text (act_on table list act))
-entered table line list act is single = outside table line (list, meaning_of_act act) is ∙ ap Some (stepped table list act single)
+pub entered : (table : Table) (line : List ℕ) (command : ListCommand) → Some (meaning_of_command command) ≡ meaning_of line → IsNoBlock command →
+    take_line (table, None) line ≡ Some (outside_with_text (step table command))
+entered table line command is single = outside table line (meaning_of_command command) is ∙ ap Some (stepped table command single)
 
-pub entered_as : (table new : Table) (line : List ℕ) (list : ℕ) (act : Act) (replies : List Line) → Some (list, meaning_of_act act) ≡ meaning_of line → ((end : ListEnd) (lines : Vec CursorCommand Global) → act ≡ acts.Block end lines → ⊥) →
-    (new, replies) ≡ act_on table list act → take_line (table, None) line ≡ Some ((new, None), text_of replies ∷ [])
-entered_as table new line list act replies is single done = entered table line list act is single ∙ ap (λ (r : Table × List Line). Some (outside_with_text r)) (sym done)
+pub entered_as : (table new : Table) (line : List ℕ) (command : ListCommand) (replies : List Line) → Some (meaning_of_command command) ≡ meaning_of line → IsNoBlock command →
+    (new, replies) ≡ step table command → take_line (table, None) line ≡ Some ((new, None), text_of replies ∷ [])
+entered_as table new line command replies is single done = entered table line command is single ∙ ap (λ (r : Table × List Line). Some (outside_with_text r)) (sym done)
 
 pub inside : (table : Table) (held : Open) (line : List ℕ) (command : CursorCommand) → Some command ≡ cursor_command_of line → take_line (table, Some held) line ≡ Some (take_inside table held command)
 inside table held line command is = rw (← is) refl

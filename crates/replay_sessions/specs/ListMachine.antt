@@ -9,10 +9,10 @@ use Rattle.cordyceps_commands.specs.Replies.{Line, show}
 use Rattle.cordyceps_tables.specs.Tables.{Table, on}
 use Rattle.cordyceps_tables.specs.Walks.{items_for}
 use Rattle.cordyceps_tables.specs.Blocks as blocks
-use Rattle.cordyceps_tables.specs.Lists.{act_on}
+use Rattle.cordyceps_tables.specs.Lists.{step}
 use Rattle.replay_driver.specs.Script.{Machine}
 use Rattle.replay_lines.specs.ReplyText.{text_of}
-use Rattle.replay_lines.specs.ListScript.{Meaning, plain, walk, into, block, meaning_of}
+use Rattle.replay_lines.specs.ListScript.{Meaning, plain, walk, into, cursor, meaning_of}
 use Rattle.replay_lines.specs.CursorScript.{cursor_command_of}
 
 -- a block whose end has not come: its list, where its cursor begins, and its lines so far
@@ -37,13 +37,13 @@ abbrev pub outside_with_text : Table × List Line → State × List (List ℕ)
 outside_with_text next = ((next.0, None), text_of next.1 ∷ [])
 
 -- what a line does outside of blocks; the first line of a block has no reply yet
-abbrev pub take_outside : Table → ℕ × Meaning → State × List (List ℕ)
-take_outside table (list, plain act) = outside_with_text (act_on table list act)
-take_outside table (list, walk turns) =
+abbrev pub take_outside : Table → Meaning → State × List (List ℕ)
+take_outside table (plain command) = outside_with_text (step table command)
+take_outside table (walk list turns) =
     outside_with_text (on table list (λ s. (s, show (items_for turns (values s)) ∷ [])))
-take_outside table (list, into turns) =
+take_outside table (into list turns) =
     outside_with_text (on table list (λ s. ([], show (items_for turns (values s)) ∷ [])))
-take_outside table (list, block end lines) = ((table, Some (record { list = list; end = end; lines = lines })), [])
+take_outside table (cursor list end lines) = ((table, Some (record { list = list; end = end; lines = lines })), [])
 
 -- what a line does in a block: its end runs it, and any other line waits for that
 abbrev pub take_inside : Table → Open → CursorCommand → State × List (List ℕ)

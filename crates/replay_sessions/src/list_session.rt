@@ -9,7 +9,7 @@ ghost use Rattle.replay_driver.specs.Steps.{TakesLine};
 ghost use Rattle.replay_sessions.specs.declared.block.Block.{Block};
 
 use crate::block::Block;
-use cordyceps_commands::{Act, CursorCommand, ListCommand, Reply};
+use cordyceps_commands::{CursorCommand, ListCommand, Reply};
 use cordyceps_tables::replay::Lists;
 use replay_driver::session::Session;
 use replay_lines::cursor_command::read_cursor_command;
@@ -27,12 +27,10 @@ pub struct ListSession {
 
 /// Returns the block that a command runs.
 fn block_of(command: ListCommand) -> Option<Block>
-    ensures { (block : Block) → command.list ≡ block.list → command.act ≡ Act.Block block.end block.lines
-        → result ≡ Some block }
+    ensures { (block : Block) → command ≡ ListCommand.Cursor block.list block.end block.lines → result ≡ Some block }
 {
-    let ListCommand { list, act } = command;
-    match act {
-        Act::Block(end, lines) => Some(Block { list, end, lines }),
+    match command {
+        ListCommand::Cursor(list, end, lines) => Some(Block { list, end, lines }),
         _other => None,
     }
 }
@@ -74,8 +72,7 @@ impl ListSession {
         ensures block { self.new.block ≡ self.old.block }
     {
         let Block { list, end, lines } = block;
-        let act = Act::Block(end, lines);
-        let command = ListCommand { list, act };
+        let command = ListCommand::Cursor(list, end, lines);
         let Ok(reply) = self.lists.run(self.alloc, &command) else {
             return Err(block_of(command));
         };
@@ -95,14 +92,17 @@ impl ListSession {
         let Some(command) = read_command(self.alloc, line)? else {
             return Ok(false);
         };
-        let ListCommand { list, act } = command;
-        if let Act::Block(end, lines) = act {
-            self.block = Some(Block { list, end, lines });
-            return Ok(true);
+        match command {
+            ListCommand::Cursor(list, end, lines) => {
+                self.block = Some(Block { list, end, lines });
+                Ok(true)
+            }
+            command => {
+                let reply = self.play(command)?;
+                push_reply(self.alloc, text, &reply)?;
+                Ok(true)
+            }
         }
-        let reply = self.play(ListCommand { list, act })?;
-        push_reply(self.alloc, text, &reply)?;
-        Ok(true)
     }
 
     /// Takes a line of a block.

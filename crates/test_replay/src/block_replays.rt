@@ -1,10 +1,8 @@
 //! Commands on lists, with a block of commands at a cursor.
 
 use crate::replays::replies;
-use crate::wanted::{ONE, THREE, TWO, Want, call_on, queue_of};
-use cordyceps::replay::{
-    Act, CursorCall, CursorCommand, ListCall, ListCommand, ListEnd, Lists, Side,
-};
+use crate::wanted::{ONE, THREE, TWO, Want, queue_of};
+use cordyceps::replay::{CursorCommand, ListCommand, ListEnd, Lists};
 use std::test::Fail;
 
 /// The replies to the lines of the block.
@@ -23,27 +21,24 @@ const SPLIT: [Want<'static>; 9] = [
 #[test]
 fn splits_at_a_cursor(rt: HostRuntime) -> Result<(), Fail> {
     let lines = vec![in rt.alloc();
-        CursorCommand::One(CursorCall::MovePrev),
-        CursorCommand::One(CursorCall::Index),
-        CursorCommand::One(CursorCall::MovePrev),
-        CursorCommand::One(CursorCall::Current),
-        CursorCommand::One(CursorCall::Index),
-        CursorCommand::Split(Side::Before, 1),
-        CursorCommand::One(CursorCall::Index),
+        CursorCommand::MovePrev,
+        CursorCommand::Index,
+        CursorCommand::MovePrev,
+        CursorCommand::Current,
+        CursorCommand::Index,
+        CursorCommand::SplitBefore(1),
+        CursorCommand::Index,
         CursorCommand::End,
     ]?;
     let commands = queue_of(
         rt.alloc(),
         [
-            call_on(0, ListCall::PushBack(ONE)),
-            call_on(0, ListCall::PushBack(TWO)),
-            call_on(0, ListCall::PushBack(THREE)),
-            ListCommand {
-                list: 0,
-                act: Act::Block(ListEnd::Front, lines),
-            },
-            call_on(0, ListCall::Show),
-            call_on(1, ListCall::Show),
+            ListCommand::PushBack(0, ONE),
+            ListCommand::PushBack(0, TWO),
+            ListCommand::PushBack(0, THREE),
+            ListCommand::Cursor(0, ListEnd::Front, lines),
+            ListCommand::Show(0),
+            ListCommand::Show(1),
         ],
     )?;
     let wants = [

@@ -3,8 +3,7 @@ ghost use Rattle.std.specs.Prelude.{All, IfOk};
 ghost use Rattle.cordyceps.specs.Lists.{Fits};
 
 use crate::compared::{made, same};
-use crate::wanted::call_on;
-use cordyceps::replay::{Act, Item, ListCall, ListCommand, ListMove, Lists, Reply, replay_lists};
+use cordyceps::replay::{Item, ListCommand, Lists, Reply, replay_lists};
 use std::alloc::{AllocError, Global};
 use std::collections::VecDeque;
 use std::mem;
@@ -15,32 +14,49 @@ use test_support::draws::Draws;
 /// How many commands are drawn. As many as there are lists follow, of which each shows one.
 const DRAWN: usize = 4000;
 
-/// Returns the command with this number, on one of four lists, or on two.
-fn draw(draws: &mut Draws, number: usize) -> ListCommand
-    ensures { Fits result }
+/// A command on one of four lists, or on two.
+#[derive(Drop)]
+struct Drawn {
+    list: usize,
+    other: usize,
+    command: ListCommand,
+}
+
+/// Returns the command with this number.
+fn draw(draws: &mut Draws, number: usize) -> Drawn
+    ensures { Fits result.command }
 {
     let list = draws.below(4) as u8;
     let other = draws.below(4) as u8;
     let value = draws.below(100);
     let id = draws.below(10);
     if number >= DRAWN {
-        return call_on((number % 4) as u8, ListCall::Show);
+        let shown = number % 4;
+        return Drawn {
+            list: shown,
+            other: shown,
+            command: ListCommand::Show(shown as u8),
+        };
     }
-    let act = match draws.below(16) {
-        0 | 1 | 2 => Act::One(ListCall::PushFront(Item { value, id })),
-        3 | 4 | 5 => Act::One(ListCall::PushBack(Item { value, id })),
-        6 => Act::One(ListCall::PopFront),
-        7 => Act::One(ListCall::PopBack),
-        8 => Act::One(ListCall::Remove(id)),
-        9 => Act::One(ListCall::SetBack(value)),
-        10 => Act::Two(other, ListMove::Append),
-        11 => Act::Two(other, ListMove::Split(id)),
-        12 => Act::One(ListCall::Bump(u64::MAX - value)),
-        13 => Act::One(ListCall::Front),
-        14 => Act::One(ListCall::Len),
-        _ => Act::One(ListCall::Show),
+    let command = match draws.below(16) {
+        0 | 1 | 2 => ListCommand::PushFront(list, Item { value, id }),
+        3 | 4 | 5 => ListCommand::PushBack(list, Item { value, id }),
+        6 => ListCommand::PopFront(list),
+        7 => ListCommand::PopBack(list),
+        8 => ListCommand::Remove(list, id),
+        9 => ListCommand::SetBack(list, value),
+        10 => ListCommand::Append(list, other),
+        11 => ListCommand::Split(list, id, other),
+        12 => ListCommand::Bump(list, u64::MAX - value),
+        13 => ListCommand::Front(list),
+        14 => ListCommand::Len(list),
+        _ => ListCommand::Show(list),
     };
-    ListCommand { list, act }
+    Drawn {
+        list: list as usize,
+        other: other as usize,
+        command,
+    }
 }
 
 /// Asserts that memory was there for a command, and returns its reply.
@@ -66,27 +82,32 @@ fn shown(rt: &impl Abort, alloc: Global, held: &VecDeque<Item>) -> Reply {
     Reply::Show(items)
 }
 
-/// Makes a call on one list, and returns its reply.
-fn on_one(rt: &impl Abort, alloc: Global, held: &mut VecDeque<Item>, call: &ListCall) -> Reply {
-    match call {
-        ListCall::PushFront(item) => done(rt, held.push_front(*item).is_ok()),
-        ListCall::PushBack(item) => done(rt, held.push_back(*item).is_ok()),
-        ListCall::PopFront => found(held.pop_front()),
-        ListCall::PopBack => found(held.pop_back()),
-        ListCall::Front => found(held.front().copied()),
-        ListCall::Remove(id) => match held.iter().position(|item| item.id == *id) {
+/// Runs a command on one list, and returns its reply.
+fn on_one(
+    rt: &impl Abort,
+    alloc: Global,
+    held: &mut VecDeque<Item>,
+    command: &ListCommand,
+) -> Reply {
+    match command {
+        ListCommand::PushFront(_, item) => done(rt, held.push_front(*item).is_ok()),
+        ListCommand::PushBack(_, item) => done(rt, held.push_back(*item).is_ok()),
+        ListCommand::PopFront(_) => found(held.pop_front()),
+        ListCommand::PopBack(_) => found(held.pop_back()),
+        ListCommand::Front(_) => found(held.front().copied()),
+        ListCommand::Remove(_, id) => match held.iter().position(|item| item.id == *id) {
             Some(at) => found(held.remove(at)),
             None => Reply::Nothing,
         },
-        ListCall::Len => Reply::Len(held.len() as u64),
-        ListCall::SetBack(value) => match held.back_mut() {
+        ListCommand::Len(_) => Reply::Len(held.len() as u64),
+        ListCommand::SetBack(_, value) => match held.back_mut() {
             Some(last) => {
                 last.value = *value;
                 Reply::Done
             }
             None => Reply::Nothing,
         },
-        ListCall::Bump(by) => {
+        ListCommand::Bump(_, by) => {
             for item in held.iter_mut() {
                 item.value = item.value.wrapping_add(*by);
             }
@@ -101,38 +122,32 @@ fn on_two(
     rt: &impl Abort,
     held: &mut VecDeque<Item>,
     other: &mut VecDeque<Item>,
-    between: ListMove,
+    command: &ListCommand,
 ) -> Reply {
-    match between {
-        ListMove::Append => done(rt, held.append(other).is_ok()),
-        ListMove::Split(_) if !other.is_empty() => Reply::NotThere,
-        ListMove::Split(at) if at > held.len() as u64 => Reply::Nothing,
-        ListMove::Split(at) => {
-            *other = made(rt, held.split_off(at as usize));
+    match command {
+        ListCommand::Split(_, _, _) if !other.is_empty() => Reply::NotThere,
+        ListCommand::Split(_, at, _) if *at > held.len() as u64 => Reply::Nothing,
+        ListCommand::Split(_, at, _) => {
+            *other = made(rt, held.split_off(*at as usize));
             Reply::Done
         }
+        _ => done(rt, held.append(other).is_ok()),
     }
 }
 
 /// Runs a command on one or two of the lists, and returns its reply.
-fn run(
-    rt: &impl Abort,
-    alloc: Global,
-    lists: &mut [VecDeque<Item>; 4],
-    command: &ListCommand,
-) -> Reply {
-    let list = command.list as usize % 4;
-    match &command.act {
-        Act::One(call) => on_one(rt, alloc, &mut lists[list], call),
-        Act::Two(other, _) if *other as usize % 4 == list => Reply::NotThere,
-        Act::Two(other, between) => {
-            let other = *other as usize % 4;
+fn run(rt: &impl Abort, alloc: Global, lists: &mut [VecDeque<Item>; 4], drawn: &Drawn) -> Reply {
+    let (list, other) = (drawn.list % 4, drawn.other % 4);
+    let command = &drawn.command;
+    match command {
+        ListCommand::Append(_, _) | ListCommand::Split(_, _, _) if list == other => Reply::NotThere,
+        ListCommand::Append(_, _) | ListCommand::Split(_, _, _) => {
             let mut moved = mem::replace(&mut lists[other], VecDeque::new(alloc));
-            let reply = on_two(rt, &mut lists[list], &mut moved, *between);
+            let reply = on_two(rt, &mut lists[list], &mut moved, command);
             lists[other] = moved;
             reply
         }
-        Act::Block(_, _) => panic!(rt; "no block is drawn"),
+        _ => on_one(rt, alloc, &mut lists[list], command),
     }
 }
 
@@ -156,7 +171,7 @@ fn commands_and_replies(
         let next = draw(&mut draws, number);
         let reply = run(rt, alloc, &mut lists, &next);
         done(rt, replies.push(reply).is_ok());
-        commands.push_back(next)?;
+        commands.push_back(next.command)?;
     }
     Ok((commands, replies))
 }

@@ -3,8 +3,8 @@ ghost use Rattle.std.specs.Prelude.{All};
 ghost use Rattle.cordyceps.specs.Lists.{Fits};
 
 use crate::compared::same;
-use crate::wanted::{ONE, THREE, TWO, Want, call_on, queue_of, replied};
-use cordyceps::replay::{Item, ListCall, ListCommand, Lists, replay_lists};
+use crate::wanted::{ONE, THREE, TWO, Want, queue_of, replied};
+use cordyceps::replay::{Item, ListCommand, Lists, replay_lists};
 use cordyceps::{Kind, Linked, Node, list, mpsc_queue, stack};
 use std::alloc::{AllocError, Global};
 use std::collections::VecDeque;
@@ -39,13 +39,13 @@ fn pushes_and_pops(rt: HostRuntime) -> Result<(), Fail> {
     let commands = queue_of(
         rt.alloc(),
         [
-            call_on(0, ListCall::PushBack(ONE)),
-            call_on(0, ListCall::PushBack(TWO)),
-            call_on(0, ListCall::PushFront(THREE)),
-            call_on(0, ListCall::PopFront),
-            call_on(0, ListCall::PopBack),
-            call_on(0, ListCall::Len),
-            call_on(1, ListCall::PopFront),
+            ListCommand::PushBack(0, ONE),
+            ListCommand::PushBack(0, TWO),
+            ListCommand::PushFront(0, THREE),
+            ListCommand::PopFront(0),
+            ListCommand::PopBack(0),
+            ListCommand::Len(0),
+            ListCommand::PopFront(1),
         ],
     )?;
     let wants = [

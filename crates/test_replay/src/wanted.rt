@@ -1,9 +1,8 @@
 //! Items, queues of commands, and the replies that are wanted.
-ghost use Rattle.std.specs.Prelude.{◌≡◌, ◌<◌, IfOk};
-ghost use Rattle.cordyceps.specs.Lists.{Fits};
+ghost use Rattle.std.specs.Prelude.{◌≡◌, IfOk};
 
 use crate::compared::same;
-use cordyceps::replay::{Act, Item, ListCall, ListCommand, Reply};
+use cordyceps::replay::{Item, Reply};
 use std::alloc::{AllocError, Global};
 use std::collections::VecDeque;
 use std::process::Abort;
@@ -25,15 +24,6 @@ pub fn queue_of<C: Drop, const N: usize>(
     ensures { IfOk result (λ queue. queue.items ≡ commands) }
 {
     Ok(VecDeque::from_array(alloc, commands)?)
-}
-
-/// Returns the command of a call on one list.
-pub fn call_on(list: u8, call: ListCall) -> ListCommand
-    requires { list < 16 }
-    ensures { Fits result }
-{
-    let act = Act::One(call);
-    ListCommand { list, act }
 }
 
 /// A reply that is wanted. It takes no memory, so that a table can have it.

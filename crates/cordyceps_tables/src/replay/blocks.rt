@@ -9,22 +9,31 @@ ghost use Rattle.cordyceps_list.specs.Cursor.{elements, place, lender, Stands};
 ghost use Rattle.cordyceps_commands.specs.Replies.{lines_of};
 ghost use Rattle.cordyceps_tables.specs.Tables.{held_at};
 ghost use Rattle.cordyceps_tables.specs.Filters.{passes};
-ghost use Rattle.cordyceps_tables.specs.Blocks.{first_place, put_beside, cut_beside, insert, line_step, state_of, made_for, made_for_all, block, run_lines, OtherFits, BlockFits, Goes, Obeys, Cuts, LineRuns};
+ghost use Rattle.cordyceps_tables.specs.Blocks.{first_place, put_beside, cut_beside, insert, split_on, splice_on, line_step, state_of, made_for, made_for_all, block, run_lines, OtherFits, BlockFits, Goes, Obeys, Cuts, Reaches, LineRuns};
 
 use crate::replay::filters::passes;
 use crate::replay::nodes::node_of;
 use crate::replay::replies::{block_of, done, index_of, len_of, not_there, nothing, reply_of};
 use cordyceps_base::list::Links;
 use cordyceps_base::node::Node;
-use cordyceps_commands::{CursorCall, CursorCommand, Filter, Item, ListEnd, Reply, Side};
+use cordyceps_commands::{CursorCommand, Filter, Item, ListEnd, Reply};
 use cordyceps_list::cursor_mut::CursorMut;
 use cordyceps_list::list::List;
 use std::alloc::{AllocError, Global};
 use std::mem;
 
+/// A side of a cursor's item.
+#[derive(Clone, Copy)]
+pub enum Side {
+    /// After the item. At the null place, before the first item.
+    After,
+    /// Before the item. At the null place, after the last item.
+    Before,
+}
+
 /// Sets the value of the item at the cursor.
 fn set(cursor: &mut CursorMut<'_, Item>, value: u64) -> Reply
-    ensures { Obeys cursor.old cursor.new (CursorCall.Set value) result }
+    ensures { Obeys cursor.old cursor.new (CursorCommand.Set value) result }
 {
     let Some(item) = cursor.current_mut() else {
         return nothing();
@@ -35,7 +44,7 @@ fn set(cursor: &mut CursorMut<'_, Item>, value: u64) -> Reply
 
 /// Sets the value of the next item.
 fn set_next(cursor: &mut CursorMut<'_, Item>, value: u64) -> Reply
-    ensures { Obeys cursor.old cursor.new (CursorCall.SetNext value) result }
+    ensures { Obeys cursor.old cursor.new (CursorCommand.SetNext value) result }
 {
     let Some(item) = cursor.peek_next_mut() else {
         return nothing();
@@ -46,7 +55,7 @@ fn set_next(cursor: &mut CursorMut<'_, Item>, value: u64) -> Reply
 
 /// Sets the value of the previous item.
 fn set_prev(cursor: &mut CursorMut<'_, Item>, value: u64) -> Reply
-    ensures { Obeys cursor.old cursor.new (CursorCall.SetPrev value) result }
+    ensures { Obeys cursor.old cursor.new (CursorCommand.SetPrev value) result }
 {
     let Some(item) = cursor.peek_prev_mut() else {
         return nothing();
@@ -57,7 +66,7 @@ fn set_prev(cursor: &mut CursorMut<'_, Item>, value: u64) -> Reply
 
 /// Reads the item at the cursor, and moves the cursor to the next place.
 fn step(cursor: &mut CursorMut<'_, Item>) -> Reply
-    ensures { Obeys cursor.old cursor.new CursorCall.Next result }
+    ensures { Obeys cursor.old cursor.new CursorCommand.Next result }
 {
     let Some(item) = cursor.next() else {
         return nothing();
@@ -67,7 +76,7 @@ fn step(cursor: &mut CursorMut<'_, Item>) -> Reply
 
 /// Removes the first item that passes, from the cursor on.
 fn remove_first(cursor: &mut CursorMut<'_, Item>, filter: Filter) -> Reply
-    ensures { Obeys cursor.old cursor.new (CursorCall.RemoveFirst filter) result }
+    ensures { Obeys cursor.old cursor.new (CursorCommand.RemoveFirst filter) result }
 {
     let mut turn = true;
     let removed = cursor.remove_first(
@@ -108,30 +117,34 @@ fn first_of(nodes: &mut List<Item>) -> Node<Item, Links<Item>>
     node
 }
 
-/// Makes a call on the cursor's list alone.
-fn run_call(cursor: &mut CursorMut<'_, Item>, call: CursorCall) -> Reply
-    ensures { Obeys cursor.old cursor.new call result }
+/// Runs a line on the cursor's list alone. Lines that insert an item, or name another list, are not run here.
+fn run_call(cursor: &mut CursorMut<'_, Item>, line: CursorCommand) -> Reply
+    ensures { Obeys cursor.old cursor.new line result }
 {
-    match call {
-        CursorCall::MoveNext => {
+    match line {
+        CursorCommand::MoveNext => {
             cursor.move_next();
             done()
         }
-        CursorCall::MovePrev => {
+        CursorCommand::MovePrev => {
             cursor.move_prev();
             done()
         }
-        CursorCall::Current => reply_of(cursor.current().copied()),
-        CursorCall::PeekNext => reply_of(cursor.peek_next().copied()),
-        CursorCall::PeekPrev => reply_of(cursor.peek_prev().copied()),
-        CursorCall::Index => index_of(cursor.index()),
-        CursorCall::Len => len_of(cursor.len()),
-        CursorCall::Set(value) => set(cursor, value),
-        CursorCall::SetNext(value) => set_next(cursor, value),
-        CursorCall::SetPrev(value) => set_prev(cursor, value),
-        CursorCall::Next => step(cursor),
-        CursorCall::RemoveCurrent => reply_of(cursor.remove_current().map(Node::into_value)),
-        CursorCall::RemoveFirst(filter) => remove_first(cursor, filter),
+        CursorCommand::Current => reply_of(cursor.current().copied()),
+        CursorCommand::PeekNext => reply_of(cursor.peek_next().copied()),
+        CursorCommand::PeekPrev => reply_of(cursor.peek_prev().copied()),
+        CursorCommand::Index => index_of(cursor.index()),
+        CursorCommand::Len => len_of(cursor.len()),
+        CursorCommand::Set(value) => set(cursor, value),
+        CursorCommand::SetNext(value) => set_next(cursor, value),
+        CursorCommand::SetPrev(value) => set_prev(cursor, value),
+        CursorCommand::Next => step(cursor),
+        CursorCommand::RemoveCurrent => reply_of(cursor.remove_current().map(Node::into_value)),
+        CursorCommand::RemoveFirst(filter) => remove_first(cursor, filter),
+        CursorCommand::InsertAfter(_) | CursorCommand::InsertBefore(_) => not_there(),
+        CursorCommand::SplitAfter(_) | CursorCommand::SplitBefore(_) => not_there(),
+        CursorCommand::SpliceAfter(_) | CursorCommand::SpliceBefore(_) => not_there(),
+        CursorCommand::End => done(),
     }
 }
 
@@ -171,7 +184,8 @@ fn split(
 ) -> Reply
     requires list { list < length lists.old }
     requires other { other < length lists.old }
-    ensures { LineRuns list lists.old lists.new cursor.old cursor.new (CursorCommand.Split side other) result }
+    ensures { Reaches list lists.new cursor.old cursor.new
+        (split_on (state_of lists.old list cursor.old) list side other) result }
 {
     if !is_free(lists, list, other) {
         return not_there();
@@ -202,7 +216,8 @@ fn splice(
 ) -> Reply
     requires list { list < length lists.old }
     requires other { other < length lists.old }
-    ensures { LineRuns list lists.old lists.new cursor.old cursor.new (CursorCommand.Splice side other) result }
+    ensures { Reaches list lists.new cursor.old cursor.new
+        (splice_on (state_of lists.old list cursor.old) list side other) result }
 {
     if !fits_in(lists, list, cursor.len(), other) {
         return not_there();
@@ -229,11 +244,13 @@ fn run_line(
     ensures nodes { nodes.new ≡ drop (length (made_for line)) nodes.old }
 {
     match line {
-        CursorCommand::One(call) => run_call(cursor, call),
-        CursorCommand::Insert(side, _) => insert(cursor, side, first_of(nodes)),
-        CursorCommand::Split(side, other) => split(lists, list, cursor, side, other),
-        CursorCommand::Splice(side, other) => splice(lists, list, cursor, side, other),
-        CursorCommand::End => done(),
+        CursorCommand::InsertAfter(_) => insert(cursor, Side::After, first_of(nodes)),
+        CursorCommand::InsertBefore(_) => insert(cursor, Side::Before, first_of(nodes)),
+        CursorCommand::SplitAfter(other) => split(lists, list, cursor, Side::After, other),
+        CursorCommand::SplitBefore(other) => split(lists, list, cursor, Side::Before, other),
+        CursorCommand::SpliceAfter(other) => splice(lists, list, cursor, Side::After, other),
+        CursorCommand::SpliceBefore(other) => splice(lists, list, cursor, Side::Before, other),
+        _ => run_call(cursor, line),
     }
 }
 
@@ -308,7 +325,7 @@ fn make_for(alloc: Global, nodes: &mut List<Item>, line: CursorCommand) -> Resul
     ensures { OnOk result (nodes.new ≡ nodes.old ++ made_for line) }
 {
     match line {
-        CursorCommand::Insert(_, item) => {
+        CursorCommand::InsertAfter(item) | CursorCommand::InsertBefore(item) => {
             let node = node_of(alloc, item)?;
             nodes.push_back(node);
             Ok(())

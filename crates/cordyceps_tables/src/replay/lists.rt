@@ -3,7 +3,7 @@ ghost use Rattle.std.specs.Prelude.{◌≡◌, ◌++◌, ◌∷◌, [], ◌-◌,
 ghost use Rattle.cordyceps_base.specs.Element.{values};
 ghost use Rattle.cordyceps_commands.specs.Replies.{lines_of, found_or_nothing};
 ghost use Rattle.cordyceps_tables.specs.Tables.{empty_table, element_of};
-ghost use Rattle.cordyceps_tables.specs.Lists.{push, set_item, call_on, append, split, moved, step, Fits};
+ghost use Rattle.cordyceps_tables.specs.Lists.{push, set_item, call_on, append, split, list_of, step, Fits};
 ghost use Rattle.cordyceps_tables.specs.Plays.{Plays};
 
 use crate::replay::blocks::run_block;
@@ -13,7 +13,7 @@ use crate::replay::played::Played;
 use crate::replay::replies::{done, len_of, not_there, nothing, reply_of};
 use crate::replay::walks::{bump, show, walk, walk_into};
 use cordyceps_base::node::Node;
-use cordyceps_commands::{Act, Item, ListCall, ListCommand, ListMove, Reply};
+use cordyceps_commands::{Item, ListCommand, Reply};
 use cordyceps_list::list::List;
 use std::alloc::{AllocError, Global};
 use std::collections::VecDeque;
@@ -89,27 +89,50 @@ fn set_back(list: &mut List<Item>, value: u64) -> Reply
     done()
 }
 
-/// Makes a call on a list alone.
-fn run_call(alloc: Global, list: &mut List<Item>, call: &ListCall) -> Result<Reply, AllocError>
-    ensures ok { IfOk result (λ reply. (list.new, lines_of reply) ≡ call_on list.old call.now) }
+/// Returns the number of the list that a command names first.
+fn number_of(command: &ListCommand) -> u8
+    ensures { result ≡ list_of command.now }
+{
+    match command {
+        ListCommand::PushFront(list, _) | ListCommand::PushBack(list, _) => *list,
+        ListCommand::PopFront(list) | ListCommand::PopBack(list) => *list,
+        ListCommand::Front(list) | ListCommand::Back(list) => *list,
+        ListCommand::SetFront(list, _) | ListCommand::SetBack(list, _) => *list,
+        ListCommand::Len(list) | ListCommand::Show(list) => *list,
+        ListCommand::Append(list, _) | ListCommand::Split(list, _, _) => *list,
+        ListCommand::Remove(list, _) | ListCommand::Bump(list, _) => *list,
+        ListCommand::Walk(list, _) | ListCommand::Into(list, _) => *list,
+        ListCommand::Drain(list, _, _) | ListCommand::Cursor(list, _, _) => *list,
+    }
+}
+
+/// Runs a command on its list alone. Blocks, and commands that name a second list, are not run here.
+fn run_call(
+    alloc: Global,
+    list: &mut List<Item>,
+    command: &ListCommand,
+) -> Result<Reply, AllocError>
+    ensures ok { IfOk result (λ reply. (list.new, lines_of reply) ≡ call_on list.old command.now) }
     ensures err { OnErr result (list.new ≡ list.old) }
 {
-    match call {
-        ListCall::PushFront(item) => push_front(alloc, list, *item),
-        ListCall::PushBack(item) => push_back(alloc, list, *item),
-        ListCall::PopFront => Ok(pop_front(list)),
-        ListCall::PopBack => Ok(pop_back(list)),
-        ListCall::Front => Ok(reply_of(list.front().copied())),
-        ListCall::Back => Ok(reply_of(list.back().copied())),
-        ListCall::SetFront(value) => Ok(set_front(list, *value)),
-        ListCall::SetBack(value) => Ok(set_back(list, *value)),
-        ListCall::Len => Ok(len_of(list.len())),
-        ListCall::Remove(id) => Ok(reply_of(list.remove(*id).map(Node::into_value))),
-        ListCall::Bump(by) => Ok(bump(list, *by)),
-        ListCall::Walk(turns) => walk(alloc, list, turns),
-        ListCall::Into(turns) => walk_into(alloc, list, turns),
-        ListCall::Drain(filter, limit) => drain(alloc, list, *filter, *limit),
-        ListCall::Show => show(alloc, list),
+    match command {
+        ListCommand::PushFront(_, item) => push_front(alloc, list, *item),
+        ListCommand::PushBack(_, item) => push_back(alloc, list, *item),
+        ListCommand::PopFront(_) => Ok(pop_front(list)),
+        ListCommand::PopBack(_) => Ok(pop_back(list)),
+        ListCommand::Front(_) => Ok(reply_of(list.front().copied())),
+        ListCommand::Back(_) => Ok(reply_of(list.back().copied())),
+        ListCommand::SetFront(_, value) => Ok(set_front(list, *value)),
+        ListCommand::SetBack(_, value) => Ok(set_back(list, *value)),
+        ListCommand::Len(_) => Ok(len_of(list.len())),
+        ListCommand::Remove(_, id) => Ok(reply_of(list.remove(*id).map(Node::into_value))),
+        ListCommand::Bump(_, by) => Ok(bump(list, *by)),
+        ListCommand::Walk(_, turns) => walk(alloc, list, turns),
+        ListCommand::Into(_, turns) => walk_into(alloc, list, turns),
+        ListCommand::Drain(_, filter, limit) => drain(alloc, list, *filter, *limit),
+        ListCommand::Show(_) => show(alloc, list),
+        ListCommand::Append(_, _) | ListCommand::Split(_, _, _) => Ok(not_there()),
+        ListCommand::Cursor(_, _, _) => Ok(not_there()),
     }
 }
 
@@ -141,18 +164,6 @@ fn split(lists: &mut [List<Item>], list: usize, index: usize, other: usize) -> R
     };
     lists[other] = rest;
     done()
-}
-
-/// Moves items between two lists.
-fn move_items(lists: &mut [List<Item>], list: usize, other: usize, between: ListMove) -> Reply
-    requires list { list < length lists.old }
-    requires other { other < length lists.old }
-    ensures { (lists.new, lines_of result) ≡ moved lists.old list other between }
-{
-    match between {
-        ListMove::Append => append(lists, list, other),
-        ListMove::Split(at) => split(lists, list, at as usize, other),
-    }
 }
 
 /// Sixteen lists of items, numbered from 0. A contract sees the elements of each.
@@ -203,13 +214,21 @@ impl Lists {
         ensures ok { IfOk result (λ reply. (self.new, lines_of reply) ≡ step self.old command.now) }
         ensures err { OnErr result (self.new ≡ self.old) }
     {
-        let list = command.list as usize;
-        match &command.act {
-            Act::One(call) => run_call(alloc, &mut self.lists[list], call),
-            Act::Two(other, between) => {
-                Ok(move_items(&mut self.lists, list, *other as usize, *between))
+        match command {
+            ListCommand::Append(list, other) => {
+                Ok(append(&mut self.lists, *list as usize, *other as usize))
             }
-            Act::Block(end, lines) => run_block(alloc, &mut self.lists, list, *end, lines),
+            ListCommand::Split(list, at, other) => {
+                let (list, at, other) = (*list as usize, *at as usize, *other as usize);
+                Ok(split(&mut self.lists, list, at, other))
+            }
+            ListCommand::Cursor(list, end, lines) => {
+                run_block(alloc, &mut self.lists, *list as usize, *end, lines)
+            }
+            _ => {
+                let list = &mut self.lists[number_of(command) as usize];
+                run_call(alloc, list, command)
+            }
         }
     }
 }
