@@ -9,7 +9,7 @@ pub use replay_driver::sink::{Sink, ToWrite};
 pub use replay_driver::source::{FromRead, Source};
 pub use replay_lines::reason::Reason;
 use replay_sessions::modes::compare_tens;
-pub use replay_sessions::modes::{Choice, Mode, USAGE, choose, run};
+pub use replay_sessions::modes::{Choice, Mode, USAGE, choose, run, run_with_reason};
 pub use replay_sharing::share::{Gate, OpenGate, run_share, share};
 use std::io::ErrorKind;
 use std::process::ExitCode;
@@ -24,11 +24,23 @@ fn arguments(rt: &HostRuntime) -> io::Result<Vec<String>> {
     Ok(words)
 }
 
-/// Writes a fault's text on standard error, and why a line is bad. The fault's status is the program's.
+/// The environment variable that asks for reasons: if it is `1`, the line of a bad line also says why that is bad.
+const REASONS: &str = "CORDYCEPS_REPLAY_REASONS";
+
+/// Returns `true` if reasons are asked for. A variable that cannot be read asks for none.
+fn tells_reasons(rt: &HostRuntime) -> bool {
+    match env::var(rt, REASONS) {
+        Ok(value) => value.as_str() == "1",
+        Err(_) => false,
+    }
+}
+
+/// Writes a fault's text on standard error, and why a line is bad if that is asked for. The fault's status is the
+/// program's.
 fn report(rt: &HostRuntime, fault: Fault, why: Option<Reason>) -> ExitCode {
     let _ = match why {
-        Some(why) => eprintln!(rt; "{fault}: {why}"),
-        None => rt.eprintln(fault),
+        Some(why) if tells_reasons(rt) => eprintln!(rt; "{fault}: {why}"),
+        _ => rt.eprintln(fault),
     };
     ExitCode::from(fault.status())
 }
@@ -63,6 +75,6 @@ fn main(rt: HostRuntime) -> ExitCode {
     };
     let mut input = FromRead::new(rt.reader());
     let mut why = None;
-    let end = run(rt.alloc(), mode, &mut input, &mut output, &mut why);
+    let end = run_with_reason(rt.alloc(), mode, &mut input, &mut output, &mut why);
     exit_code(&rt, end, why)
 }

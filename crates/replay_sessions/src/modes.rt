@@ -76,7 +76,7 @@ pub fn choose(words: &[String]) -> Option<Choice>
     }
 }
 
-/// Runs a script in a session, as `run` does in a mode.
+/// Runs a script in a session, as `run_with_reason` does in a mode.
 fn run_session<S: Session + Drop, I: Source, O: Sink>(
     alloc: Global,
     session: S,
@@ -111,8 +111,6 @@ fn run_session<S: Session + Drop, I: Source, O: Sink>(
 /// before it are then written. It returns `Write` if the sink failed. A prefix of the replies is then written. It
 /// returns `Memory` if memory was refused. The replies to the commands before the refused one are then written.
 ///
-/// After `BadLine`, `why` is the reason why the line is bad; otherwise it is `None`.
-///
 /// More of the source may have been read than the lines that were taken.
 ///
 /// # Complexity
@@ -120,6 +118,32 @@ fn run_session<S: Session + Drop, I: Source, O: Sink>(
 /// holds one block, and about as many bytes of replies in addition to the replies to one command and the lines of a
 /// cursor block.
 pub fn run<F: Fn(&Item, &Item) -> Ordering + Copy, I: Source, O: Sink>(
+    alloc: Global,
+    mode: Mode<F>,
+    input: &mut I,
+    output: &mut O,
+) -> Result<(), Fault>
+    requires reading { I.has_failed input.old → ⊥ }
+    requires writing { O.has_failed output.old → ⊥ }
+    requires callable { IfSorted mode (λ by. F.IsAlwaysCallable by) }
+    requires tens { IfSorted mode (λ by. ComparesTens F.Fn by) }
+    ensures { RunsIn ⟦<Item as Ord>⟧.cmp mode
+        (I.gives input.old input.new) (I.at_end input.new) (I.has_failed input.new)
+        (O.takes output.old output.new) (O.has_failed output.new) result }
+{
+    let mut why = None;
+    run_with_reason(alloc, mode, input, output, &mut why)
+}
+
+/// Runs a script as `run` does, and tells why a line is bad: after `BadLine`, `why` is the reason, and otherwise it is
+/// `None`.
+///
+/// # Errors
+/// It returns the errors of `run`.
+///
+/// # Complexity
+/// That of `run`.
+pub fn run_with_reason<F: Fn(&Item, &Item) -> Ordering + Copy, I: Source, O: Sink>(
     alloc: Global,
     mode: Mode<F>,
     input: &mut I,

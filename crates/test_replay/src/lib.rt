@@ -20,11 +20,15 @@ mod long_replays;
 #[cfg(test)]
 mod prompt_replies;
 #[cfg(test)]
+mod reasons;
+#[cfg(test)]
 mod replays;
 #[cfg(test)]
 mod shares;
 #[cfg(test)]
 mod sorted_replays;
+#[cfg(test)]
+mod spellings;
 #[cfg(test)]
 mod stack_replays;
 #[cfg(test)]

@@ -92,7 +92,7 @@ pub fn outcome(alloc: Global, choice: Choice, script: Script, paper: Paper) -> O
         // it has no scripts
         Choice::Share => return (Err(Fault::Read), output.into_inner().written),
     };
-    let end = run(alloc, mode, &mut input, &mut output, &mut None);
+    let end = run(alloc, mode, &mut input, &mut output);
     (end, output.into_inner().written)
 }
 

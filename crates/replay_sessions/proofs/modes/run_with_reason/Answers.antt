@@ -1,7 +1,7 @@
 use Rattle.cordyceps_tables.specs.Sorteds.{order_of}
 use Rattle.cordyceps_tables.proofs.Ordered.{own}
 use Rattle.replay_sessions.specs.Tens.{by_tens}
-use Rattle.replay_sessions.proofs.modes.run.Goals as goal
+use Rattle.replay_sessions.proofs.modes.run_with_reason.Goals as goal
 
 pub run_session-requires-in-Sorted : goal.run_session-requires-in-Sorted
 run_session-requires-in-Sorted g c =
