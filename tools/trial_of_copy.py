@@ -3,6 +3,7 @@ broken off or whose record was tampered with."""
 
 import hashlib
 import os
+import re
 import shutil
 
 from common import files_in, text_of, write
@@ -10,6 +11,7 @@ from common import files_in, text_of, write
 BASE = "crates/cordyceps_base/src/lib.rt"
 START = "crates/cordyceps_start"
 GONE = "crates/cordyceps_list/src/gone.rt"
+PROGRAMS = ("cordyceps_uses", "cordyceps_shared_uses")
 RECORD = "cordyceps.sums"
 SUM = "0" * 64
 # Records that no copy has left, and what is said of each.
@@ -28,6 +30,30 @@ RECORDS = (
 def names_in(text):
     """The crates that the lines of a crates.txt are of."""
     return [it.split(":")[0].split()[0] for it in text.splitlines()]
+
+
+def kept(crate, program, cells):
+    """The files of a crate, by their paths there, that are kept with a program: for src/, specs/ and proofs/ a cell names
+    them."""
+    for part, cell in zip(("src", "specs", "proofs"), cells):
+        names = {program} | set(re.findall(r"`(\w+)", cell))
+        for file in files_in(f"{crate}/{part}"):
+            path = os.path.relpath(file, crate)
+            if path.split("/")[1].split(".")[0] in names:
+                yield path
+
+
+def faults_of_program(top, program, cells):
+    """What a program names that the table of docs/CALLING.md does not keep with it."""
+    crate = next(it for it in PROGRAMS if os.path.exists(f"{top}/crates/{it}/src/{program}.rt"))
+    paths, found = [*kept(f"{top}/crates/{crate}", program, cells)], set()
+    parts = {re.match(r"\w+/\w+", it)[0] for it in paths if re.match(r"\w+/\w+", it)}
+    for path in paths:
+        text = text_of(f"{top}/crates/{crate}/{path}")
+        found |= {f"src/{it}" for it in re.findall(r"\bcrate::(\w+)::", text)}
+        for part, name, inner in re.findall(rf"Rattle\.{crate}\.(specs|proofs)\.(\w+)(?:\.(\w+))?", text):
+            found.add(f"src/{inner}" if name in ("declared", "contracts") else f"{part}/{name}")
+    return [f"docs/CALLING.md keeps no {it} with {program}" for it in sorted(found - parts)]
 
 
 class Trial:
@@ -104,7 +130,13 @@ class Trial:
 
 
     def programs(self):
-        """A crate of programs is copied when it is asked for, is completed, and is left alone once it was changed."""
+        """A crate of programs is copied when it is asked for, is completed, and is left alone once it was changed. What is
+        said to be kept of such a crate with one program is all that it needs."""
+        table = text_of(f"{self.top}/docs/CALLING.md").partition("### Programs to copy")[2].partition("###")[0]
+        rows = re.findall(r"^`(\w+)` \|(.*)\|(.*)\|(.*)$", table, re.M)
+        self.faults += [it for name, *cells in rows for it in faults_of_program(self.top, name, cells)]
+        if not rows:
+            self.faults.append("docs/CALLING.md has no table of programs")
         disk = "crates/cordyceps_disk"
         self.copied(0, "crates.txt: lines written 1", "disk")
         self.same(f"{disk}/src/lib.rt", f"{disk}/src/laws.rt")
