@@ -1,4 +1,4 @@
-"""What tools/first_run tries of tools/check in a copy of the library: over which libraries it proves, and how it ends."""
+"""What tools/first_run tries of tools/check in a copy of the library: which libraries it builds, and how it ends."""
 
 import os
 import shutil

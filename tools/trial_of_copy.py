@@ -14,14 +14,15 @@ GONE = "crates/cordyceps_list/src/gone.rt"
 PROGRAMS = ("cordyceps_uses", "cordyceps_shared_uses")
 RECORD = "cordyceps.sums"
 SUM = "0" * 64
+NAMES_NO_FILE = "cordyceps.sums there has a line that names no file of a crate: "
 # Records that no copy has left, and what is said of each.
 RECORDS = (
     (b"", "cordyceps.sums there does not begin with the version"),
     (b"\xff\xfe", "cordyceps.sums there is no text in UTF-8"),
     (f"{SUM}  {BASE}\n".encode(), "cordyceps.sums there does not begin with the version"),
-    (b"# cordyceps 0.1.0\n../..\n", "cordyceps.sums there has a line that names no file of a crate: '../..'"),
+    (b"# cordyceps 0.1.0\n../..\n", f"{NAMES_NO_FILE}'../..'"),
     *(
-        (f"# cordyceps 0.1.0\n{{sum}}  {it}\n".encode(), "cordyceps.sums there has a line that names no file of a crate: ")
+        (f"# cordyceps 0.1.0\n{{sum}}  {it}\n".encode(), NAMES_NO_FILE)
         for it in ("../theirs", "{outside}", "crates/../../theirs", "crates/a/../../../theirs", "crates/cordyceps_base")
     ),
 )
@@ -33,8 +34,8 @@ def names_in(text):
 
 
 def kept(crate, program, cells):
-    """The files of a crate, by their paths there, that are kept with a program: for src/, specs/ and proofs/ a cell names
-    them."""
+    """The files of a crate, by their paths there, that are kept with a program: a cell for each of src/, specs/ and
+    proofs/ names them."""
     for part, cell in zip(("src", "specs", "proofs"), cells):
         names = {program} | set(re.findall(r"`(\w+)", cell))
         for file in files_in(f"{crate}/{part}"):
@@ -130,8 +131,8 @@ class Trial:
 
 
     def programs(self):
-        """A crate of programs is copied when it is asked for, is completed, and is left alone once it was changed. What is
-        said to be kept of such a crate with one program is all that it needs."""
+        """A crate of programs is copied when it is asked for, is completed, and is left alone once it was changed. What
+        is said to be kept of such a crate with one program is all that it needs."""
         table = text_of(f"{self.top}/docs/CALLING.md").partition("### Programs to copy")[2].partition("###")[0]
         rows = re.findall(r"^`(\w+)` \|(.*)\|(.*)\|(.*)$", table, re.M)
         self.faults += [it for name, *cells in rows for it in faults_of_program(self.top, name, cells)]
@@ -151,7 +152,7 @@ class Trial:
             self.faults.append(f"{disk} was changed there, and is lost")
 
     def tampered(self):
-        """A record that names what is no file of a crate, and a link that leads out, are refused: nothing is removed."""
+        """A record that names what is no file of a crate, and a link that leads out, are refused: nothing goes."""
         outside = f"{os.path.dirname(self.other)}/theirs"
         write(outside, "Theirs.\n")
         sum = hashlib.sha256(b"Theirs.\n").hexdigest()
