@@ -13,8 +13,13 @@ TOKEN = re.compile(r'"[^"]*"|\w+|=>|->|::|==|!=|<=|>=|&&|\|\||\S')
 STEERS = re.compile(r"=>|==|!=|<=|>=|&&|\|\||[<>!?|;{}]|if|else|match|while|for|in|loop|return|break|continue|move")
 # The word of a goal's name that tells what it asks of a call or of a loop.
 ASKS = re.compile(r"-(requires|init|preserved|smaller)(?:-|$)")
-# The words with which a `search` in an answer says that it stopped at no limit.
-EVERY_WAY = "Every way was tried"
+# What a goal is asked of alone, and the import of what it names.
+SEARCH = "search rules"
+# How the name begins that an answer has beside such a `search`.
+WRITTEN = "written-"
+RULES = "use Rattle.std.proofs.Common.{rules}\n"
+# The words with which a `search` in an answer says that it stopped at no limit, or that what it asked last did not.
+ENDED = re.compile(r"Every way was tried|`grind` found no proof|the goal does not follow")
 # The words of a verdict that names the goals which `search` left open, and those that find fault with what the function
 # calls.
 SEARCHED = "`search` did not prove"
@@ -22,6 +27,7 @@ CALLS = re.compile(r"\bit calls `|\ba call of `.* which has no proof\b")
 # Why a body that is not proved is not refused either.
 LITTLE = "a proof names what the edit took away, and no goal refuses it: change a value, and keep the names"
 SAFETY = "is not judged: only goals of safety are open, which an empty contract would have too: change the result"
+AT_LIMIT = "the right body's answer does not fit, and `search` stopped at a limit: "
 LIMIT = "is not judged: `search` stopped at a limit, so the goal may hold: give it a form in which it does not"
 
 
@@ -162,6 +168,35 @@ def with_answers(text, ways, without):
     return head + "".join([*own, "\n", *more])
 
 
+def asked_alone(text, goal, absent, is_kept):
+    """The text of an Answers.antt with a `search` as the answer to one goal, and with a hole for each of the others, but
+    for those that are absent. If it is kept, the goal's own answer is there too, under another name.
+
+    >>> text = "use a.{arith}\\n\\npub f : goal.f\\nf g c = b\\n\\npub k : goal.k\\nk = b\\n"
+    >>> print(asked_alone(text, "f", set(), True), end="")
+    use Rattle.std.proofs.Common.{rules}
+    use a.{arith}
+    <BLANKLINE>
+    pub k : goal.k
+    k = ?
+    written-f : goal.f
+    written-f g c = b
+    <BLANKLINE>
+    pub f : goal.f
+    f g c = search rules
+    """
+    head, answers = answers_of(text)
+    binders = [it for name, answer in answers.items() for it in re.findall(rf"^{re.escape(name)}((?: \w+)*) =", answer, re.M)]
+    known = re.search(rf"^{re.escape(goal)}((?: \w+)*) =", answers.get(goal, ""), re.M)
+    own = [f"pub {it} : goal.{it}\n{it} = ?\n" for it in answers if it not in absent and it != goal]
+    own += [behind(it, answers[it]) for it in answers if not is_kept or it != goal]
+    if is_kept and goal in answers:
+        own.append(re.sub(rf"^(?:(?:abbrev )?pub )?(?={re.escape(goal)} )", WRITTEN, answers[goal], flags=re.M))
+    given = known[1] if known else max(binders, key=binders.count, default="")
+    own.append(f"pub {goal} : goal.{goal}\n{goal}{given} = {SEARCH}\n")
+    return "".join([RULES if not re.search(r"(?<![\w-])rules(?![\w-])", head) else "", head, *own])
+
+
 def behind(name, answer):
     """What stands behind an answer in its text, up to the next one."""
     ends = re.search(rf"^(?!(?:abbrev |pub )*{re.escape(name)} )[\w+].*", answer, re.M)
@@ -228,15 +263,28 @@ def searched_in(lines, text):
     >>> [len(searched_in([line], f"pub f : goal.f\\nf g c = {it}\\n")) for it in ("search rules", "g (search rules)")]
     [1, 0]
     """
-    found = {it[1]: line for line in lines if EVERY_WAY in line for it in [FAILS.search(line)] if it}
+    found = {it[1]: line for line in lines if has_ended(line) for it in [FAILS.search(line)] if it}
     known = answers_of(text)[1]
     is_search = {it: re.search(rf"^{re.escape(it)} [^=]*= search\b", known.get(it, ""), re.M) for it in found}
     return {goal: line for goal, line in found.items() if is_search[goal]}
 
 
+def has_ended(line):
+    """Whether a `search` in an answer stopped at no limit, or the `grind` that it asked last.
+
+    >>> has_ended("error: `f`: `search`: no proof of `a` was found. It stopped 5 lemmas deep, with lemmas still to try")
+    False
+    >>> has_ended("error: `f`: `search`: no proof of `a` was found. It stopped 5 lemmas deep. .. `grind` found no proof.")
+    True
+    >>> has_ended("error: `f`: `search`: no proof of `a` was found. .. `grind` stopped at its own limit of ..")
+    False
+    """
+    return bool(ENDED.search(line)) and "stopped at its own limit" not in line
+
+
 def is_at_limit(line):
     """Whether a line with an open goal says that `search` stopped before it had tried all that it could."""
-    return "gave up at one of its limits" in line
+    return not has_ended(line) if FAILS.search(line) else "gave up at one of its limits" in line
 
 
 def open_in(lines):
@@ -315,18 +363,25 @@ class Suspect:
     A goal refuses the body if it is about the result, `search` did not prove it and stopped at no limit, and either the
     right body has it too, or none of the right body's answers holds under its name."""
 
-    def __init__(self, folder, text, keeps, calls):
+    def __init__(self, folder, text, keeps, calls, named=None):
         # The folder of the function's proof, the text of its answers, whether the edit leaves the paths as they are, and
         # the functions that it calls in place of others, as pairs.
         self.folder, self.text, self.keeps, self.calls = folder, text, keeps, calls
         # The answers that are taken away, the ways that were found to hold, the goals at which none did, the one goal that
         # is looked at, with the ways to answer it that are left, and how many checks were asked for.
         self.gone, self.held, self.tried, self.goal, self.ways, self.tries = set(), [], set(), None, [], 0
+        # The answers of these whose goals are not there, the goals that `search` is still asked for alone, and whether it
+        # left one of those open.
+        self.absent, self.asked, self.searched, self.has_open = set(), [named] if named else [], set(), False
+        # The goals whose answers do not fit.
+        self.misfits = set()
+        # Whether the goal is asked for that the edit names, and whether the answers have other functions' names.
+        self.is_named, self.is_renamed = bool(named), False
         # The goals that are open, each with the line that says so, and the paths of the right body's, once these are
         # known.
         self.open, self.right = {}, None
-        # The line that shows that the body is refused, once there is one.
-        self.refused = None
+        # The line that shows that the body is refused, once there is one, and the goal of it that was asked for alone.
+        self.refused, self.by = None, None
 
     def is_of_right(self, goal):
         """Whether one of the goals is known to be one of the right body's."""
@@ -339,17 +394,49 @@ class Suspect:
         refuses the body, or nothing is left to try."""
         if self.goal and not self.has_way(lines):
             return self.goes_on()
+        if self.is_named:
+            return self.has_named(lines)
+        if self.asked:
+            return self.has_searched(lines)
         self.open = {**open_in(lines), **searched_in(lines, self.text)}
         if self.refuses():
             return False
         fail, gone = failing_in(lines, self.text)
         new = (fail | gone) - self.gone
         if new and self.calls:
-            self.text, self.calls = with_calls(self.text, self.calls), ()
+            self.text, self.calls, self.is_renamed = with_calls(self.text, self.calls), (), True
             return self.asks()
-        self.gone |= new
+        self.gone, self.absent, self.misfits = self.gone | new, self.absent | gone, self.misfits | fail
+        at_limit = {it for it, line in self.open.items() if is_at_limit(line) and it not in self.searched}
+        asked = {it for it in new & fail | at_limit if is_of_contract(it)}
+        self.asked = sorted(asked, key=lambda it: (kind_of(it)[0] != "returns", it))
         # (to take answers away whose goals are not there opens no goal, so the next way can be tried in the same check)
-        return self.asks() if new & fail or new and not self.open else self.chooses()
+        return self.asks() if self.asked or new & fail or new and not self.open else self.chooses()
+
+    def has_named(self, lines):
+        """Takes what a check said of the goal that the edit names: neither `search` nor the right body's answer may have
+        proved it. Otherwise all is looked at, as if the edit named none."""
+        goal, self.asked, self.is_named = self.asked[0], [], False
+        names = {it[1] for it in map(FAILS.search, lines) if it}
+        is_answered = goal in answers_of(self.text)[1]
+        self.misfits = {goal} if WRITTEN + goal in names else set()
+        if self.misfits or not is_answered:
+            self.open = {goal: it for it in lines if goal in named_in(it)}
+        self.searched = set(self.open)
+        return not self.refuses() and not self.refuses_at_limit() and self.asks()
+
+    def has_searched(self, lines):
+        """Takes what a check said of the goal that `search` was asked for alone, and goes on with the next one. If all of
+        them hold, all is checked without their answers."""
+        goal, *self.asked = self.asked
+        self.searched.add(goal)
+        about = [it for it in lines if goal in named_in(it)]
+        self.open.pop(goal, None)
+        if about:
+            self.open[goal], self.has_open = about[0], True
+        if self.refuses():
+            return False
+        return self.asks() if self.asked or not self.has_open else self.chooses()
 
     def has_way(self, lines):
         """Whether the way that was tried holds, as a check said."""
@@ -378,7 +465,9 @@ class Suspect:
         order = sorted((it for it in left if left[it]), key=lambda it: (not self.counts(it), len(left[it])))
         if order:
             self.goal, self.ways = order[0], left[order[0]]
-        return bool(order) and self.asks()
+            return self.asks()
+        self.refuses_at_limit()
+        return False
 
     def asks(self):
         """Asks for another check."""
@@ -399,9 +488,16 @@ class Suspect:
         for goal, line in self.open.items():
             is_known = goal in self.tried or self.is_of_right(goal) or not self.ways_to(goal)
             if self.counts(goal) and is_known:
-                self.refused = line
+                self.refused, self.by = line, goal if goal in self.searched else None
                 return True
         return False
+
+    def refuses_at_limit(self):
+        """Whether `search` stopped at a limit at a goal to which the right body's answer does not fit either."""
+        found = [it for it in self.open if is_of_contract(it) and it in self.misfits and is_at_limit(self.open[it])]
+        for goal in found[:1]:
+            self.refused, self.by = AT_LIMIT + self.open[goal], goal if goal in self.searched else None
+        return bool(found)
 
     def waits(self):
         """Whether it has to be known which goals the right body has before the next way is tried."""
@@ -409,6 +505,8 @@ class Suspect:
 
     def answers(self):
         """The text of the answers with the next way, or None where none is left."""
+        if self.asked:
+            return asked_alone(self.text, self.asked[0], self.absent, self.is_named)
         ways = [*self.held, *self.ways[:1]]
         is_left = ways or not self.gone >= answers_of(self.text)[1].keys()
         return with_answers(self.text, ways, self.gone) if is_left else None
