@@ -18,8 +18,9 @@ SEARCH = "search rules"
 # How the name begins that an answer has beside such a `search`.
 WRITTEN = "written-"
 RULES = "use Rattle.std.proofs.Common.{rules}\n"
-# The words with which a `search` in an answer says that it stopped at no limit, or that what it asked last did not.
-ENDED = re.compile(r"Every way was tried|`grind` found no proof|the goal does not follow")
+# The words with which a `search` in an answer says that it tried all that it could, or that what it asked last did.
+EVERY_WAY = "Every way was tried"
+ENDED = re.compile(r"`grind` found no proof|the goal does not follow")
 # The words of a verdict that names the goals which `search` left open, and those that find fault with what the function
 # calls.
 SEARCHED = "`search` did not prove"
@@ -27,7 +28,6 @@ CALLS = re.compile(r"\bit calls `|\ba call of `.* which has no proof\b")
 # Why a body that is not proved is not refused either.
 LITTLE = "a proof names what the edit took away, and no goal refuses it: change a value, and keep the names"
 SAFETY = "is not judged: only goals of safety are open, which an empty contract would have too: change the result"
-AT_LIMIT = "the right body's answer does not fit, and `search` stopped at a limit: "
 LIMIT = "is not judged: `search` stopped at a limit, so the goal may hold: give it a form in which it does not"
 
 
@@ -186,14 +186,13 @@ def asked_alone(text, goal, absent, is_kept):
     f g c = search rules
     """
     head, answers = answers_of(text)
-    binders = [it for name, answer in answers.items() for it in re.findall(rf"^{re.escape(name)}((?: \w+)*) =", answer, re.M)]
-    known = re.search(rf"^{re.escape(goal)}((?: \w+)*) =", answers.get(goal, ""), re.M)
+    binders = {it: re.search(rf"^{re.escape(it)}((?: \w+)*) =", answer, re.M) for it, answer in answers.items()}
+    known = [it[1] for it in (binders.get(goal), *binders.values()) if it]
     own = [f"pub {it} : goal.{it}\n{it} = ?\n" for it in answers if it not in absent and it != goal]
     own += [behind(it, answers[it]) for it in answers if not is_kept or it != goal]
     if is_kept and goal in answers:
         own.append(re.sub(rf"^(?:(?:abbrev )?pub )?(?={re.escape(goal)} )", WRITTEN, answers[goal], flags=re.M))
-    given = known[1] if known else max(binders, key=binders.count, default="")
-    own.append(f"pub {goal} : goal.{goal}\n{goal}{given} = {SEARCH}\n")
+    own.append(f"pub {goal} : goal.{goal}\n{goal}{known[0] if known else ''} = {SEARCH}\n")
     return "".join([RULES if not re.search(r"(?<![\w-])rules(?![\w-])", head) else "", head, *own])
 
 
@@ -270,16 +269,18 @@ def searched_in(lines, text):
 
 
 def has_ended(line):
-    """Whether a `search` in an answer stopped at no limit, or the `grind` that it asked last.
+    """Whether a `search` in an answer tried all that it could, or else what it asked last did.
 
     >>> has_ended("error: `f`: `search`: no proof of `a` was found. It stopped 5 lemmas deep, with lemmas still to try")
     False
     >>> has_ended("error: `f`: `search`: no proof of `a` was found. It stopped 5 lemmas deep. .. `grind` found no proof.")
     True
-    >>> has_ended("error: `f`: `search`: no proof of `a` was found. .. `grind` stopped at its own limit of ..")
+    >>> has_ended("error: `f`: `search`: no proof of `a` was found. It stopped 5 lemmas deep. .. stopped at its own limit")
     False
+    >>> has_ended("error: `f`: `search`: no proof of `a` was found. Every way was tried. .. stopped at its own limit")
+    True
     """
-    return bool(ENDED.search(line)) and "stopped at its own limit" not in line
+    return EVERY_WAY in line or bool(ENDED.search(line)) and "stopped at its own limit" not in line
 
 
 def is_at_limit(line):
@@ -373,8 +374,6 @@ class Suspect:
         # The answers of these whose goals are not there, the goals that `search` is still asked for alone, and whether it
         # left one of those open.
         self.absent, self.asked, self.searched, self.has_open = set(), [named] if named else [], set(), False
-        # The goals whose answers do not fit.
-        self.misfits = set()
         # Whether the goal is asked for that the edit names, and whether the answers have other functions' names.
         self.is_named, self.is_renamed = bool(named), False
         # The goals that are open, each with the line that says so, and the paths of the right body's, once these are
@@ -406,8 +405,8 @@ class Suspect:
         if new and self.calls:
             self.text, self.calls, self.is_renamed = with_calls(self.text, self.calls), (), True
             return self.asks()
-        self.gone, self.absent, self.misfits = self.gone | new, self.absent | gone, self.misfits | fail
-        at_limit = {it for it, line in self.open.items() if is_at_limit(line) and it not in self.searched}
+        self.gone, self.absent = self.gone | new, self.absent | gone
+        at_limit = {it for it, line in self.open.items() if is_at_limit(line)} - self.searched if self.text else set()
         asked = {it for it in new & fail | at_limit if is_of_contract(it)}
         self.asked = sorted(asked, key=lambda it: (kind_of(it)[0] != "returns", it))
         # (to take answers away whose goals are not there opens no goal, so the next way can be tried in the same check)
@@ -418,12 +417,10 @@ class Suspect:
         proved it. Otherwise all is looked at, as if the edit named none."""
         goal, self.asked, self.is_named = self.asked[0], [], False
         names = {it[1] for it in map(FAILS.search, lines) if it}
-        is_answered = goal in answers_of(self.text)[1]
-        self.misfits = {goal} if WRITTEN + goal in names else set()
-        if self.misfits or not is_answered:
+        if WRITTEN + goal in names or goal not in answers_of(self.text)[1]:
             self.open = {goal: it for it in lines if goal in named_in(it)}
         self.searched = set(self.open)
-        return not self.refuses() and not self.refuses_at_limit() and self.asks()
+        return not self.refuses() and self.asks()
 
     def has_searched(self, lines):
         """Takes what a check said of the goal that `search` was asked for alone, and goes on with the next one. If all of
@@ -465,9 +462,7 @@ class Suspect:
         order = sorted((it for it in left if left[it]), key=lambda it: (not self.counts(it), len(left[it])))
         if order:
             self.goal, self.ways = order[0], left[order[0]]
-            return self.asks()
-        self.refuses_at_limit()
-        return False
+        return bool(order) and self.asks()
 
     def asks(self):
         """Asks for another check."""
@@ -491,13 +486,6 @@ class Suspect:
                 self.refused, self.by = line, goal if goal in self.searched else None
                 return True
         return False
-
-    def refuses_at_limit(self):
-        """Whether `search` stopped at a limit at a goal to which the right body's answer does not fit either."""
-        found = [it for it in self.open if is_of_contract(it) and it in self.misfits and is_at_limit(self.open[it])]
-        for goal in found[:1]:
-            self.refused, self.by = AT_LIMIT + self.open[goal], goal if goal in self.searched else None
-        return bool(found)
 
     def waits(self):
         """Whether it has to be known which goals the right body has before the next way is tried."""
