@@ -4,7 +4,7 @@ use Rattle.cordyceps_shared.proofs.NameHalves.{halves_earlier, halves_pair, half
 use Rattle.cordyceps_shared.proofs.PartyNames.{prefix_longer, joined_some, keeps_some, gives_some}
 use Rattle.cordyceps_shared.specs.Shares.{Name, is_prefix, earlier, insert_name, insert_names, is_pair, parent, combine_first, combine, join_shares, whole, keeps_half, gives_half, IsBefore, Clear, NamesDisjoint, InOrder, NoPair, IsShare}
 
-no_longer : {A : Type 0} → true ≡ false → A
+pub no_longer : {A : Type 0} → true ≡ false → A
 no_longer e = absurd (true≢false e)
 
 -- ---- a longer name

@@ -1,13 +1,13 @@
 -- What a party that unpacks the word of a pool has of its rooms.
-use Rattle.std.proofs.Common.{◌≡◌, ◌≢◌, ◌<◌, ◌≤◌, ℕ, suc, ◌+◌, ◌-◌, ◌*◌, List, [], ◌∷◌, ◌++◌, length, take, refl, sym, ◌∙◌, subst, ⊎_elim, arith}
+use Rattle.std.proofs.Common.{◌≡◌, ◌≢◌, ◌<◌, ◌≤◌, ℕ, suc, ◌+◌, ◌-◌, ◌*◌, List, [], ◌∷◌, ◌++◌, length, take, drop, refl, sym, ◌∙◌, subst, ⊎_elim, arith}
 use Rattle.cordyceps_base.specs.declared.shared.TheConstants.{MAX_ROOMS}
-use Rattle.cordyceps_shared.specs.FreeChains.{FreeChain, Tracks, first_rooms}
+use Rattle.cordyceps_shared.specs.FreeChains.{FreeChain, Tracks, first_rooms, rest_rooms}
 use Rattle.cordyceps_shared.specs.Places.{ItemAt}
 use Rattle.cordyceps_shared.specs.Pools.{packed, Fits, Packs, LeadsTo}
 use Rattle.cordyceps_shared.specs.Slots.{Near}
 use Rattle.cordyceps_shared.specs.declared.free.FreeRooms.{FreeRooms}
-use Rattle.cordyceps_shared.proofs.Places.{near_take}
-use Rattle.cordyceps_shared.proofs.TrackRooms.{first_room, last_room, tracks_giving}
+use Rattle.cordyceps_shared.proofs.Places.{near_take, near_drop}
+use Rattle.cordyceps_shared.proofs.TrackRooms.{first_room, last_room, tracks_giving, tracks_keeping}
 
 -- a word packs one first room, one last one, and one number
 parts_same : (a b c x y z : ℕ) → a < 2097152 → b < 2097152 → x < 2097152 → y < 2097152 → a + 2097152 * b + 4398046511104 * c ≡ x + 2097152 * y + 4398046511104 * z → (a ≡ x) × (b ≡ y) × (c ≡ z)
@@ -54,5 +54,29 @@ packs_given n last word free chain is fits t low some_of last_is = record {
   is = is;
   fits = fits;
   tracks = tracks_giving free chain n last t low last_is;
+  some_of = omega arith;
+}
+
+-- ---- the word of the rooms after the first n
+-- it leads to rooms of the table
+pub fits_left : (slots n first : ℕ) (free : FreeRooms) (chain : FreeChain) → Near slots chain.rooms → slots ≤ suc MAX_ROOMS → length chain.rooms ≤ slots → Tracks free chain → n < free.count
+    → ((r : ℕ) (rs : List ℕ) → drop n chain.rooms ≡ r ∷ rs → first ≡ suc r) → Fits record { first = first; last = free.last; count = free.count - n }
+fits_left slots n first free chain near_all many few t low is =
+    let rooms : FreeRooms = record { first = first; last = free.last; count = free.count - n } in
+    let left = tracks_keeping free chain n first t is in
+    let near = near_drop slots n chain.rooms near_all in
+    let end = last_room slots rooms (rest_rooms n chain) left (omega arith) near in
+    let start = first_room rooms (rest_rooms n chain) left (omega arith) in
+    let inside = near 0 (first - 1) (subst (λ l. ItemAt l 0 (first - 1)) (sym start.1) refl) in
+    let count = t.count in
+    record { first = (let s = start.2 in omega arith); last = (let e = end.2 in omega arith); count = omega arith }
+
+pub packs_left : (n first word : ℕ) (free : FreeRooms) (chain : FreeChain) → word ≡ packed record { first = first; last = free.last; count = free.count - n } → Fits record { first = first; last = free.last; count = free.count - n }
+    → Tracks free chain → n < free.count → ((r : ℕ) (rs : List ℕ) → drop n chain.rooms ≡ r ∷ rs → first ≡ suc r) → Packs word (rest_rooms n chain)
+packs_left n first word free chain is fits t low first_is = record {
+  rooms = record { first = first; last = free.last; count = free.count - n };
+  is = is;
+  fits = fits;
+  tracks = tracks_keeping free chain n first t first_is;
   some_of = omega arith;
 }

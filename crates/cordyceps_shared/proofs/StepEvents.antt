@@ -216,6 +216,18 @@ module _ {X V : Type 0} (actor : X → Name) (knows : V → Known X) where
       }
 
 module _ {X : Type 0} (actor : X → Name) (Legal : List X → Type 0) where
+  -- no step, by a party that has taken one
+  pub grown_none : (u w : Known X) (xs : List X) → Grown actor Legal u xs w → Grown actor Legal w [] w
+  grown_none u w xs a = record {
+    rest = [];
+    is = sym (append-nil w.seen);
+    adds = refl;
+    foreign = tt;
+    legal = a.legal;
+    share = refl;
+    alone = a.alone;
+  }
+
   -- two steps
   pub grown_then : (u v w : Known X) (xs ys : List X) → Grown actor Legal u xs v → Grown actor Legal v ys w → Grown actor Legal u (xs ++ ys) w
   grown_then u v w xs ys a b = record {

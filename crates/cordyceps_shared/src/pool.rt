@@ -4,6 +4,9 @@ ghost use Rattle.cordyceps_shared.specs.Pools.{packed, Fits};
 
 use crate::free::FreeRooms;
 
+/// How many rooms a call that puts an element in takes from the pool at most, if its party has none.
+pub const QUANTUM: usize = 64;
+
 /// The number of values of each of the first two parts of the word, which has three: the first room, the last one, and
 /// the number of the rooms.
 const PART: u64 = 1 << 21;

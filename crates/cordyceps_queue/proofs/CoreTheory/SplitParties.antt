@@ -46,6 +46,14 @@ module _ (owner : ℕ → Owner) (k : ℕ) (free : List ℕ) (R : OwnsRooms owne
         omega arith;
   }
 
+  pub deal_first : (to : Owner) → OwnsRooms (deal to (drop n free) owner) k (take n free)
+  deal_first to = record {
+    own = λ i r a.
+        let u = at_take n free i r a in
+        deal_else to (drop n free) owner r (λ x b. let (at, here, far) = at_drop n free x r b in let near = u.1 in let same = R.once i at r u.0 here in absurd (omega arith)) ∙ R.own i r u.0;
+    once = λ i b r x y. R.once i b r (at_take n free i r x).0 (at_take n free b r y).0;
+  }
+
   pub deal_given : (j : ℕ) → OwnsRooms (deal (Spare j) (take n free) owner) j (take n free)
   deal_given j = record {
     own = λ i r a. deal_here (Spare j) (take n free) owner i r a;

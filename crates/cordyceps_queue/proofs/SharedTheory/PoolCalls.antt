@@ -1,5 +1,5 @@
 -- What the calls on the pool of a shared queue promise, from what their parts leave.
-use Rattle.std.proofs.Common.{◌≡◌, ℕ, ◌+◌, ◌-◌, List, [], ◌∷◌, ◌++◌, length, drop, Bool, true, false, refl, sym, ap, ◌∙◌, subst, arith, append-nil, length-append, length-drop}
+use Rattle.std.proofs.Common.{◌≡◌, ℕ, suc, ◌+◌, ◌-◌, List, [], ◌∷◌, ◌++◌, length, drop, Bool, true, false, refl, sym, ap, ◌∙◌, subst, arith, append-nil, length-append, length-drop}
 use Rattle.atomic_table.specs.Seated.{TableId}
 use Rattle.cordyceps_shared.specs.FreeChains.{end_after}
 use Rattle.cordyceps_shared.specs.Histories.{plain}
@@ -13,8 +13,8 @@ use Rattle.cordyceps_queue.specs.declared.shared.spare.Spare.{Spare}
 use Rattle.cordyceps_queue.specs.declared.shared.uses.RoomUse.{RoomUse}
 use Rattle.cordyceps_queue.specs.History.{held, Swap, Link, actor}
 use Rattle.cordyceps_queue.specs.Shared.Calls as call
-use Rattle.cordyceps_queue.specs.Shared.Parts.{standing, IsSeated, IsConsuming, TracksEnd, Refills, GivesBack}
-use Rattle.cordyceps_queue.specs.Shared.Plays.{SeatState, LacksRooms, IsResting, Holds}
+use Rattle.cordyceps_queue.specs.Shared.Parts.{standing, IsSeated, IsConsuming, TracksEnd, GivesBack}
+use Rattle.cordyceps_queue.specs.Shared.Plays.{SeatState, Sees, LacksRooms, IsResting, Holds}
 use Rattle.cordyceps_queue.specs.Shared.Uses.{HasUse}
 use Rattle.cordyceps_queue.specs.Shared.View.{View, free_chain, view_returned, bit_of}
 use Rattle.cordyceps_queue.proofs.SharedTheory.CallsHold.{adds, seated_after}
@@ -23,23 +23,22 @@ use Rattle.cordyceps_queue.proofs.SharedTheory.RightHolds.{swapped}
 
 module _ {E : Type 0} where
   -- ---- a refill
-  pub refill_seated : (z z' t : TableId) (n : ℕ) (m k : SeatState E) (spare left : Spare) → IsSeated z m spare → z' ≡ z → z ≡ t → Refills t.slots n m k → TracksEnd left (free_chain k.0) → IsSeated z' k left
-  refill_seated z z' t n m k spare left s at there r tracks = seated_after z z' t m k spare left [] s at there r.rests tracks r.sees (λ q. (refl, refl))
+  pub refill_seated : (z z' t : TableId) (m k : SeatState E) (spare left : Spare) → IsSeated z m spare → z' ≡ z → z ≡ t → IsResting t.slots k → Sees m.0 [] k.0 → TracksEnd left (free_chain k.0) → IsSeated z' k left
+  refill_seated z z' t m k spare left s at there rests sees tracks = seated_after z z' t m k spare left [] s at there rests tracks sees (λ q. (refl, refl))
 
   rooms_at_rest : (slots : ℕ) (m : SeatState E) → IsResting slots m → length (m.0.back ++ m.0.free) ≡ length m.0.free
   rooms_at_rest slots m q = ap (λ (l : List ℕ). length (l ++ m.0.free)) q.back
 
-  pub refills : (z z' : TableId) (slots slots_then n : ℕ) (m k : SeatState E) → IsResting slots_then m → z' ≡ z → Refills slots n m k → call.Refills n (standing z m.0) (standing z' k.0)
-  refills z z' slots slots_then n m k q at r = (
-    adds z z' m.0 k.0 [] r.sees at,
-    rooms_at_rest slots k r.rests ∙ (r.free ∙ ap (λ x. x + n) (sym (rooms_at_rest slots_then m q))),
+  pub refills : (z z' : TableId) (slots slots_then n : ℕ) (m k : SeatState E) → IsResting slots_then m → z' ≡ z → IsResting slots k → length k.0.free ≡ length m.0.free + n → Sees m.0 [] k.0 → call.Refills n (standing z m.0) (standing z' k.0)
+  refills z z' slots slots_then n m k q at rests free sees = (
+    adds z z' m.0 k.0 [] sees at,
+    rooms_at_rest slots k rests ∙ (free ∙ ap (λ x. x + n) (sym (rooms_at_rest slots_then m q))),
   )
 
-  pub has_all : (z z' t : TableId) (n : ℕ) (m k : SeatState E) → z' ≡ z → z ≡ t → Refills t.slots n m k → m.0.known.share ≡ whole → call.HasAllRooms (standing z' k.0)
-  has_all z z' t n m k at there r is =
-      let all = r.all is in
+  pub has_all : (z z' t : TableId) (k : SeatState E) → z' ≡ z → z ≡ t → IsResting t.slots k → suc (length (held (plain k.0.known.seen)) + length k.0.free) ≡ t.slots → call.HasAllRooms (standing z' k.0)
+  has_all z z' t k at there rests all =
       let slots = ap (λ (q : TableId). q.slots) (at ∙ there) in
-      let rooms = rooms_at_rest t.slots k r.rests in omega arith
+      let rooms = rooms_at_rest t.slots k rests in omega arith
 
   -- ---- putting an element in, after a refill
   pub enqueues_now : (e : E) (u w : call.PartyOf E) → call.Enqueues e u w → call.EnqueuesRefilled e u w

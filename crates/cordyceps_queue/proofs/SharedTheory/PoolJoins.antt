@@ -1,21 +1,24 @@
 -- What the parts of a refill come to together, and of giving rooms back to the pool.
-use Rattle.std.proofs.Common.{◌≡◌, ◌≢◌, ℕ, ◌+◌, ◌-◌, ◌≤◌, ◌<◌, List, [], ◌∷◌, ◌++◌, length, refl, sym, ap, ◌∙◌, subst, inl, inr, ⊎_elim, arith, length-append}
+use Rattle.std.proofs.Common.{◌≡◌, ◌≢◌, ℕ, ◌+◌, ◌-◌, ◌≤◌, ◌<◌, List, [], ◌∷◌, ◌++◌, length, Bool, true, false, refl, sym, ap, ◌∙◌, subst, inl, inr, ⊎_elim, arith, length-append}
+use Rattle.std.proofs.lemmas.List.{length-take-le}
 use Rattle.cordyceps_shared.specs.FreeChains.{FreeChain, Tracks, IsTied, MayJoin, leads}
 use Rattle.cordyceps_shared.specs.Histories.{plain}
 use Rattle.cordyceps_shared.specs.Knowing.{Known, Grown}
 use Rattle.cordyceps_shared.specs.Places.{ItemAt}
 use Rattle.cordyceps_shared.specs.Pools.{packed, Fits}
-use Rattle.cordyceps_shared.specs.Shares.{Name}
+use Rattle.cordyceps_shared.specs.Shares.{Name, whole}
 use Rattle.cordyceps_shared.specs.Slots.{Near}
 use Rattle.cordyceps_shared.specs.declared.free.FreeRooms.{FreeRooms}
-use Rattle.cordyceps_shared.proofs.Places.{near_append}
+use Rattle.cordyceps_shared.proofs.Places.{near_append, near_take}
+use Rattle.cordyceps_shared.proofs.Ordering.{no_longer}
 use Rattle.cordyceps_shared.proofs.Pools.{unpacked, some_in_pool}
+use Rattle.cordyceps_shared.proofs.StepEvents.{grown_then}
 use Rattle.cordyceps_shared.proofs.TrackRooms.{first_room, last_room}
 use Rattle.cordyceps_queue.specs.declared.cores.stage.Stage.TheVariants.{Rest}
 use Rattle.cordyceps_queue.specs.declared.shared.spare.Spare.{Spare}
 use Rattle.cordyceps_queue.specs.History.{Event, held, actor}
-use Rattle.cordyceps_queue.specs.Shared.Parts.{TracksEnd, MayReturn, Relinked, Refills}
-use Rattle.cordyceps_queue.specs.Shared.Plays.{SeatState, LegalReversed, IsResting, FindsPool, carry}
+use Rattle.cordyceps_queue.specs.Shared.Parts.{TracksEnd, MayReturn, Relinked, Refills, GivesRest, RefillsTo, RefillsAtMost}
+use Rattle.cordyceps_queue.specs.Shared.Plays.{SeatState, LegalReversed, IsResting, Sees, FindsPool, LacksRooms, carry}
 use Rattle.cordyceps_queue.specs.Shared.View.{View, free_chain, back_chain, view_returned, cleared_count}
 use Rattle.cordyceps_queue.proofs.SharedTheory.SpareRooms.{tracks_joined}
 use Rattle.cordyceps_queue.proofs.SharedTheory.WordsAsMachine.{at_after}
@@ -98,6 +101,11 @@ module _ {E : Type 0} where
           near = subst (Near slots) (sym free) (near_append slots m.0.free l.0.back q.near f.near);
         };
         free = omega arith;
+        few =
+            let few = d.few in
+            let cut = length-append p.0.free p.0.back in
+            let mine = ap (λ (c : FreeChain). length c.rooms) d.free in
+            let theirs = ap (λ (z : List ℕ). length z) f.back in omega arith;
         sees = subst (λ (z : Known (Event Name E)). Grown actor LegalReversed m.0.known [] z) (sym known) d.sees;
         all = λ is_whole.
             let all = d.all is_whole in
@@ -113,3 +121,58 @@ module _ {E : Type 0} where
       let other : Spare = record { rooms = taken; end = end } in
       subst (λ (c : FreeChain). TracksEnd record { rooms = record { first = spare.first; last = taken.last; count = spare.count + taken.count }; end = end } c) (sym (ap (λ (z : SeatState E). free_chain z.0) g))
       (tracks_joined spare other (free_chain l.0) (back_chain l.0) tracks record { tracks = f.tracks; end = λ _. is } f.some_of first)
+
+  -- ---- what is above some rooms goes back
+  pub refilled_to : (slots had most n : ℕ) (b : Bool) (m p k : SeatState E) → Refills slots n m p → had ≤ length m.0.free → had + most < length p.0.free → GivesRest (had + most) b p k → (b ≡ false → LacksRooms slots p) → RefillsTo slots had most b m k
+  refilled_to slots had most n true m p k r low above g lacks =
+      let kept = length-take-le (had + most) p.0.free (omega arith) in
+      let free = ap (λ (q : SeatState E). length q.0.free) g in record {
+        rests = subst (IsResting slots) (sym g) record {
+          stage = r.rests.stage;
+          back = r.rests.back;
+          hand = r.rests.hand;
+          named = r.rests.named;
+          near = near_take slots (had + most) p.0.free r.rests.near;
+        };
+        sees = subst (λ (q : SeatState E). Sees m.0 [] q.0) (sym g) r.sees;
+        more = omega arith;
+        few = λ _. omega arith;
+        sure = λ _. refl;
+        all = λ _ less. absurd (omega arith);
+      }
+  refilled_to slots had most n false m p k r low above g lacks =
+      let free = ap (λ (q : SeatState E). length q.0.free) g in
+      let full : m.0.known.share ≡ whole → ⊥ = λ is.
+          let all = r.all is in
+          let less = lacks refl (r.sees.share ∙ is) in
+          let none = ap (λ (l : List ℕ). length l) r.rests.back in
+          let quiet = ap cleared_count r.rests.stage in omega arith
+      in record {
+        rests = subst (IsResting slots) (sym g) r.rests;
+        sees = subst (λ (q : SeatState E). Sees m.0 [] q.0) (sym g) r.sees;
+        more = omega arith;
+        few = λ e. no_longer (sym e);
+        sure = λ is. absurd (full is);
+        all = λ is _. absurd (full is);
+      }
+
+  -- a party that had so many rooms and has so many now: it refilled once, or again since it could not give rooms back
+  pub refilled_once : (slots most had now : ℕ) (b : Bool) (m k : SeatState E) → had ≡ length m.0.free → now ≡ length k.0.free → RefillsTo slots had most b m k → b ≡ true → RefillsAtMost slots most (now - had) m k
+  refilled_once slots most had now b m k before after r done =
+      let more = r.more in
+      let few = r.few done in record {
+        rests = r.rests;
+        free = omega arith;
+        sees = r.sees;
+        few = λ _. omega arith;
+        all = λ is less. r.all is (omega arith);
+      }
+
+  pub refilled_again : (slots most had now : ℕ) (b : Bool) (m p k : SeatState E) → had ≡ length m.0.free → now ≡ length k.0.free → RefillsTo slots had most b m p → b ≡ false → IsResting slots k → Sees p.0 [] k.0 → had ≤ length k.0.free → RefillsAtMost slots most (now - had) m k
+  refilled_again slots most had now b m p k before after r failed rests sees more = record {
+    rests = rests;
+    free = omega arith;
+    sees = grown_then actor LegalReversed m.0.known p.0.known k.0.known [] [] r.sees sees;
+    few = λ is. no_longer (sym (r.sure is) ∙ failed);
+    all = λ is _. no_longer (sym (r.sure is) ∙ failed);
+  }

@@ -9,7 +9,7 @@ use prog.Atomic.{either}
 use Rattle.atomic_table.specs.Table.{Act, keeps, takes, step, stepped, homes_after, carried_after, Valid, Allows}
 use Rattle.atomic_table.specs.Table as table
 use Rattle.atomic_table.proofs.Lists.{set_here, set_else}
-use Rattle.cordyceps_shared.specs.FreeChains.{FreeChain, Links, MayJoin, first_rooms}
+use Rattle.cordyceps_shared.specs.FreeChains.{FreeChain, Links, MayJoin, leads, first_rooms, rest_rooms}
 use Rattle.cordyceps_shared.specs.Histories.{events, plain}
 use Rattle.cordyceps_shared.specs.Knowing.{Known, SharesDisjoint, AllAgree, all_seen}
 use Rattle.cordyceps_shared.specs.Places.{ItemAt}
@@ -31,16 +31,16 @@ use Rattle.cordyceps_queue.specs.Cores.Abstract.{AbstractParty, update}
 use Rattle.cordyceps_queue.specs.Cores.Meets.{Owner, Spare, Pooled, OwnsRooms, Meets, real}
 use Rattle.cordyceps_queue.specs.declared.cores.stage.Stage.TheVariants.{Rest, Cleared}
 use Rattle.cordyceps_queue.specs.Shared.Bits.{IsRight, SpellsFree, KeepsUse, SpellsWords}
-use Rattle.cordyceps_queue.specs.Shared.Plays.{SeatState, LegalReversed, Sees, carry}
+use Rattle.cordyceps_queue.specs.Shared.Plays.{SeatState, LegalReversed, LacksRooms, Sees, carry}
 use Rattle.cordyceps_queue.specs.Shared.Uses as play
 use Rattle.cordyceps_queue.specs.Shared.Rule.{TableState, party, machine_of, IsPool, PlainHolds, RuleHolds}
-use Rattle.cordyceps_queue.specs.Shared.View.{View, knows, bit_of, free_chain, back_chain, view_returned, room_count}
+use Rattle.cordyceps_queue.specs.Shared.View.{View, knows, bit_of, free_chain, back_chain, view_returned, with_first_rooms, room_count}
 use Rattle.cordyceps_queue.proofs.Legality.{held_of}
 use Rattle.cordyceps_queue.proofs.CoreTheory.Basics.{at_more}
 use Rattle.cordyceps_queue.proofs.CoreTheory.ChainGrows.{held_length}
 use Rattle.cordyceps_queue.proofs.CoreTheory.ProducerSteps.{spare_pooled, shared_pooled}
 use Rattle.cordyceps_queue.proofs.CoreTheory.SpareMoves.{MovesRooms, moves_keep}
-use Rattle.cordyceps_queue.proofs.CoreTheory.SplitParties.{deal_behind, deal, deal_else, deal_here, deal_fixed, deal_others, deal_kept}
+use Rattle.cordyceps_queue.proofs.CoreTheory.SplitParties.{deal_behind, deal, deal_else, deal_here, deal_fixed, deal_others, deal_kept, deal_first}
 use Rattle.cordyceps_queue.proofs.SharedTheory.EnqueueKeeps.{views_put}
 use Rattle.cordyceps_queue.proofs.SharedTheory.ReturnKeeps.{homes_given, give_all, give_homes, give_carried, give_valid, settles}
 use Rattle.cordyceps_queue.proofs.SharedTheory.SpareKeeps.{skip_kept}
@@ -400,6 +400,55 @@ module _ {E : Type 0} where
       pool_rule s k id w new s.homes (first_rooms n (free_chain v)) b.now b.uses b.rooms b.pool_is (inr packs)
       (λ i r a. let c = at_take n v.free i r a in own.free i r (at_more v.free v.back i r c.0)) own_use
 
+  rest_given : (id n new : ℕ) (me : SeatState E) → me.0.back ≡ [] → me.0.known.share ≢ [] → Packs new (rest_rooms n (free_chain me.0)) → (s : TableState E) (k : RuleHolds s) → get_elem? s.views id ≡ some me.0 → word.pool s.words ≡ 0
+      → RuleHolds (stepped s POOL new id me.1 (with_first_rooms n me.0) keeps)
+  rest_given id n new me bare named packs s k at null =
+      let v = me.0 in
+      let q = plain_table s k in
+      let p = k.plain in
+      let own = mine s k id v at named in
+      let w = with_first_rooms n v in
+      let none_there = none_in_pool (word.pool s.words) p.pool k.word_is null in
+      let R : OwnsRooms p.chain.owner id v.free = subst (OwnsRooms p.chain.owner id) (ap (λ l. v.free ++ l) bare ∙ append-nil v.free) (rooms_of q p id v at named) in
+      let given : (i r : ℕ) → ItemAt (drop n v.free) i r → p.chain.owner r ≡ Spare id = λ i r a. let d = at_drop n v.free i r a in R.own d.0 r d.1 in
+      let linked = p.linked id v at named in
+      let b = pool_moved q p id v at named v.known refl (take n v.free) (leads (drop n v.free) v.end) v.back v.to (deal Pooled (drop n v.free) p.chain.owner) s.homes (rest_rooms n (free_chain v)) record {
+        moves = record {
+          fixed = λ r o e not_spare _. deal_fixed p.chain.owner id Pooled (drop n v.free) given r o e not_spare;
+          others = λ j rooms ne S. deal_others p.chain.owner id Pooled (drop n v.free) given j rooms ne S;
+          mine = subst (OwnsRooms (deal Pooled (drop n v.free) p.chain.owner) id) (sym (ap (λ l. take n v.free ++ l) bare ∙ append-nil (take n v.free))) (deal_first p.chain.owner id v.free R n Pooled);
+        };
+        slots = λ r _. refl;
+        deep = refl;
+        empty = empty_take s.homes n v.free (p.empty id v at named);
+        linked = (links_take k.words v.free n v.end linked.0, linked.1);
+        pooled = record {
+          own = λ i r a. deal_here Pooled (drop n v.free) p.chain.owner i r a;
+          once = λ i j r x y.
+              let (a, here, e) = at_drop n v.free i r x in
+              let (b, there, f) = at_drop n v.free j r y in
+              let same = R.once a b r here there in omega arith;
+          linked = links_drop k.words v.free n v.end linked.0;
+          empty = empty_drop s.homes n v.free (p.empty id v at named);
+        };
+        even =
+            let none_of = ap (λ (l : List ℕ). length l) none_there in
+            let cut = length-append (take n v.free) (drop n v.free) in
+            let both = ap (λ (l : List ℕ). length l) (take-append-drop n v.free) in omega arith;
+        fits = fits_same actor knows s.views p.history id v w at refl refl refl refl p.fits;
+        owned = owned_same knows s.views p.history id v w at refl p.owned;
+      } in
+      let own_use : KeepsUse (bit_of p.uses) k.words s.words w = record {
+        free = λ i r x. elim (at_either (take n v.free) v.back i r x) [
+          | inl c ↦ own.free i r (at_more v.free v.back i r (at_take n v.free i r c).0)
+          | inr c ↦ own.free (length v.free + c.0) r (at_after v.free v.back c.0 r c.1)
+        ];
+        begun = own.begun;
+        knows = own.knows;
+      } in
+      pool_rule s k id w new s.homes (rest_rooms n (free_chain v)) b.now b.uses b.rooms b.pool_is (inr packs)
+      (λ i r a. let d = at_drop n v.free i r a in own.free d.0 r (at_more v.free v.back d.0 r d.1)) own_use
+
   -- a step that changes nothing
   unmoved : (id i : ℕ) (me : SeatState E) → me.0.known.share ≢ [] → (s : TableState E) (k : RuleHolds s) → get_elem? s.views id ≡ some me.0 → RuleHolds (stepped s i (get_or s.words i 0) id me.1 me.0 keeps)
   unmoved id i me named s k at =
@@ -408,18 +457,18 @@ module _ {E : Type 0} where
       (same_words s k (set s.views id v) s.homes (skip_kept (plain_table s k) k.plain id v at named)
       (one_set (λ _ u. u.known.share ≢ [] → KeepsUse (bit_of k.plain.uses) k.words s.words u) s.views id v (λ _. mine s k id v at named) (λ j u ne e some_name. k.spells.each j u e some_name)))
 
-  pub gives : (slots id n new : ℕ) (me : SeatState E) → me.0.back ≡ [] → me.0.known.share ≢ [] → Packs new (first_rooms n (free_chain me.0))
-      → Allows RuleHolds slots id me POOL (λ m. either (eqb m 0) new m) (play.after_give_back n (step slots POOL 0 new none) me)
-  gives slots id n new me bare named packs s k deep at fits =
+  -- the party is w where the pool had no room, and else as before
+  exchanges : (slots id new : ℕ) (me : SeatState E) (w : View E) → me.0.known.share ≢ [] → ((s : TableState E) (k : RuleHolds s) → get_elem? s.views id ≡ some me.0 → word.pool s.words ≡ 0 → RuleHolds (stepped s POOL new id me.1 w keeps))
+      → Allows RuleHolds slots id me POOL (λ m. either (eqb m 0) new m) (λ found k. (found ≡ 0 → (k.0 ≡ w) × (k.1 ≡ me.1)) × (found ≢ 0 → (k ≡ me) × LacksRooms slots me))
+  exchanges slots id new me w named given s k deep at fits =
       let found : ℕ = word.pool s.words in
       let v = me.0 in
-      let w : View E = record v { free = drop n v.free } in
       dite (ℕ_discrete found 0)
       (λ null. (
         w,
         keeps,
         tt,
-        subst (λ m. RuleHolds (stepped s POOL m id me.1 w keeps)) (sym (ap (λ b. either b new found) (eq-eqb found 0 null))) (gives_all id n new me bare named packs s k at null),
+        subst (λ m. RuleHolds (stepped s POOL m id me.1 w keeps)) (sym (ap (λ b. either b new found) (eq-eqb found 0 null))) (given s k at null),
         (λ _. (refl, refl), λ ne. absurd (ne null)),
       ))
       (λ some_of. (
@@ -429,3 +478,11 @@ module _ {E : Type 0} where
         subst (λ m. RuleHolds (stepped s POOL m id me.1 v keeps)) (sym (ap (λ b. either b new found) (ne_eqb found 0 some_of))) (unmoved id POOL me named s k at),
         (λ e. absurd (some_of e), λ ne. (refl, λ is. subst (λ n. suc (length (held (plain v.known.seen)) + room_count v) < n) deep (lacks (plain_table s k) k.plain id v at (pool_some s k ne) is))),
       ))
+
+  pub gives : (slots id n new : ℕ) (me : SeatState E) → me.0.back ≡ [] → me.0.known.share ≢ [] → Packs new (first_rooms n (free_chain me.0))
+      → Allows RuleHolds slots id me POOL (λ m. either (eqb m 0) new m) (play.after_give_back n (step slots POOL 0 new none) me)
+  gives slots id n new me bare named packs = exchanges slots id new me (record me.0 { free = drop n me.0.free }) named (gives_all id n new me bare named packs)
+
+  pub gives_rest : (slots id n new : ℕ) (me : SeatState E) → me.0.back ≡ [] → me.0.known.share ≢ [] → Packs new (rest_rooms n (free_chain me.0))
+      → Allows RuleHolds slots id me POOL (λ m. either (eqb m 0) new m) (play.after_give_rest n (step slots POOL 0 new none) me)
+  gives_rest slots id n new me bare named packs = exchanges slots id new me (with_first_rooms n me.0) named (rest_given id n new me bare named packs)

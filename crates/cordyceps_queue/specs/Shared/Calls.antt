@@ -64,7 +64,7 @@ module _ {E : Type 0} where
   abbrev pub Enqueues : E → PartyOf E → PartyOf E → Type 0
   Enqueues e u w = Adds u (Swap (name_of u) e ∷ Link (name_of u) ∷ []) w × (u.rooms ≡ suc w.rooms)
 
-  -- it took the n rooms that were in the pool
+  -- it took n rooms of the pool
   abbrev pub Refills : ℕ → PartyOf E → PartyOf E → Type 0
   Refills n u w = Adds u [] w × (w.rooms ≡ u.rooms + n)
 
@@ -76,7 +76,7 @@ module _ {E : Type 0} where
   abbrev pub LacksRooms : PartyOf E → Type 0
   LacksRooms w = w.rooms + length (held (plain w.seen)) < capacity w.table
 
-  -- it put e in, which took a room; if it had none, it took the n that were in the pool before
+  -- it put e in, which took a room; if it had none, it took n of the pool before
   abbrev pub EnqueuesRefilled : E → PartyOf E → PartyOf E → Type 0
   EnqueuesRefilled e u w =
       Adds u (Swap (name_of u) e ∷ Link (name_of u) ∷ []) w

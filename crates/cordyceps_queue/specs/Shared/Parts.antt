@@ -18,7 +18,7 @@ use Rattle.cordyceps_queue.specs.Shared.Plays.{Blocked}
 use Rattle.cordyceps_queue.specs.Shared.Rule.{IsTable}
 use Rattle.cordyceps_queue.specs.Shared.Calls.{PartyOf, Legal, NonePending, NoneHolds}
 use Rattle.cordyceps_queue.specs.declared.shared.spare.Spare.{Spare}
-use Rattle.cordyceps_queue.specs.Shared.View.{View, name, free_chain, back_chain, all_rooms}
+use Rattle.cordyceps_queue.specs.Shared.View.{View, name, free_chain, back_chain, all_rooms, with_first_rooms}
 
 -- a seat of this table, which is a queue's
 abbrev pub IsSeatOf : TableId → TableId → Type 0
@@ -126,6 +126,7 @@ module _ {E : Type 0} where
   pub record Refills (slots n : ℕ) (m k : SeatState E) : Type 0 where
     pub rests : IsResting slots k
     pub free : length (view k).free ≡ length (view m).free + n
+    pub few : length (view k).free ≤ slots
     pub sees : Sees (view m) [] (view k)
     pub all : (view m).known.share ≡ whole
         → suc (length (held (plain (view k).known.seen)) + length (view k).free) ≡ slots
@@ -134,6 +135,30 @@ module _ {E : Type 0} where
   abbrev pub GivesBack : ℕ → Bool → SeatState E → SeatState E → Type 0
   GivesBack n true m k = k ≡ (record (view m) { free = drop n (view m).free }, hand m)
   GivesBack n false m k = k ≡ m
+
+  -- it gave its free rooms after the first n to the pool, or did nothing
+  abbrev pub GivesRest : ℕ → Bool → SeatState E → SeatState E → Type 0
+  GivesRest n true m k = k ≡ (with_first_rooms n (view m), hand m)
+  GivesRest n false m k = k ≡ m
+
+  -- a party with `had` rooms took the pool, and gave all of it but `most` rooms back if it could
+  pub record RefillsTo (slots had most : ℕ) (could : Bool) (m k : SeatState E) : Type 0 where
+    pub rests : IsResting slots k
+    pub sees : Sees (view m) [] (view k)
+    pub more : had ≤ length (view k).free
+    pub few : could ≡ true → length (view k).free ≤ had + most
+    pub sure : (view m).known.share ≡ whole → could ≡ true
+    pub all : (view m).known.share ≡ whole → length (view k).free < had + most
+        → suc (length (held (plain (view k).known.seen)) + length (view k).free) ≡ slots
+
+  -- it took n rooms of the pool, and sees all
+  pub record RefillsAtMost (slots most n : ℕ) (m k : SeatState E) : Type 0 where
+    pub rests : IsResting slots k
+    pub free : length (view k).free ≡ length (view m).free + n
+    pub sees : Sees (view m) [] (view k)
+    pub few : (view m).known.share ≡ whole → n ≤ most
+    pub all : (view m).known.share ≡ whole → n < most
+        → suc (length (held (plain (view k).known.seen)) + length (view k).free) ≡ slots
 
   -- ---- parties
   -- what a contract sees of a party with this seat

@@ -1,6 +1,6 @@
 -- What each atomic step tells a party of a queue: of its seat m before, of the word that it found, and of its seat k
 -- after. A seat has a view, and the slots in hand, the last taken first.
-use Rattle.std.specs.Prelude.{◌≡◌, ◌≢◌, ℕ, suc, ◌+◌, ◌<◌, ◌≤◌, List, [], ◌∷◌, ◌++◌, reverse, length, drop, Option}
+use Rattle.std.specs.Prelude.{◌≡◌, ◌≢◌, ℕ, suc, ◌+◌, ◌<◌, ◌≤◌, List, [], ◌∷◌, ◌++◌, reverse, length, take, drop, Option}
 use Rattle.std.specs.Prelude.{Some, None}
 use Rattle.cordyceps_shared.specs.FreeChains.{leads, end_after, MayJoin}
 use Rattle.cordyceps_shared.specs.Histories.{plain}
@@ -15,7 +15,7 @@ use Rattle.cordyceps_queue.specs.declared.cores.stage.Stage.TheVariants.{PutRead
 use Rattle.cordyceps_queue.specs.History.{Event, held, actor}
 use Rattle.cordyceps_queue.specs.Past.{IsLegalReversed, WasBlockedReversed}
 use Rattle.cordyceps_shared.specs.Slots.{Hand, Near, TableStep, SeatWith, view, hand}
-use Rattle.cordyceps_queue.specs.Shared.View.{View, name, free_chain, back_chain, view_returned, room_count}
+use Rattle.cordyceps_queue.specs.Shared.View.{View, name, free_chain, back_chain, view_returned, with_first_rooms, room_count}
 
 abbrev pub SeatState : Type 0 → Type 0
 SeatState E = SeatWith E (View E)
@@ -252,4 +252,10 @@ module _ {E : Type 0} where
   abbrev pub after_give_back : ℕ → TableStep E → SeatState E → ℕ → SeatState E → Type 0
   after_give_back n st m found k =
       (found ≡ 0 → (view k ≡ record (view m) { free = drop n (view m).free }) × (hand k ≡ hand m))
+      × (found ≢ 0 → (k ≡ m) × LacksRooms st.slots m)
+
+  -- a compare-exchange: the free rooms after the first n are the pool, or other rooms are
+  abbrev pub after_give_rest : ℕ → TableStep E → SeatState E → ℕ → SeatState E → Type 0
+  after_give_rest n st m found k =
+      (found ≡ 0 → (view k ≡ with_first_rooms n (view m)) × (hand k ≡ hand m))
       × (found ≢ 0 → (k ≡ m) × LacksRooms st.slots m)

@@ -139,3 +139,6 @@ module _ {E : Type 0} where
 
   abbrev pub after_give_back : ℕ → TableStep E → SeatState E → ℕ → SeatState E → Type 0
   after_give_back n st m found k = plain.after_give_back n st m found k
+
+  abbrev pub after_give_rest : ℕ → TableStep E → SeatState E → ℕ → SeatState E → Type 0
+  after_give_rest n st m found k = plain.after_give_rest n st m found k

@@ -1,6 +1,6 @@
 -- What a party of a shared queue knows and does, as the rule of the queue's table sees it.
-use Rattle.std.specs.Prelude.{ℕ, zero, suc, ◌+◌, List, [], ◌∷◌, ◌++◌, length, Option, None, cond, eqb}
-use Rattle.cordyceps_shared.specs.FreeChains.{FreeChain, joined, end_after}
+use Rattle.std.specs.Prelude.{ℕ, zero, suc, ◌+◌, List, [], ◌∷◌, ◌++◌, length, take, drop, Option, None, cond, eqb}
+use Rattle.cordyceps_shared.specs.FreeChains.{FreeChain, joined, end_after, leads}
 use Rattle.cordyceps_shared.specs.Knowing.{Known}
 use Rattle.cordyceps_shared.specs.Knowing as knowing
 use Rattle.cordyceps_shared.specs.Shares.{Name, first_name}
@@ -66,6 +66,10 @@ module _ {E : Type 0} where
   -- the same party, once the slots are given back
   abbrev pub view_returned : View E → View E
   view_returned v = record v { free = v.free ++ v.back; end = end_after v.end v.back v.to; back = [] }
+
+  -- the same party with the first n of its free rooms alone
+  abbrev pub with_first_rooms : ℕ → View E → View E
+  with_first_rooms n v = record v { free = take n v.free; end = leads (drop n v.free) v.end }
 
   -- how many rooms it has, free, to be given back or cleared
   abbrev pub room_count : View E → ℕ

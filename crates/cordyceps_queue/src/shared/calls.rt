@@ -1,5 +1,5 @@
 //! The queue that threads share.
-ghost use Rattle.std.specs.Prelude.{◌≡◌, ◌<◌, ◌≤◌, map, false, Option, Some, None, MatchResult, IfOk, IfErr};
+ghost use Rattle.std.specs.Prelude.{◌≡◌, ◌<◌, ◌≤◌, map, max, false, Option, Some, None, MatchResult, IfOk, IfErr};
 ghost use Rattle.cordyceps_shared.specs.Histories.{plain};
 ghost use Rattle.cordyceps_shared.specs.Shares.{whole};
 ghost use Rattle.cordyceps_shared.specs.Standings.{new_party, keeping, giving, Knows, Absorbs, GivesBack};
@@ -19,6 +19,7 @@ use cordyceps_base::mpsc_queue::Links;
 use cordyceps_base::node::Refused;
 use cordyceps_base::shared::MAX_ROOMS;
 use cordyceps_shared::free::FreeRooms;
+use cordyceps_shared::pool::QUANTUM;
 use cordyceps_shared::required;
 use std::alloc::{AllocError, AllocFailed, Global};
 use std::marker::Model;
@@ -27,7 +28,8 @@ use std::marker::Model;
 ///
 /// Its maker chooses the number of its rooms. A room is a permit to insert one element: inserting spends one, and
 /// whoever removes the element gets it. Each call is made through a party of this queue, which has some of the rooms.
-/// Rooms that no party has are in the pool: `give_back` puts them there, and `refill` and `try_enqueue` take them.
+/// Rooms that no party has are in the pool: `give_back` puts them there, and `refill`, `refill_at_most` and `try_enqueue`
+/// take them.
 /// Calls allocate nothing, except the constructors. A handle that is put in comes out as the same element, first in,
 /// first out. A party dequeues by the right to do so, which one party has at a time.
 ///
@@ -47,7 +49,8 @@ use std::marker::Model;
 /// | call | beside any call of another party | beside a call of its own row |
 /// |---|---|---|
 /// | `enqueue` | yes | both put their elements in, and neither waits |
-/// | `refill`, `try_enqueue` | yes | one gets the rooms of the pool; the other finds none |
+/// | `refill` | yes | one gets the rooms of the pool; the other finds none |
+/// | `refill_at_most`, `try_enqueue` | yes | one gets rooms of the pool; the other finds what is left, or none |
 /// | `give_back` | yes | one puts its rooms into the pool; the other returns `false` |
 /// | `try_dequeue`, `try_consume` | yes | one gets the right to dequeue; the other returns `Busy`, or its party |
 /// | `dequeue`, `consume` | yes | one gets the right to dequeue; the other waits for it |
@@ -231,14 +234,15 @@ impl<T: Linked<Links<T>>> MpscQueue<T> {
         );
     }
 
-    /// Appends an element to the queue. If the party has no room, it takes those of the pool first.
+    /// Appends an element to the queue. If the party has no room, it takes at most `QUANTUM` of the pool first, as
+    /// `refill_at_most` does.
     ///
     /// # Errors
     /// If the party has no room and the pool has none, the element is returned. Where a whole party finds that, each
     /// room of the queue has an element.
     ///
     /// # Complexity
-    /// O(1): that of `enqueue`, and of `refill` if the party has no room.
+    /// O(1): that of `enqueue`, and of `refill_at_most` with `QUANTUM` if the party has no room.
     ///
     /// # Waits
     /// Never.
@@ -247,9 +251,10 @@ impl<T: Linked<Links<T>>> MpscQueue<T> {
         ensures answer { MatchResult result
             (λ _. EnqueuesRefilled handle party.old party.new)
             (λ back. (back ≡ handle) × FindsFull party.old party.new) }
+        ensures few { party.old.share ≡ whole → party.new.rooms ≤ max party.old.rooms QUANTUM }
         ensures whole { party.old.share ≡ whole → IfErr result (λ _. HasAllRooms party.new) }
     {
-        if party.rooms() == 0 && self.refill(party) == 0 {
+        if party.rooms() == 0 && self.refill_at_most(party, QUANTUM) == 0 {
             return Err(handle);
         }
         self.enqueue(party, handle);
@@ -297,6 +302,28 @@ impl<T: Linked<Links<T>>> MpscQueue<T> {
         ensures whole { party.old.share ≡ whole → HasAllRooms party.new }
     {
         pool::refill(&self.rooms.shared, &mut party.seat, &mut party.spare)
+    }
+
+    /// Takes at most `most` rooms of the pool, which become the party's, and returns how many they are. The others stay
+    /// in the pool for other parties.
+    ///
+    /// It takes all and gives what is above `most` back at once. If another party gives rooms back between the two, it
+    /// tries that again, up to 8 times, and then keeps what it took. So it can take more than `most` only while others
+    /// give rooms back. A whole party never does, and if it takes fewer, it has each room of the queue that has no
+    /// element in it.
+    ///
+    /// # Complexity
+    /// O(k), for the k rooms that the party then has, and O(1) where the pool has at most `most`.
+    ///
+    /// # Waits
+    /// Never.
+    pub fn refill_at_most(&self, party: &mut Party<T>, most: usize) -> usize
+        requires { party.old.table ≡ self.now.table }
+        ensures answer { Refills result party.old party.new }
+        ensures few { party.old.share ≡ whole → result ≤ most }
+        ensures whole { party.old.share ≡ whole → result < most → HasAllRooms party.new }
+    {
+        pool::refill_at_most(&self.rooms.shared, &mut party.seat, &mut party.spare, most)
     }
 
     /// Gives `rooms` of the party's rooms to the pool, from where each party may take them, and returns `true`. If

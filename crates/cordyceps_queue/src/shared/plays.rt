@@ -3,7 +3,7 @@ ghost use Rattle.cordyceps_queue.specs.Shared.Uses.{after_clear, after_swap, aft
 ghost use Rattle.cordyceps_queue.specs.Shared.Uses.{after_look_stub, after_read, after_head, after_head_stub};
 ghost use Rattle.cordyceps_queue.specs.Shared.Uses.{after_clear_stub, after_swap_stub, after_link_stub, after_give};
 ghost use Rattle.cordyceps_queue.specs.Shared.Uses.{after_reread, after_tie, after_skip};
-ghost use Rattle.cordyceps_queue.specs.Shared.Uses.{after_refill, after_gather, after_glance, after_give_back};
+ghost use Rattle.cordyceps_queue.specs.Shared.Uses.{after_refill, after_gather, after_glance, after_give_back, after_give_rest};
 ghost use Rattle.cordyceps_queue.specs.Shared.Parting.{after_learn, view_keeping, view_giving};
 ghost use Rattle.cordyceps_queue.specs.Shared.Parting.{view_absorbing, view_absorbed};
 
@@ -155,6 +155,15 @@ pub(crate) struct GiveBack<B> {
 
 impl<E, B: Count> Play<Option<E>, SeatView<E>> for GiveBack<B> {
     ghost then = { after_give_back B.rooms };
+}
+
+/// A compare-exchange of the pool's word. If the pool has no room, the free rooms after the first `B::rooms` go there.
+pub(crate) struct GiveRest<B> {
+    count: PhantomData<B>,
+}
+
+impl<E, B: Count> Play<Option<E>, SeatView<E>> for GiveRest<B> {
+    ghost then = { after_give_rest B.rooms };
 }
 
 /// A load of the head after an absorb.

@@ -1,19 +1,22 @@
 -- What the parts of a refill come to together, and of giving rooms back to the pool.
-use Rattle.std.proofs.Common.{◌≡◌, ◌≢◌, ℕ, zero, suc, ◌+◌, ◌≤◌, ◌<◌, List, [], ◌∷◌, ◌++◌, length, take, refl, sym, ap, ◌∙◌, subst, arith, append-nil, length-append}
+use Rattle.std.proofs.Common.{◌≡◌, ◌≢◌, ℕ, zero, suc, ◌+◌, ◌-◌, ◌≤◌, ◌<◌, List, [], ◌∷◌, ◌++◌, length, take, drop, Bool, true, false, refl, sym, ap, ◌∙◌, subst, arith, append-nil, length-append}
+use Rattle.std.proofs.lemmas.List.{length-take-le}
 use Rattle.atomic_table.specs.Table.{turned}
 use Rattle.cordyceps_shared.specs.FreeChains.{FreeChain, Tracks, joined, MayJoin}
 use Rattle.cordyceps_shared.specs.Histories.{plain}
 use Rattle.cordyceps_shared.specs.Knowing.{Known, Grown}
 use Rattle.cordyceps_shared.specs.Pools.{packed, Fits}
-use Rattle.cordyceps_shared.specs.Shares.{Name}
+use Rattle.cordyceps_shared.specs.Shares.{Name, whole}
 use Rattle.cordyceps_shared.specs.Slots.{Near}
 use Rattle.cordyceps_shared.specs.declared.free.FreeRooms.{FreeRooms}
-use Rattle.cordyceps_shared.proofs.Places.{near_append}
+use Rattle.cordyceps_shared.proofs.Places.{near_append, near_take}
+use Rattle.cordyceps_shared.proofs.Ordering.{no_longer}
 use Rattle.cordyceps_shared.proofs.Pools.{unpacked}
+use Rattle.cordyceps_shared.proofs.StepEvents.{grown_then}
 use Rattle.cordyceps_shared.proofs.TrackRooms.{tracks_joined, tracks_alone}
 use Rattle.cordyceps_stack.specs.History.{Event, held, Legal, actor}
-use Rattle.cordyceps_stack.specs.Shared.Parts.{Refills}
-use Rattle.cordyceps_stack.specs.Shared.Plays.{SeatState, FindsPool, HasRefilled, IsResting, chain_in_hand}
+use Rattle.cordyceps_stack.specs.Shared.Parts.{Refills, GivesRest, RefillsTo, RefillsAtMost}
+use Rattle.cordyceps_stack.specs.Shared.Plays.{SeatState, Sees, FindsPool, HasRefilled, IsResting, LacksRooms, chain_in_hand}
 use Rattle.cordyceps_stack.specs.Shared.Slots.{vacant, all_vacant, last_link}
 use Rattle.cordyceps_stack.specs.Shared.View.{Idle, View, held_rooms}
 use Rattle.cordyceps_stack.proofs.SharedTheory.PartsJoin.{vacant_back, back_joins, first_or_none, tracks_rooms}
@@ -125,3 +128,60 @@ module _ {E : Type 0} where
   -- ---- rooms are given back
   pub given_last : (n last : ℕ) (m q : SeatState E) → q ≡ m → ((before : List ℕ) (r : ℕ) → take n q.0.free.rooms ≡ before ++ r ∷ [] → last ≡ r) → (before : List ℕ) (r : ℕ) → take n m.0.free.rooms ≡ before ++ r ∷ [] → last ≡ r
   given_last n last m q same is before r e = is before r (ap (λ (s : SeatState E). take n s.0.free.rooms) same ∙ e)
+
+  pub left_first : (n first : ℕ) (m q : SeatState E) → q ≡ m → ((r : ℕ) (rs : List ℕ) → drop n q.0.free.rooms ≡ r ∷ rs → first ≡ suc r) → (r : ℕ) (rs : List ℕ) → drop n m.0.free.rooms ≡ r ∷ rs → first ≡ suc r
+  left_first n first m q same is r rs e = is r rs (ap (λ (s : SeatState E). drop n s.0.free.rooms) same ∙ e)
+
+  -- ---- what is above some rooms goes back
+  pub refilled_to : (slots had most n : ℕ) (b : Bool) (m p k : SeatState E) → Refills slots n m p → had ≤ length m.0.free.rooms → had + most < length p.0.free.rooms → GivesRest (had + most) b p k → (b ≡ false → LacksRooms slots p) → RefillsTo slots had most b m k
+  refilled_to slots had most n true m p k r low above g lacks =
+      let kept = length-take-le (had + most) p.0.free.rooms (omega arith) in
+      let free = ap (λ (q : SeatState E). length q.0.free.rooms) g in record {
+        rests = subst (IsResting slots) (sym g) record {
+          idle = r.rests.idle;
+          empty = r.rests.empty;
+          named = r.rests.named;
+          near = near_take slots (had + most) p.0.free.rooms r.rests.near;
+        };
+        sees = subst (λ (q : SeatState E). Sees m.0 [] q.0) (sym g) r.sees;
+        more = omega arith;
+        few = λ _. omega arith;
+        sure = λ _. refl;
+        all = λ _ less. absurd (omega arith);
+      }
+  refilled_to slots had most n false m p k r low above g lacks =
+      let free = ap (λ (q : SeatState E). length q.0.free.rooms) g in
+      let full : m.0.known.share ≡ whole → ⊥ = λ is.
+          let all = r.all is in
+          let less = lacks refl (r.sees.share ∙ is) in
+          let quiet = ap (λ d. length (held_rooms d)) r.rests.idle in omega arith
+      in record {
+        rests = subst (IsResting slots) (sym g) r.rests;
+        sees = subst (λ (q : SeatState E). Sees m.0 [] q.0) (sym g) r.sees;
+        more = omega arith;
+        few = λ e. no_longer (sym e);
+        sure = λ is. absurd (full is);
+        all = λ is _. absurd (full is);
+      }
+
+  -- a party that had so many rooms and has so many now: it refilled once, or again since it could not give rooms back
+  pub refilled_once : (slots most had now : ℕ) (b : Bool) (m k : SeatState E) → had ≡ length m.0.free.rooms → now ≡ length k.0.free.rooms → RefillsTo slots had most b m k → b ≡ true → RefillsAtMost slots most (now - had) m k
+  refilled_once slots most had now b m k before after r done =
+      let more = r.more in
+      let few = r.few done in record {
+        rests = r.rests;
+        free = omega arith;
+        sees = r.sees;
+        few = λ _. omega arith;
+        all = λ is less. r.all is (omega arith);
+      }
+
+  pub refilled_again : (slots most had now : ℕ) (b : Bool) (m p k : SeatState E) → had ≡ length m.0.free.rooms → now ≡ length k.0.free.rooms → RefillsTo slots had most b m p → b ≡ false → IsResting slots k → Sees p.0 [] k.0 → had ≤ length k.0.free.rooms
+      → RefillsAtMost slots most (now - had) m k
+  refilled_again slots most had now b m p k before after r failed rests sees more = record {
+    rests = rests;
+    free = omega arith;
+    sees = grown_then actor (λ z. Legal z) m.0.known p.0.known k.0.known [] [] r.sees sees;
+    few = λ is. no_longer (sym (r.sure is) ∙ failed);
+    all = λ is _. no_longer (sym (r.sure is) ∙ failed);
+  }

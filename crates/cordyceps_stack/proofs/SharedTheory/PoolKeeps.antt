@@ -237,6 +237,35 @@ module _ {E : Type 0} where
         owned = owned_same knows s.views k.history id v w at refl k.owned;
       }
 
+  rest_given : (slots id n new : ℕ) (me : SeatState E) → me.0.doing ≡ Idle → me.0.known.share ≢ [] → Packs new (rest_rooms n me.0.free) → (s : TableState E) (k : RuleHolds s) → get_elem? s.views id ≡ some me.0
+      → word.pool s.words ≡ 0 → RuleHolds (stepped s POOL new id me.1 (record me.0 { free = first_rooms n me.0.free }) keeps)
+  rest_given slots id n new me idle named packs s k at null =
+      let v = me.0 in
+      let kept = first_rooms n v.free in
+      let rest = rest_rooms n v.free in
+      let w : View E = record v { free = kept } in
+      let mine : Hand E = all_vacant kept.rooms kept.end in
+      let home : AtHome s.homes (mine ++ all_vacant rest.rooms rest.end) = subst (AtHome s.homes) (vacant_cut E n v.free) (k.free id v at) in
+      let none_there = none_in_pool (word.pool s.words) k.pool k.word_is null in
+      moved s k id v w s.homes new rest record {
+        at = at;
+        counts = λ r. let cut = tally_cut (λ q. one_if (eqb q r)) n v.free.rooms in omega arith;
+        idle = inl idle;
+        full = k.full;
+        free = home_front s.homes mine (all_vacant rest.rooms rest.end) home;
+        others = λ _ _ _ _ _ _. refl;
+        pooled = home_back s.homes mine (all_vacant rest.rooms rest.end) home;
+        word_is = inr packs;
+        deep = refl;
+        even =
+            let none_of = ap (λ (l : List ℕ). length l) none_there in
+            let cut = length-append (take n v.free.rooms) (drop n v.free.rooms) in
+            let both = ap (λ (l : List ℕ). length l) (take-append-drop n v.free.rooms) in omega arith;
+        spent = λ e. absurd (named e);
+        fits = fits_same actor knows s.views k.history id v w at refl refl refl refl k.fits;
+        owned = owned_same knows s.views k.history id v w at refl k.owned;
+      }
+
   gives_none : (id : ℕ) (me : SeatState E) → me.0.doing ≡ Idle → me.0.known.share ≢ [] → (s : TableState E) (k : RuleHolds s) → get_elem? s.views id ≡ some me.0
       → RuleHolds (stepped s POOL (word.pool s.words) id me.1 me.0 keeps)
   gives_none id me idle named s k at =
@@ -257,18 +286,18 @@ module _ {E : Type 0} where
         owned = owned_same knows s.views k.history id v v at refl k.owned;
       }
 
-  pub gives : (slots id n new : ℕ) (me : SeatState E) → me.0.doing ≡ Idle → me.0.known.share ≢ [] → Packs new (first_rooms n me.0.free)
-      → Allows RuleHolds slots id me POOL (λ m. either (eqb m 0) new m) (play.after_give_back n (step slots POOL 0 new none) me)
-  gives slots id n new me idle named packs s k deep at fits =
+  -- the party is w where the pool had no room, and else as before
+  exchanges : (slots id new : ℕ) (me : SeatState E) (w : View E) → me.0.doing ≡ Idle → me.0.known.share ≢ [] → ((s : TableState E) (k : RuleHolds s) → get_elem? s.views id ≡ some me.0 → word.pool s.words ≡ 0 → RuleHolds (stepped s POOL new id me.1 w keeps))
+      → Allows RuleHolds slots id me POOL (λ m. either (eqb m 0) new m) (λ found k. (found ≡ 0 → (k.0 ≡ w) × (k.1 ≡ me.1)) × (found ≢ 0 → (k ≡ me) × play.LacksRooms slots me))
+  exchanges slots id new me w idle named given s k deep at fits =
       let found : ℕ = word.pool s.words in
       let v = me.0 in
-      let w : View E = record v { free = rest_rooms n v.free } in
       dite (ℕ_discrete found 0)
       (λ null. (
         w,
         keeps,
         tt,
-        subst (λ m. RuleHolds (stepped s POOL m id me.1 w keeps)) (sym (ap (λ b. either b new found) (eq-eqb found 0 null))) (gives_all slots id n new me idle named packs s k at null),
+        subst (λ m. RuleHolds (stepped s POOL m id me.1 w keeps)) (sym (ap (λ b. either b new found) (eq-eqb found 0 null))) (given s k at null),
         (λ _. (refl, refl), λ ne. absurd (ne null)),
       ))
       (λ some_of. (
@@ -278,6 +307,14 @@ module _ {E : Type 0} where
         subst (λ m. RuleHolds (stepped s POOL m id me.1 v keeps)) (sym (ap (λ b. either b new found) (ne_eqb found 0 some_of))) (gives_none id me idle named s k at),
         (λ e. absurd (some_of e), λ _. (refl, λ is. subst (λ n. length (held (plain v.known.seen)) + room_count v < n) deep (lacks s k id v at some_of is))),
       ))
+
+  pub gives : (slots id n new : ℕ) (me : SeatState E) → me.0.doing ≡ Idle → me.0.known.share ≢ [] → Packs new (first_rooms n me.0.free)
+      → Allows RuleHolds slots id me POOL (λ m. either (eqb m 0) new m) (play.after_give_back n (step slots POOL 0 new none) me)
+  gives slots id n new me idle named packs = exchanges slots id new me (record me.0 { free = rest_rooms n me.0.free }) idle named (gives_all slots id n new me idle named packs)
+
+  pub gives_rest : (slots id n new : ℕ) (me : SeatState E) → me.0.doing ≡ Idle → me.0.known.share ≢ [] → Packs new (rest_rooms n me.0.free)
+      → Allows RuleHolds slots id me POOL (λ m. either (eqb m 0) new m) (play.after_give_rest n (step slots POOL 0 new none) me)
+  gives_rest slots id n new me idle named packs = exchanges slots id new me (record me.0 { free = first_rooms n me.0.free }) idle named (rest_given slots id n new me idle named packs)
 
   -- ---- a load
   pub glances : (slots id : ℕ) (me : SeatState E) → me.0.doing ≡ Idle → me.0.known.share ≢ [] → Allows RuleHolds slots id me POOL (λ n. n) (play.after_glance (step slots POOL 0 0 none) me)

@@ -69,7 +69,7 @@ module _ {E : Type 0} where
   abbrev pub Takes : List E → PartyOf E → PartyOf E → Type 0
   Takes batch u w = Adds u (Taken (name_of u) batch ∷ []) w × (w.rooms ≡ u.rooms + length batch)
 
-  -- it took the n rooms that were in the pool
+  -- it took n rooms of the pool
   abbrev pub Refills : ℕ → PartyOf E → PartyOf E → Type 0
   Refills n u w = Adds u [] w × (w.rooms ≡ u.rooms + n)
 
@@ -82,7 +82,7 @@ module _ {E : Type 0} where
   LacksRooms w = w.rooms + length (held (plain w.seen)) < w.table.slots
 
   -- it pushed e at one try, which took a room, and `first` tells whether nothing was held before; if it had no room, it
-  -- took those that were in the pool before
+  -- took some of the pool before
   pub record PushesRefilled (e : E) (first : Bool) (u w : PartyOf E) : Type 0 where
     pub adds : Adds u (Load (name_of u) ∷ Push (name_of u) e ∷ []) w
     pub ends : EndsPushed e (IsTrue first) (name_of u) w.seen
@@ -90,7 +90,7 @@ module _ {E : Type 0} where
     pub rooms : u.rooms + taken ≡ suc w.rooms
     pub untouched : 0 < u.rooms → taken ≡ 0
 
-  -- it tried once to push, and another came between; it has a room: if it had none, it took those that were in the pool
+  -- it tried once to push, and another came between; it has a room: if it had none, it took some of the pool
   -- before
   pub record MissesRefilled (u w : PartyOf E) : Type 0 where
     pub adds : Adds u (Load (name_of u) ∷ []) w

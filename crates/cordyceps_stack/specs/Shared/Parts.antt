@@ -1,5 +1,5 @@
 -- What the parts of a call on a shared transfer stack leave: of the party's seat m before, and of its seat k after.
-use Rattle.std.specs.Prelude.{◌≡◌, ◌≤◌, ℕ, suc, ◌+◌, List, [], ◌∷◌, ◌++◌, length, replicate, Bool, true, false, Option}
+use Rattle.std.specs.Prelude.{◌≡◌, ◌<◌, ◌≤◌, ℕ, suc, ◌+◌, List, [], ◌∷◌, ◌++◌, length, replicate, Bool, true, false, Option}
 use Rattle.std.specs.Prelude.{IsTrue, MatchOption}
 use Rattle.atomic_table.specs.Seated.{TableId}
 use Rattle.cordyceps_shared.specs.FreeChains.{leads, with_first, first_rooms, rest_rooms, Tracks}
@@ -144,6 +144,30 @@ module _ {E : Type 0} where
   abbrev pub GivesBack : ℕ → Bool → SeatState E → SeatState E → Type 0
   GivesBack n true m k = k ≡ (record (view m) { free = rest_rooms n (view m).free }, hand m)
   GivesBack n false m k = k ≡ m
+
+  -- it gave its free rooms after the first n to the pool, or did nothing
+  abbrev pub GivesRest : ℕ → Bool → SeatState E → SeatState E → Type 0
+  GivesRest n true m k = k ≡ (record (view m) { free = first_rooms n (view m).free }, hand m)
+  GivesRest n false m k = k ≡ m
+
+  -- a party with `had` rooms took the pool, and gave all of it but `most` rooms back if it could
+  pub record RefillsTo (slots had most : ℕ) (could : Bool) (m k : SeatState E) : Type 0 where
+    pub rests : IsResting slots k
+    pub sees : Sees (view m) [] (view k)
+    pub more : had ≤ length (view k).free.rooms
+    pub few : could ≡ true → length (view k).free.rooms ≤ had + most
+    pub sure : (view m).known.share ≡ whole → could ≡ true
+    pub all : (view m).known.share ≡ whole → length (view k).free.rooms < had + most
+        → length (held (plain (view k).known.seen)) + length (view k).free.rooms ≡ slots
+
+  -- it took n rooms of the pool, and sees all
+  pub record RefillsAtMost (slots most n : ℕ) (m k : SeatState E) : Type 0 where
+    pub rests : IsResting slots k
+    pub free : length (view k).free.rooms ≡ length (view m).free.rooms + n
+    pub sees : Sees (view m) [] (view k)
+    pub few : (view m).known.share ≡ whole → n ≤ most
+    pub all : (view m).known.share ≡ whole → n < most
+        → length (held (plain (view k).known.seen)) + length (view k).free.rooms ≡ slots
 
   -- ---- parties
   -- what a contract sees of a party with this seat

@@ -221,6 +221,12 @@ module _ {E : Type 0} where
       (found ≡ 0 → (view k ≡ record (view m) { free = rest_rooms n (view m).free }) × (hand k ≡ hand m))
       × (found ≢ 0 → (k ≡ m) × LacksRooms st.slots m)
 
+  -- a compare-exchange: the free rooms after the first n are the pool, or other rooms are
+  abbrev pub after_give_rest : ℕ → TableStep E → SeatState E → ℕ → SeatState E → Type 0
+  after_give_rest n st m found k =
+      (found ≡ 0 → (view k ≡ record (view m) { free = first_rooms n (view m).free }) × (hand k ≡ hand m))
+      × (found ≢ 0 → (k ≡ m) × LacksRooms st.slots m)
+
   -- ---- between the steps
   -- the party is between two calls
   pub record IsResting (slots : ℕ) (m : SeatState E) : Type 0 where

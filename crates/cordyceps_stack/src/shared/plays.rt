@@ -2,7 +2,7 @@
 ghost use Rattle.cordyceps_stack.specs.Shared.Plays.{after_look, after_begin, after_load, after_exchange, after_take};
 ghost use Rattle.cordyceps_stack.specs.Shared.Plays.{after_load_all, after_exchange_all};
 ghost use Rattle.cordyceps_stack.specs.Shared.Plays.{after_hold, after_hold_last, after_return, after_append};
-ghost use Rattle.cordyceps_stack.specs.Shared.Plays.{after_refill, after_glance, after_give_back};
+ghost use Rattle.cordyceps_stack.specs.Shared.Plays.{after_refill, after_glance, after_give_back, after_give_rest};
 ghost use Rattle.cordyceps_stack.specs.Shared.Parting.{after_learn, view_keeping, view_giving};
 ghost use Rattle.cordyceps_stack.specs.Shared.Parting.{view_absorbing, view_absorbed};
 
@@ -112,6 +112,15 @@ pub(crate) struct GiveBack<B> {
 
 impl<E, B: Count> Play<Slot<E>, SeatView<E>> for GiveBack<B> {
     ghost then = { after_give_back B.rooms };
+}
+
+/// A compare-exchange of the pool's word. If the pool has no room, the free rooms after the first `B::rooms` go there.
+pub(crate) struct GiveRest<B> {
+    count: PhantomData<B>,
+}
+
+impl<E, B: Count> Play<Slot<E>, SeatView<E>> for GiveRest<B> {
+    ghost then = { after_give_rest B.rooms };
 }
 
 /// A load of the head after an absorb.

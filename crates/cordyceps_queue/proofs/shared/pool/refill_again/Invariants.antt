@@ -1,0 +1,14 @@
+use Rattle.std.proofs.Common.{◌≡◌, ◌≤◌, [], length}
+use Rattle.cordyceps_queue.specs.Shared.Parts.{TracksEnd}
+use Rattle.cordyceps_queue.specs.Shared.Plays.{IsResting, Sees}
+use Rattle.cordyceps_queue.specs.Shared.View.{free_chain}
+use Rattle.cordyceps_queue.proofs.shared.pool.refill_again.Given as goal
+
+abbrev pub invariant-loop-try : goal.invariant-loop-try
+invariant-loop-try g l = record {
+  table : l.seat.table_id ≡ l.initial.seat.table_id;
+  rests : IsResting l.words.table_id.slots l.seat.me;
+  sees : Sees l.initial.seat.me.0 [] l.seat.me.0;
+  more : l.had ≤ length l.seat.me.0.free;
+  tracks : TracksEnd l.spare (free_chain l.seat.me.0);
+}
