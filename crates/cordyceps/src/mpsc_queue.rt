@@ -2,6 +2,6 @@
 
 pub use cordyceps_base::mpsc_queue::Links;
 pub use cordyceps_queue::mpsc_queue::{
-    Batch, Closed, Consumer, MAX_ROOMS, MpscQueue, OwnedConsumer, Party, QueueAnswer, QueueCore,
-    QueueStep, Replay, StepError, TryDequeueError, replay,
+    Batch, Closed, Consumer, MAX_ROOMS, MpscQueue, OwnedConsumer, Party, QUANTUM, QueueAnswer,
+    QueueCore, QueueStep, Replay, StepError, TryDequeueError, replay,
 };

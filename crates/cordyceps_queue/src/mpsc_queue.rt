@@ -9,3 +9,4 @@ pub use crate::shared::consumer::Consumer;
 pub use crate::shared::owned_consumer::OwnedConsumer;
 pub use cordyceps_base::mpsc_queue::Links;
 pub use cordyceps_base::shared::{MAX_ROOMS, StepError};
+pub use cordyceps_shared::pool::QUANTUM;

@@ -8,4 +8,5 @@ pub use crate::shared::calls::{Party, TransferStack};
 pub use crate::shared::push_error::TryPushError;
 pub use cordyceps_base::shared::{MAX_ROOMS, StepError};
 pub use cordyceps_base::stack::Links;
+pub use cordyceps_shared::pool::QUANTUM;
 pub use cordyceps_single::stack::Stack;

@@ -1,5 +1,5 @@
 //! The part of a free list that threads share.
-ghost use Rattle.std.specs.Prelude.{◌≡◌, ◌<◌, ◌≤◌, List, [], length, map, reverse, true, false, is_ok, MatchResult};
+ghost use Rattle.std.specs.Prelude.{◌≡◌, ◌<◌, ◌≤◌, List, [], length, map, max, reverse, true, false, is_ok, MatchResult};
 ghost use Rattle.std.specs.Prelude.{IfOk, IfErr};
 ghost use Rattle.cordyceps_shared.specs.Histories.{plain};
 ghost use Rattle.cordyceps_shared.specs.Shares.{whole};
@@ -13,7 +13,7 @@ use crate::local::Local;
 use cordyceps_base::linked::Linked;
 use cordyceps_base::stack::Links;
 use cordyceps_shared::required;
-use cordyceps_stack::stack::{MAX_ROOMS, Party, Stack, TransferStack, TryPushError};
+use cordyceps_stack::stack::{MAX_ROOMS, Party, QUANTUM, Stack, TransferStack, TryPushError};
 use std::alloc::{AllocError, Global};
 use std::marker::Model;
 
@@ -101,8 +101,8 @@ impl<T: Linked<Links<T>>> FreeList<T> {
         self.shared.try_push(party, handle)
     }
 
-    /// Tries once to put a block back for all. If the party has no room, it takes those of the pool first. Returns
-    /// `true` if no block was shared just before.
+    /// Tries once to put a block back for all. If the party has no room, it takes at most `QUANTUM` of the pool
+    /// first. Returns `true` if no block was shared just before.
     ///
     /// # Errors
     /// It returns `Full` if the party has no room and the pool has none. Where a whole party finds that, each room of
@@ -111,7 +111,7 @@ impl<T: Linked<Links<T>>> FreeList<T> {
     /// handle.
     ///
     /// # Complexity
-    /// O(1): that of `put_remote`, and of `refill` if the party has no room.
+    /// O(1): that of `put_remote`, and of `refill_at_most` with `QUANTUM` if the party has no room.
     ///
     /// # Waits
     /// Never.
@@ -124,6 +124,7 @@ impl<T: Linked<Links<T>>> FreeList<T> {
         ensures answer { MatchResult result
             (λ first. PushesRefilled handle first party.old party.new)
             (λ error. FailsToPush handle error party.old party.new) }
+        ensures few { party.old.share ≡ whole → party.new.rooms ≤ max party.old.rooms QUANTUM }
         ensures whole { party.old.share ≡ whole → IfErr result (λ error. IsCertainlyFull error party.new) }
     {
         self.shared.refill_and_try_push(party, handle)
@@ -168,6 +169,28 @@ impl<T: Linked<Links<T>>> FreeList<T> {
         ensures whole { party.old.share ≡ whole → HasAllRooms party.new }
     {
         self.shared.refill(party)
+    }
+
+    /// Takes at most `most` rooms of the pool, which become the party's, and returns how many they are. The others stay
+    /// in the pool for other parties.
+    ///
+    /// It takes all and gives what is above `most` back at once. If another party gives rooms back between the two, it
+    /// tries that again, up to 8 times, and then keeps what it took. So it can take more than `most` only while others
+    /// give rooms back. A whole party never does, and if it takes fewer, it has each room of the free list that has
+    /// no shared block in it.
+    ///
+    /// # Complexity
+    /// O(k), for the k rooms that the party then has, and O(1) where the pool has at most `most`.
+    ///
+    /// # Waits
+    /// Never.
+    pub fn refill_at_most(&self, party: &mut Party<T>, most: usize) -> usize
+        requires { party.old.table ≡ self.now }
+        ensures answer { Refills result party.old party.new }
+        ensures few { party.old.share ≡ whole → result ≤ most }
+        ensures whole { party.old.share ≡ whole → result < most → HasAllRooms party.new }
+    {
+        self.shared.refill_at_most(party, most)
     }
 
     /// Gives `rooms` of the party's rooms to the pool, from where each party may take them, and returns `true`. If

@@ -29,6 +29,8 @@ pub enum Call {
     TryPut(u64),
     /// Takes the rooms of the pool.
     Refill,
+    /// Takes at most this many rooms of the pool.
+    RefillAtMost(usize),
     /// Gives this many rooms to the pool.
     GiveBack(usize),
     /// Tries once to dequeue.
@@ -232,6 +234,10 @@ impl<'q> Actor<'q> {
             }
             Call::Refill => {
                 let found = seat.refill(rt);
+                return Reply::Refilled(found, seat.rooms(rt));
+            }
+            Call::RefillAtMost(most) => {
+                let found = seat.refill_at_most(rt, most);
                 return Reply::Refilled(found, seat.rooms(rt));
             }
             Call::GiveBack(rooms) => {

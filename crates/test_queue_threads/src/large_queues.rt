@@ -22,14 +22,22 @@ fn many_rooms_hold_elements(rt: HostRuntime) {
     alone(&rt, rt.alloc(), MAX_ROOMS, 12_000, &[&CALLS]);
 }
 
-/// All rooms go to the pool and come back at once, by a call that asks for them and by an enqueue.
-const COME_BACK: [Line; 6] = [
+/// All rooms go to the pool and come back at once, by each call that asks for them; an enqueue takes 64.
+const COME_BACK: [Line; 10] = [
     (0, Call::GiveBack(MAX_ROOMS), Reply::Gave(true, 0)),
     (0, Call::Refill, Reply::Refilled(MAX_ROOMS, MAX_ROOMS)),
     (0, Call::GiveBack(MAX_ROOMS), Reply::Gave(true, 0)),
-    (0, Call::TryPut(0), Reply::Rooms(1_048_575)),
+    (
+        0,
+        Call::RefillAtMost(MAX_ROOMS),
+        Reply::Refilled(MAX_ROOMS, MAX_ROOMS),
+    ),
+    (0, Call::GiveBack(MAX_ROOMS), Reply::Gave(true, 0)),
+    (0, Call::TryPut(0), Reply::Rooms(63)),
+    (0, Call::Refill, Reply::Refilled(1_048_512, 1_048_575)),
     (0, Call::Try, Reply::Element(0)),
     (0, Call::Rooms, Reply::Rooms(MAX_ROOMS)),
+    (0, Call::GiveBack(MAX_ROOMS), Reply::Gave(true, 0)),
 ];
 
 #[test]

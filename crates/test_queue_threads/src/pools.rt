@@ -1,7 +1,7 @@
 //! Rooms that come back by the pool: calls one after the other, and two threads that enqueue beside one that dequeues.
 use crate::calls::{Call, Line, Reply};
 use crate::compared::{made, same};
-use crate::items::{Handle, append, elements, nothing, number, sum};
+use crate::items::{Handle, append, element, elements, nothing, number, sum};
 use crate::scenes::alone;
 use crate::seats::{Claim, Seat, queue_of, shared};
 use crate::tasks::{Task, run_all};
@@ -77,6 +77,38 @@ const SOME_ROOMS: [Line; 12] = [
     (0, Call::Refill, Reply::Refilled(2, 2)),
 ];
 
+/// A party takes a part of the pool, and others find the rest, until it is empty.
+const A_PART: [Line; 18] = [
+    (0, Call::Split(0), Reply::Rooms(5)),
+    (0, Call::GiveBack(5), Reply::Gave(true, 0)),
+    (1, Call::RefillAtMost(2), Reply::Refilled(2, 2)),
+    (0, Call::RefillAtMost(0), Reply::Refilled(0, 0)),
+    (1, Call::RefillAtMost(1), Reply::Refilled(1, 3)),
+    (0, Call::RefillAtMost(9), Reply::Refilled(2, 2)),
+    (0, Call::RefillAtMost(1), Reply::Refilled(0, 2)),
+    (1, Call::PutMany(1, 3), Reply::Rooms(0)),
+    (0, Call::PutMany(4, 2), Reply::Rooms(0)),
+    (0, Call::Try, Reply::Element(1)),
+    (0, Call::Try, Reply::Element(2)),
+    (0, Call::Try, Reply::Element(3)),
+    (0, Call::Try, Reply::Element(4)),
+    (0, Call::Try, Reply::Element(5)),
+    (0, Call::GiveBack(4), Reply::Gave(true, 1)),
+    (1, Call::RefillAtMost(3), Reply::Refilled(3, 3)),
+    (1, Call::PutMany(6, 3), Reply::Rooms(0)),
+    (0, Call::Refill, Reply::Refilled(1, 2)),
+];
+
+/// A party that enqueues takes 64 rooms of the pool, and another one finds the rest.
+const A_QUANTUM: [Line; 6] = [
+    (0, Call::Split(0), Reply::Rooms(100)),
+    (0, Call::GiveBack(100), Reply::Gave(true, 0)),
+    (1, Call::TryPut(1), Reply::Rooms(63)),
+    (0, Call::TryPut(2), Reply::Rooms(35)),
+    (1, Call::TryPut(3), Reply::Rooms(62)),
+    (1, Call::Refill, Reply::Refilled(0, 62)),
+];
+
 /// Sixteen parties with one room each, of which each takes the rooms of the pool and gives them back with its own.
 const SIXTEEN_PARTIES: [Line; 45] = [
     (0, Call::Split(1), Reply::Rooms(15)),
@@ -148,6 +180,8 @@ fn rooms_come_back(rt: HostRuntime) {
     alone(&rt, rt.alloc(), 1, 3, &[&ONE_ROOM]);
     alone(&rt, rt.alloc(), 3, 4, &[&ALL_ROOMS]);
     alone(&rt, rt.alloc(), 4, 5, &[&SOME_ROOMS]);
+    alone(&rt, rt.alloc(), 5, 8, &[&A_PART]);
+    alone(&rt, rt.alloc(), 100, 3, &[&A_QUANTUM]);
     for claim in [Claim::Try, Claim::TryOwned] {
         alone(&rt, rt.alloc(), 2, 3, &[&by_a_consumer(claim)]);
     }
@@ -156,6 +190,51 @@ fn rooms_come_back(rt: HostRuntime) {
 #[test]
 fn sixteen_parties_pass_all_rooms_on(rt: HostRuntime) {
     alone(&rt, rt.alloc(), 16, 0, &[&SIXTEEN_PARTIES]);
+}
+
+/// Enqueues the last of the elements, then the one before it and so on, until there is no room or no element.
+fn fill(rt: &impl Abort, seat: &mut Seat<'_>, elements: &mut Vec<Handle>) {
+    while let Some(node) = elements.pop() {
+        if let Err(back) = seat.try_put(rt, node) {
+            append(rt, elements, back);
+            return;
+        }
+    }
+}
+
+/// Dequeues all, gives the rooms back if the pool takes them, and returns how many came out.
+fn drain(rt: &impl Abort, seat: &mut Seat<'_>) -> u64 {
+    let mut count = 0;
+    while let Ok(_node) = seat.try_take(rt) {
+        count = sum(count, 1);
+    }
+    let rooms = seat.rooms(rt);
+    seat.give_back(rt, rooms);
+    count
+}
+
+// A party enqueues one element and then does nothing: it keeps 63 of 256 rooms. The others go through 193 rooms each
+// time, so 2000 elements and that one come out in 11 batches.
+#[test]
+fn an_idle_party_leaves_most_rooms_to_others(rt: HostRuntime) {
+    let drops = made(&rt, Drops::new(rt.alloc()));
+    let (queue, party) = queue_of(&rt, rt.alloc(), None, 256);
+    let queue = shared(&rt, rt.alloc(), queue);
+    let mut taker = Seat::new(&queue, party);
+    let mut idle = taker.split(&rt, 0);
+    let mut busy = taker.split(&rt, 0);
+    same(&rt, taker.give_back(&rt, 256), true);
+    let first = element(&rt, rt.alloc(), 0, &drops);
+    same(&rt, idle.try_put(&rt, first).is_ok(), true);
+    let mut left = elements(&rt, rt.alloc(), 1, 2000, &drops);
+    let (mut batches, mut taken) = (0, 0);
+    while !left.is_empty() && batches < 2001 {
+        fill(&rt, &mut busy, &mut left);
+        taken = sum(taken, drain(&rt, &mut taker));
+        batches = sum(batches, 1);
+    }
+    same(&rt, (batches, taken), (11, 2001));
+    same(&rt, (idle.rooms(&rt), drops.count()), (63, 2001));
 }
 
 /// A thread that enqueues elements, for each of which it needs a room of the pool.

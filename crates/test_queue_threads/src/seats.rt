@@ -169,6 +169,14 @@ impl<'q> Seat<'q> {
         it.queue.refill(&mut it.party)
     }
 
+    /// Takes at most this many rooms of the pool, and returns how many they are.
+    pub fn refill_at_most(&mut self, rt: &impl Abort, most: usize) -> usize {
+        let Seat::Party(it) = self else {
+            panic!(rt; "only a party takes the rooms of the pool");
+        };
+        it.queue.refill_at_most(&mut it.party, most)
+    }
+
     /// Gives some of the rooms, which must be there, to the pool, and returns whether it has taken them.
     pub fn give_back(&mut self, rt: &impl Abort, rooms: usize) -> bool {
         match self {

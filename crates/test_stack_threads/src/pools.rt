@@ -114,6 +114,35 @@ const REFILLS: [(By, Call); 17] = [
     (By::Second, Call::Rooms(4)),
 ];
 
+/// A party takes a part of what was given back, and the other finds the rest.
+const A_PART: [(By, Call); 15] = [
+    (By::First, Call::GiveBack(5, true)),
+    (By::Second, Call::RefillAtMost(2, 2)),
+    (By::First, Call::RefillAtMost(0, 0)),
+    (By::Second, Call::RefillAtMost(1, 1)),
+    (By::Second, Call::Rooms(3)),
+    (By::First, Call::RefillAtMost(9, 2)),
+    (By::First, Call::RefillAtMost(1, 0)),
+    (By::Second, Call::Push(true)),
+    (By::First, Call::Push(false)),
+    (By::First, Call::Take(2, 2)),
+    (By::First, Call::Rooms(3)),
+    (By::First, Call::GiveBack(3, true)),
+    (By::Second, Call::RefillAtMost(2, 2)),
+    (By::Second, Call::Rooms(4)),
+    (By::First, Call::Refill(1)),
+];
+
+/// A push takes 64 of the rooms that were given back, and the other party finds the rest.
+const A_QUANTUM: [(By, Call); 6] = [
+    (By::First, Call::GiveBack(100, true)),
+    (By::Second, Call::RefillAndPush(Some(true))),
+    (By::Second, Call::Rooms(63)),
+    (By::First, Call::RefillAndPush(Some(false))),
+    (By::First, Call::Rooms(35)),
+    (By::Second, Call::Take(2, 2)),
+];
+
 /// A stack without rooms has none that is given back.
 const NO_ROOM: [(By, Call); 5] = [
     (By::First, Call::GiveBack(0, true)),
@@ -151,6 +180,8 @@ const ALL_ROOMS: [(By, Call); 7] = [
 fn rooms_come_back(rt: HostRuntime) {
     calls_return(&rt, rt.alloc(), 4, &FOUR_ROOMS);
     calls_return(&rt, rt.alloc(), 4, &REFILLS);
+    calls_return(&rt, rt.alloc(), 5, &A_PART);
+    calls_return(&rt, rt.alloc(), 100, &A_QUANTUM);
     calls_return(&rt, rt.alloc(), 1, &ONE_ROOM);
     calls_return(&rt, rt.alloc(), MAX_ROOMS, &ALL_ROOMS);
 }

@@ -80,6 +80,8 @@ pub enum Call {
     GiveBack(usize, bool),
     /// How many rooms the party takes that were given back.
     Refill(usize),
+    /// The most rooms that the party takes of those that were given back, and how many it takes.
+    RefillAtMost(usize, usize),
     /// A push by one try, and whether nothing was held before.
     Push(bool),
     /// A push by one try that takes the rooms which were given back if the party has none, and whether nothing was held
@@ -139,6 +141,7 @@ pub fn make(
             same(rt, stack.give_back(party, rooms), wanted);
         }
         Call::Refill(wanted) => same(rt, stack.refill(party), wanted),
+        Call::RefillAtMost(most, wanted) => same(rt, stack.refill_at_most(party, most), wanted),
         Call::Push(first) => pushes(rt, stack, party, next_of(rt, stock), first),
         Call::RefillAndPush(wanted) => {
             let handle = next_of(rt, stock);

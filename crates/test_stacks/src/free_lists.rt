@@ -155,6 +155,32 @@ fn blocks_are_put_back_into_rooms_of_the_pool(rt: HostRuntime) {
     dropped(&rt, &drops, 4);
 }
 
+// Each takes a part of the rooms of the pool, first by itself and then to put a block back, and leaves the rest there.
+#[test]
+fn parties_share_the_rooms_of_the_pool(rt: HostRuntime) {
+    let drops = no_drops(&rt, rt.alloc());
+    let (one, two) = pair(&rt, rt.alloc(), 1, &drops);
+    let (list, party) = made(&rt, FreeList::new(rt.alloc(), 100));
+    let mut owner = Remote::at(&list, party);
+    let mut remote = owner.split(&rt, 0);
+    same(&rt, owner.give_back(&rt, 100), true);
+    same(
+        &rt,
+        (remote.refill_at_most(0), remote.refill_at_most(3)),
+        (0, 3),
+    );
+    same(&rt, (remote.refill_at_most(2), remote.rooms()), (2, 5));
+    remote.puts(&rt, one, true);
+    owner.refills_and_puts(&rt, two, Some(false));
+    same(&rt, (owner.rooms(), remote.rooms()), (63, 4));
+    same(&rt, (remote.refill_at_most(100), remote.rooms()), (31, 35));
+    same(&rt, remote.refill_at_most(1), 0);
+    let mut local = owner.local();
+    gets(&rt, &mut local, &[Some(2), Some(1), None]);
+    finishes(&rt, local, 65);
+    dropped(&rt, &drops, 2);
+}
+
 /// Puts a block back for all and gets it.
 fn put_and_get_one(
     rt: &impl Abort,

@@ -145,6 +145,11 @@ impl<'f> Remote<'f> {
         self.list.refill(&mut self.party)
     }
 
+    /// Takes at most this many rooms of the pool, and returns how many they are.
+    pub fn refill_at_most(&mut self, most: usize) -> usize {
+        self.list.refill_at_most(&mut self.party, most)
+    }
+
     /// Gives some of the rooms, which must be there, to the pool, and returns whether it has taken them.
     pub fn give_back(&mut self, rt: &impl Abort, rooms: usize) -> bool {
         at_most(rt, rooms, self.party.rooms());

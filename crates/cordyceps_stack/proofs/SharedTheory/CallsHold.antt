@@ -110,14 +110,14 @@ module _ {E : Type 0} where
     rooms = ap (λ (l : List ℕ). length l) is.rooms ∙ length-append m.0.free.rooms o.0.free.rooms;
   }
 
-  pub refilled_seated : (z z' : TableId) (n : ℕ) (m k : SeatState E) (free all : FreeRooms) → IsSeated z m free → z' ≡ z → parts.Refills z.slots n m k → Tracks all k.0.free → IsSeated z' k all
-  refilled_seated z z' n m k free all s at r have = record {
+  pub refilled_seated : (z z' : TableId) (m k : SeatState E) (free all : FreeRooms) → IsSeated z m free → z' ≡ z → IsResting z.slots k → Sees m.0 [] k.0 → Tracks all k.0.free → IsSeated z' k all
+  refilled_seated z z' m k free all s at rests sees have = record {
     table = subst (λ q. IsTable q) (sym at) s.table;
-    rests = subst (λ (q : TableId). IsResting q.slots k) (sym at) r.rests;
+    rests = subst (λ (q : TableId). IsResting q.slots k) (sym at) rests;
     tracks = have;
-    legal = r.sees.legal;
-    alone = r.sees.alone;
-    share = subst IsShare (sym r.sees.share) s.share;
+    legal = sees.legal;
+    alone = sees.alone;
+    share = subst IsShare (sym sees.share) s.share;
   }
 
   pub gave_seated : (z z' : TableId) (n : ℕ) (gave : Bool) (m k : SeatState E) (free left : FreeRooms) → IsSeated z m free → z' ≡ z → parts.GivesBack n gave m k → Tracks left k.0.free → IsSeated z' k left
@@ -177,11 +177,11 @@ module _ {E : Type 0} where
         h.free ∙ ((λ i. length (t.free i).rooms + length (to_hand_out mid.0.doing)) ∙ ap (λ n. length m.0.free.rooms + n) (sym (length_elements (to_hand_out mid.0.doing)))),
       )
 
-  pub refills : (z z' : TableId) (n : ℕ) (m k : SeatState E) → parts.Refills z.slots n m k → z' ≡ z → Refills n (standing z m.0) (standing z' k.0)
-  refills z z' n m k r at = (adds z z' m.0 k.0 [] r.sees at, r.free)
+  pub refills : (z z' : TableId) (n : ℕ) (m k : SeatState E) → length k.0.free.rooms ≡ length m.0.free.rooms + n → Sees m.0 [] k.0 → z' ≡ z → Refills n (standing z m.0) (standing z' k.0)
+  refills z z' n m k free sees at = (adds z z' m.0 k.0 [] sees at, free)
 
-  pub refills_all : (z z' : TableId) (n : ℕ) (m k : SeatState E) → parts.Refills z.slots n m k → z' ≡ z → m.0.known.share ≡ whole → HasAllRooms (standing z' k.0)
-  refills_all z z' n m k r at is = let all = r.all is in let slots = ap (λ (q : TableId). q.slots) at in omega arith
+  pub has_all : (z z' : TableId) (k : SeatState E) → z' ≡ z → length (held (plain k.0.known.seen)) + length k.0.free.rooms ≡ z.slots → HasAllRooms (standing z' k.0)
+  has_all z z' k at all = let slots = ap (λ (q : TableId). q.slots) at in omega arith
 
   pub gives_back : (z z' : TableId) (n : ℕ) (gave : Bool) (m k : SeatState E) → parts.GivesBack n gave m k → z' ≡ z → GivesBack n gave (standing z m.0) (standing z' k.0)
   gives_back z z' n true m k is at = (λ i. standing (at i) (is i).0) ∙ ap (λ c. let p : PartyOf E = record { table = z; seen = m.0.known.seen; share = m.0.known.share; rooms = c } in p) (length-drop n m.0.free.rooms)

@@ -152,9 +152,9 @@ module _ {E : Type 0} where
   refilled_to slots had most n false m p k r low above g lacks =
       let free = ap (λ (q : SeatState E). length q.0.free.rooms) g in
       let full : m.0.known.share ≡ whole → ⊥ = λ is.
-          let all = r.all is in
-          let less = lacks refl (r.sees.share ∙ is) in
-          let quiet = ap (λ d. length (held_rooms d)) r.rests.idle in omega arith
+      let all = r.all is in
+      let less = lacks refl (r.sees.share ∙ is) in
+      let quiet = ap (λ d. length (held_rooms d)) r.rests.idle in omega arith
       in record {
         rests = subst (IsResting slots) (sym g) r.rests;
         sees = subst (λ (q : SeatState E). Sees m.0 [] q.0) (sym g) r.sees;

@@ -1,5 +1,5 @@
 //! The stack that threads share.
-ghost use Rattle.std.specs.Prelude.{◌≡◌, ◌<◌, ◌≤◌, List, length, map, reverse, true, false, is_ok, MatchResult};
+ghost use Rattle.std.specs.Prelude.{◌≡◌, ◌<◌, ◌≤◌, List, length, map, max, reverse, true, false, is_ok, MatchResult};
 ghost use Rattle.std.specs.Prelude.{IfOk, IfErr};
 ghost use Rattle.cordyceps_shared.specs.Histories.{plain};
 ghost use Rattle.cordyceps_shared.specs.Shares.{whole};
@@ -17,6 +17,7 @@ use cordyceps_base::linked::Linked;
 use cordyceps_base::shared::MAX_ROOMS;
 use cordyceps_base::stack::Links;
 use cordyceps_shared::free::FreeRooms;
+use cordyceps_shared::pool::QUANTUM;
 use cordyceps_shared::required;
 use cordyceps_single::stack::Stack;
 use std::alloc::{AllocError, Global};
@@ -43,6 +44,7 @@ use std::marker::Model;
 /// | `try_push`, `try_push_all`, `refill_and_try_push` | yes | one may fail, and returns its elements |
 /// | `take_all`, `is_empty` | yes | one takes all elements that are there; the other finds none of them |
 /// | `refill` | yes | one gets the rooms of the pool; the other finds none |
+/// | `refill_at_most` | yes | one gets rooms of the pool; the other finds what is left, or none |
 /// | `give_back` | yes | one puts its rooms into the pool; the other returns `false` |
 /// | `split`, `absorb` | yes | yes |
 /// | `close`, and the stack's drop | no: they take the stack, when no other thread has it | |
@@ -185,8 +187,8 @@ impl<T: Linked<Links<T>>> TransferStack<T> {
         steps::try_push(&self.rooms.shared, &mut party.seat, &mut party.free, handle)
     }
 
-    /// Tries once to push an element. If the party has no room, it takes those of the pool first. Returns `true` if the
-    /// stack was empty just before.
+    /// Tries once to push an element. If the party has no room, it takes at most `QUANTUM` of the pool first, as
+    /// `refill_at_most` does. Returns `true` if the stack was empty just before.
     ///
     /// # Errors
     /// It returns `Full` if the party has no room and the pool has none. Where a whole party finds that, each room of
@@ -194,7 +196,7 @@ impl<T: Linked<Links<T>>> TransferStack<T> {
     /// steps of the try. The party then has a room. To a whole party this never happens. Both return the handle.
     ///
     /// # Complexity
-    /// O(1): that of `try_push`, and of `refill` if the party has no room.
+    /// O(1): that of `try_push`, and of `refill_at_most` with `QUANTUM` if the party has no room.
     ///
     /// # Waits
     /// Never.
@@ -207,9 +209,10 @@ impl<T: Linked<Links<T>>> TransferStack<T> {
         ensures answer { MatchResult result
             (λ first. PushesRefilled handle first party.old party.new)
             (λ error. FailsToPush handle error party.old party.new) }
+        ensures few { party.old.share ≡ whole → party.new.rooms ≤ max party.old.rooms QUANTUM }
         ensures whole { party.old.share ≡ whole → IfErr result (λ error. IsCertainlyFull error party.new) }
     {
-        if party.rooms() == 0 && self.refill(party) == 0 {
+        if party.rooms() == 0 && self.refill_at_most(party, QUANTUM) == 0 {
             return Err(TryPushError::Full(handle));
         }
         match self.try_push(party, handle) {
@@ -293,6 +296,28 @@ impl<T: Linked<Links<T>>> TransferStack<T> {
         ensures whole { party.old.share ≡ whole → HasAllRooms party.new }
     {
         pool::refill(&self.rooms.shared, &mut party.seat, &mut party.free)
+    }
+
+    /// Takes at most `most` rooms of the pool, which become the party's, and returns how many they are. The others stay
+    /// in the pool for other parties.
+    ///
+    /// It takes all and gives what is above `most` back at once. If another party gives rooms back between the two, it
+    /// tries that again, up to 8 times, and then keeps what it took. So it can take more than `most` only while others
+    /// give rooms back. A whole party never does, and if it takes fewer, it has each room of the stack that has no
+    /// element in it.
+    ///
+    /// # Complexity
+    /// O(k), for the k rooms that the party then has, and O(1) where the pool has at most `most`.
+    ///
+    /// # Waits
+    /// Never.
+    pub fn refill_at_most(&self, party: &mut Party<T>, most: usize) -> usize
+        requires { party.old.table ≡ self.now }
+        ensures answer { Refills result party.old party.new }
+        ensures few { party.old.share ≡ whole → result ≤ most }
+        ensures whole { party.old.share ≡ whole → result < most → HasAllRooms party.new }
+    {
+        pool::refill_at_most(&self.rooms.shared, &mut party.seat, &mut party.free, most)
     }
 
     /// Gives `rooms` of the party's rooms to the pool, from where each party may take them, and returns `true`. If

@@ -2,31 +2,26 @@ use Rattle.std.proofs.Common.{◌≡◌, ap, ◌∙◌, subst, rules}
 use Rattle.atomic_table.specs.Seated.{TableId}
 use Rattle.cordyceps_stack.specs.Shared.Calls.{Refills}
 use Rattle.cordyceps_stack.specs.Shared.Parts.{standing}
-use Rattle.cordyceps_stack.specs.Shared.Parts as parts
-use Rattle.cordyceps_stack.proofs.SharedTheory.CallsHold.{refilled_seated, refills, refills_all}
+use Rattle.cordyceps_stack.specs.Shared.Plays.{IsResting}
+use Rattle.cordyceps_stack.proofs.SharedTheory.CallsHold.{refilled_seated, refills, has_all}
 use Rattle.cordyceps_stack.proofs.shared.calls.TransferStack.refill.Goals as goal
 
 pub invariant_of-party : goal.invariant_of-party
 invariant_of-party g c =
     let e = c.refill.ensures in
-    let m = c.party.inside.seat.me in
-    let k = c.refill.new.seat.me in
     let same : c.self.inside.rooms.shared.table_id ≡ c.party.inside.seat.table_id = search rules in
-    refilled_seated _ _ c.refill.result m k _ _ c.party.invariant e.table (subst (λ (z : TableId). parts.Refills z.slots c.refill.result m k) same e.refills) e.tracks
+    refilled_seated _ _ c.party.inside.seat.me c.refill.new.seat.me _ _ c.party.invariant e.table (subst (λ (z : TableId). IsResting z.slots c.refill.new.seat.me) same e.refills.rests) e.refills.sees e.tracks
 
 pub returns-clause-answer : goal.returns-clause-answer
 returns-clause-answer g c =
     let e = c.refill.ensures in
     let m = c.party.inside.seat.me in
     let k = c.refill.new.seat.me in
-    let same : c.self.inside.rooms.shared.table_id ≡ c.party.inside.seat.table_id = search rules in
-    let t = refills c.party.inside.seat.table_id c.refill.new.seat.table_id c.refill.result m k (subst (λ (z : TableId). parts.Refills z.slots c.refill.result m k) same e.refills) e.table in
-    subst (λ u. Refills c.refill.result u (standing c.refill.new.seat.table_id k.0)) c.party.view_is t
+    subst (λ u. Refills c.refill.result u (standing c.refill.new.seat.table_id k.0)) c.party.view_is
+    (refills c.party.inside.seat.table_id c.refill.new.seat.table_id c.refill.result m k e.refills.free e.refills.sees e.table)
 
 pub returns-clause-whole : goal.returns-clause-whole
 returns-clause-whole g c is =
     let e = c.refill.ensures in
-    let m = c.party.inside.seat.me in
-    let k = c.refill.new.seat.me in
     let same : c.self.inside.rooms.shared.table_id ≡ c.party.inside.seat.table_id = search rules in
-    refills_all c.party.inside.seat.table_id c.refill.new.seat.table_id c.refill.result m k (subst (λ (z : TableId). parts.Refills z.slots c.refill.result m k) same e.refills) e.table (ap (λ u. u.share) c.party.view_is ∙ is)
+    has_all c.party.inside.seat.table_id c.refill.new.seat.table_id c.refill.new.seat.me e.table (e.refills.all (ap (λ u. u.share) c.party.view_is ∙ is) ∙ ap (λ (z : TableId). z.slots) same)
