@@ -262,7 +262,9 @@ class Writer:
             for it in points.items():
                 self.page.point(*it)
         else:
-            self.page.point(f"`{name}`", "; ".join(f"{n[0].lower()}{n[1:]}: {it}" for n, it in points.items() if it))
+            # (a sentence has no stop before the semicolon)
+            said = [f"{n[0].lower()}{n[1:]}: {it.removesuffix('.')}" for n, it in points.items() if it]
+            self.page.point(f"`{name}`", "; ".join(said))
 
     def words(self, lines, words):
         """The definitions that some lines name, which the page then explains."""
