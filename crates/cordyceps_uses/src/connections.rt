@@ -17,24 +17,24 @@ use std::marker::Model;
 /// A connection to a peer. Connections are compared only by the time of their last activity.
 #[derive(Clone, Copy, Drop)]
 #[derive_where(PartialEq, Eq, PartialOrd, Ord)]
-pub struct Connection {
+pub struct Connection<P> {
     /// The time of the last activity, in ticks of any clock.
     pub last_active: u64,
-    /// The number of the peer.
+    /// What is kept of the peer, as its number or its socket.
     #[derive_where(skip)]
-    pub peer: u32,
+    pub peer: P,
 }
 
-impl<L: Kind> Linked<L> for Connection {
-    type Handle = Node<Connection, L>;
+impl<P: Drop, L: Kind> Linked<L> for Connection<P> {
+    type Handle = Node<Connection<P>, L>;
 
     ghost element = { λ node. node };
 
-    fn into_ptr(node: Node<Connection, L>) -> Node<Connection, L> {
+    fn into_ptr(node: Node<Connection<P>, L>) -> Node<Connection<P>, L> {
         node
     }
 
-    fn from_ptr(node: Node<Connection, L>) -> Node<Connection, L>
+    fn from_ptr(node: Node<Connection<P>, L>) -> Node<Connection<P>, L>
         ensures { result ≡ node }
     {
         node
@@ -42,7 +42,7 @@ impl<L: Kind> Linked<L> for Connection {
 }
 
 /// A connection in a node. The number of the node is that of the connection.
-pub type ConnectionNode = Node<Connection, Links<Connection>>;
+pub type ConnectionNode<P> = Node<Connection<P>, Links<Connection<P>>>;
 
 /// A table of open connections, up to a capacity. A contract sees each connection with its spot, the one that was idle
 /// longest first, and the capacity.
@@ -50,15 +50,15 @@ pub type ConnectionNode = Node<Connection, Links<Connection>>;
 /// # Complexity
 /// Dropping the table frees the node of each connection: O(n), for n connections.
 #[derive(Drop)]
-pub struct Connections {
-    list: StableSortedList<Connection, Least>,
+pub struct Connections<P: Drop> {
+    list: StableSortedList<Connection<P>, Least>,
     capacity: usize,
 }
 
-impl Model for Connections {
+impl<P: Drop> Model for Connections<P> {
     ghost use Rattle.cordyceps_uses.specs.Connections.{IsKept, OpenConnections};
 
-    ghost Value = { OpenConnections };
+    ghost Value = { OpenConnections P };
 
     ghost view = { λ t. record { nodes = t.list.nodes; capacity = t.capacity } };
 
@@ -67,19 +67,19 @@ impl Model for Connections {
 
 /// The result of `Connections::open`.
 #[derive(Drop)]
-pub struct Opened {
+pub struct Opened<P: Drop> {
     /// The spot of the new connection.
     pub spot: Spot,
     /// The connection that was closed to make room, or `None` if the table was not full.
-    pub evicted: Option<ConnectionNode>,
+    pub evicted: Option<ConnectionNode<P>>,
 }
 
-impl Connections {
+impl<P: Drop> Connections<P> {
     /// Creates a table without connections. Requires a capacity of at least 1. Allocates nothing.
     ///
     /// # Complexity
     /// O(1).
-    pub fn new(capacity: usize) -> Connections
+    pub fn new(capacity: usize) -> Connections<P>
         requires { 0 < capacity }
         ensures nodes { result.nodes ≡ [] }
         ensures capacity { result.capacity ≡ capacity }
@@ -115,7 +115,7 @@ impl Connections {
     ///
     /// # Complexity
     /// O(k + 1), where k is the number of connections that were active later, and O(1) if all others were.
-    pub fn open(&mut self, node: ConnectionNode) -> Opened
+    pub fn open(&mut self, node: ConnectionNode<P>) -> Opened<P>
         ensures opened { Evicts self.old self.new result.evicted result.spot node }
         ensures distinct { AreDistinct (spots self.new.nodes) }
     {
@@ -125,7 +125,7 @@ impl Connections {
     }
 
     /// Closes the connection that was idle longest and returns it, or returns `None` if the table is not full.
-    fn make_room(&mut self) -> Option<ConnectionNode>
+    fn make_room(&mut self) -> Option<ConnectionNode<P>>
         ensures evicted { MatchOption result
             ((self.new.nodes ≡ self.old.nodes) × (length self.old.nodes < self.old.capacity))
             (λ out. TakesIdlest self.old.nodes out self.new.nodes × (length self.old.nodes ≡ self.old.capacity)) }
@@ -151,7 +151,7 @@ impl Connections {
     {
         self.list.update(
             spot,
-            move |connection: &mut Connection| -> ()
+            move |connection: &mut Connection<P>| -> ()
                 ensures last_active { connection.new.last_active ≡ now }
                 ensures peer { connection.new.peer ≡ connection.old.peer }
             {
@@ -164,7 +164,7 @@ impl Connections {
     ///
     /// # Complexity
     /// O(1).
-    pub fn close(&mut self, spot: Spot) -> ConnectionNode
+    pub fn close(&mut self, spot: Spot) -> ConnectionNode<P>
         requires { HasSpot self.old.nodes spot }
         ensures closed { IsTaken self.old.nodes spot result self.new.nodes }
         ensures capacity { self.new.capacity ≡ self.old.capacity }
@@ -178,7 +178,7 @@ impl Connections {
     ///
     /// # Complexity
     /// O(1).
-    pub fn expire(&mut self, since: u64) -> Option<ConnectionNode>
+    pub fn expire(&mut self, since: u64) -> Option<ConnectionNode<P>>
         ensures expired { MatchOption result
             ((self.new ≡ self.old) × AllActiveSince since self.old.nodes)
             (λ out. TakesIdlest self.old.nodes out self.new.nodes × (out.value.last_active < since)) }

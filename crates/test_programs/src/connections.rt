@@ -26,7 +26,7 @@ enum Call {
 fn open(
     rt: &impl Abort,
     alloc: Global,
-    table: &mut Connections,
+    table: &mut Connections<u32>,
     id: u64,
     time: u64,
 ) -> Option<u64> {
@@ -42,7 +42,7 @@ fn open(
 fn open_and_close(
     rt: &impl Abort,
     alloc: Global,
-    table: &mut Connections,
+    table: &mut Connections<u32>,
     id: u64,
     time: u64,
 ) -> (u64, u32) {
@@ -56,7 +56,7 @@ fn open_and_close(
 }
 
 /// Makes a call, and compares what it returns with what is wanted.
-fn returns(rt: &impl Abort, alloc: Global, table: &mut Connections, call: Call) {
+fn returns(rt: &impl Abort, alloc: Global, table: &mut Connections<u32>, call: Call) {
     match call {
         Call::Open(id, time, evicted) => same(rt, open(rt, alloc, table, id, time), evicted),
         Call::OpenAndClose(id, time) => {
