@@ -6,6 +6,7 @@ pub mod CallsHold
 pub mod CloseTakesAll
 pub mod DequeueKeeps
 pub mod EnqueueKeeps
+pub mod GivingAll
 pub mod HolderAllowed
 pub mod OthersDoing
 pub mod OwnNames

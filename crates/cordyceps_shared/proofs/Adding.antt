@@ -4,7 +4,7 @@ use Rattle.cordyceps_shared.specs.Histories.{plain, own, others, AllOwn}
 use Rattle.cordyceps_shared.specs.Knowing.{without_marks, merge_marks, IsPrefixOf}
 use Rattle.cordyceps_shared.specs.Shares.{Name, whole, keeps_half, gives_half}
 use Rattle.cordyceps_shared.specs.Standings.{Standing, known_of, Adds}
-use Rattle.cordyceps_shared.proofs.StepEvents.{grown_then}
+use Rattle.cordyceps_shared.proofs.StepEvents.{grown_none, grown_then}
 
 -- one more of the same at the end
 pub replicate_more : {A : Type 0} (n : ℕ) (a : A) (xs : List A) → replicate n a ++ a ∷ xs ≡ replicate (suc n) a ++ xs
@@ -55,6 +55,9 @@ module _ {X : Type 0} where
 module _ {X : Type 0} (actor : X → Name) (Legal : List X → Type 0) where
   pub adds_then : (u v w : Standing X) (xs ys : List X) → Adds actor Legal u xs v → Adds actor Legal v ys w → Adds actor Legal u (xs ++ ys) w
   adds_then u v w xs ys a b = (grown_then actor Legal (known_of u) (known_of v) (known_of w) xs ys a.0 b.0, b.1 ∙ a.1)
+
+  pub adds_none : (u w : Standing X) (xs : List X) → Adds actor Legal u xs w → Adds actor Legal w [] w
+  adds_none u w xs a = (grown_none actor Legal (known_of u) (known_of w) xs a.0, refl)
 
   -- a whole party has seen just what it had seen, and its own events
   pub whole_adds : (u w : Standing X) (es : List X) → u.share ≡ whole → Adds actor Legal u es w → plain w.seen ≡ plain u.seen ++ es

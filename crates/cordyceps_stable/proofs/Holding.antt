@@ -1,9 +1,9 @@
 -- What a stable list holds after a call, and at which spots.
-use Rattle.std.proofs.Common.{append_assoc, append-nil, ◌≡◌, ℕ, zero, suc, [], ◌∷◌, ◌++◌, ◌+◌, length, length-append, slice_get, Some, refl, sym, ap, ◌∙◌, subst, ◌⊎◌, inl, inr, arith}
+use Rattle.std.proofs.Common.{append_assoc, append-nil, ◌≡◌, ℕ, zero, suc, List, [], ◌∷◌, ◌++◌, ◌+◌, length, length-append, slice_get, Some, refl, sym, ap, ◌∙◌, subst, ◌⊎◌, inl, inr, arith}
 use denote.RawPtr.{Ptr}
 use Rattle.cordyceps_base.specs.BySpot.{HasSpot, IsTaken, IsPutBefore, IsPutAfter, IsLast, AreNext}
-use Rattle.cordyceps_base.specs.Element.{Element}
-use Rattle.cordyceps_base.specs.Nodes.{Nodes, spots, with_item}
+use Rattle.cordyceps_base.specs.Element.{Element, values}
+use Rattle.cordyceps_base.specs.Nodes.{Nodes, elements, spots, with_item}
 use Rattle.cordyceps_base.specs.Spots.{IsNew, AreDistinct}
 use Rattle.cordyceps_base.proofs.SpotsMemory.{same_ptr_refl}
 use Rattle.cordyceps_stable.specs.Agreeing.{HasElementAt}
@@ -174,3 +174,8 @@ module _ {X : Type 0} where
   pub distinct_less : (b a : Nodes X) (n : Ptr × Element X) → AreDistinct (spots (b ++ n ∷ a)) → AreDistinct (spots (b ++ a))
   distinct_less [] a n h = h.1
   distinct_less (x ∷ b) a n h = (new_less x.0 b a n h.0, distinct_less b a n h.1)
+
+  -- the values tell the first node, and what is after it
+  pub first_value : (c : Nodes X) (v : X) (rest : List X) → values (elements c) ≡ v ∷ rest → (n : Ptr × Element X) × (d : Nodes X) × (c ≡ n ∷ d) × (n.1.value ≡ v) × (values (elements d) ≡ rest)
+  first_value [] v rest e = absurd cc
+  first_value (n ∷ d) v rest e = let first : n.1.value ≡ v = cc in let left : values (elements d) ≡ rest = cc in (n, d, refl, first, left)

@@ -2,6 +2,7 @@
 pub mod CallsHold
 pub mod ChainJoins
 pub mod ChainKeeps
+pub mod GivingAll
 pub mod OrderHolds
 pub mod PartingKeeps
 pub mod PartsJoin

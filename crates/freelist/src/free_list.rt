@@ -6,7 +6,7 @@ ghost use Rattle.cordyceps_shared.specs.Shares.{whole};
 ghost use Rattle.cordyceps_shared.specs.Standings.{new_party, keeping, giving, Absorbs, GivesBack};
 ghost use Rattle.cordyceps_stack.specs.History.{held, Legal};
 ghost use Rattle.cordyceps_stack.specs.Shared.Calls.{PushesAt, PushesAllAt, Misses};
-ghost use Rattle.cordyceps_stack.specs.Shared.Calls.{Refills, HasAllRooms, LacksRooms};
+ghost use Rattle.cordyceps_stack.specs.Shared.Calls.{Refills, GivesAllBack, HasAllRooms, LacksRooms};
 ghost use Rattle.cordyceps_stack.specs.Shared.Calls.{PushesRefilled, FailsToPush, IsCertainlyFull};
 
 use crate::local::Local;
@@ -210,6 +210,25 @@ impl<T: Linked<Links<T>>> FreeList<T> {
     {
         required::as_many_rooms(rooms, party.rooms());
         self.shared.give_back(party, rooms)
+    }
+
+    /// Gives all rooms of the party to the pool, together with those that are there, and returns `true`. A party that
+    /// ends calls it before it is absorbed or dropped.
+    ///
+    /// It returns `false` only if other parties gave rooms back each of 8 times that it tried. The party then has no
+    /// fewer rooms than before, so call it again. A whole party always gets `true`.
+    ///
+    /// # Complexity
+    /// O(1).
+    ///
+    /// # Waits
+    /// Never.
+    pub fn give_all_back(&self, party: &mut Party<T>) -> bool
+        requires { party.old.table ≡ self.now }
+        ensures answer { GivesAllBack result party.old party.new }
+        ensures whole { party.old.share ≡ whole → result ≡ true }
+    {
+        self.shared.give_all_back(party)
     }
 
     /// Splits a new party off `party`, which gives it `rooms` of its rooms and a part of its share. The new party has

@@ -33,6 +33,8 @@ pub enum Call {
     RefillAtMost(usize),
     /// Gives this many rooms to the pool.
     GiveBack(usize),
+    /// Gives all rooms to the pool, with those that are there.
+    GiveAllBack,
     /// Tries once to dequeue.
     Try,
     /// Dequeues, and may wait.
@@ -242,6 +244,10 @@ impl<'q> Actor<'q> {
             }
             Call::GiveBack(rooms) => {
                 let gave = seat.give_back(rt, rooms);
+                return Reply::Gave(gave, seat.rooms(rt));
+            }
+            Call::GiveAllBack => {
+                let gave = seat.give_all_back(rt);
                 return Reply::Gave(gave, seat.rooms(rt));
             }
             Call::Release => {

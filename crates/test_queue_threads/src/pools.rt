@@ -77,6 +77,18 @@ const SOME_ROOMS: [Line; 12] = [
     (0, Call::Refill, Reply::Refilled(2, 2)),
 ];
 
+/// All rooms go to the pool, also where others are there.
+const ALL_BACK: [Line; 8] = [
+    (0, Call::Split(1), Reply::Rooms(2)),
+    (0, Call::GiveAllBack, Reply::Gave(true, 0)),
+    (1, Call::GiveBack(1), Reply::Gave(false, 1)),
+    (1, Call::GiveAllBack, Reply::Gave(true, 0)),
+    (1, Call::GiveAllBack, Reply::Gave(true, 0)),
+    (0, Call::RefillAtMost(2), Reply::Refilled(2, 2)),
+    (0, Call::GiveAllBack, Reply::Gave(true, 0)),
+    (1, Call::Refill, Reply::Refilled(3, 3)),
+];
+
 /// A party takes a part of the pool, and others find the rest, until it is empty.
 const A_PART: [Line; 18] = [
     (0, Call::Split(0), Reply::Rooms(5)),
@@ -180,6 +192,7 @@ fn rooms_come_back(rt: HostRuntime) {
     alone(&rt, rt.alloc(), 1, 3, &[&ONE_ROOM]);
     alone(&rt, rt.alloc(), 3, 4, &[&ALL_ROOMS]);
     alone(&rt, rt.alloc(), 4, 5, &[&SOME_ROOMS]);
+    alone(&rt, rt.alloc(), 3, 0, &[&ALL_BACK]);
     alone(&rt, rt.alloc(), 5, 8, &[&A_PART]);
     alone(&rt, rt.alloc(), 100, 3, &[&A_QUANTUM]);
     for claim in [Claim::Try, Claim::TryOwned] {

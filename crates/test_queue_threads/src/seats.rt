@@ -196,6 +196,14 @@ impl<'q> Seat<'q> {
         }
     }
 
+    /// Gives all rooms to the pool, with those that are there, and returns whether it has taken them.
+    pub fn give_all_back(&mut self, rt: &impl Abort) -> bool {
+        let Seat::Party(it) = self else {
+            panic!(rt; "only a party gives all rooms back");
+        };
+        it.queue.give_all_back(&mut it.party)
+    }
+
     /// Tries once to dequeue an element.
     pub fn try_take(&mut self, rt: &impl Abort) -> Result<Handle, TryDequeueError> {
         match self {

@@ -114,6 +114,19 @@ const REFILLS: [(By, Call); 17] = [
     (By::Second, Call::Rooms(4)),
 ];
 
+/// All rooms are given back, also where others were before.
+const ALL_BACK: [(By, Call); 9] = [
+    (By::First, Call::GiveBack(1, true)),
+    (By::First, Call::GiveBack(1, false)),
+    (By::First, Call::GiveAllBack(true)),
+    (By::First, Call::Rooms(0)),
+    (By::First, Call::GiveAllBack(true)),
+    (By::Second, Call::RefillAtMost(2, 2)),
+    (By::Second, Call::GiveAllBack(true)),
+    (By::Second, Call::Rooms(0)),
+    (By::First, Call::Refill(3)),
+];
+
 /// A party takes a part of what was given back, and the other finds the rest.
 const A_PART: [(By, Call); 15] = [
     (By::First, Call::GiveBack(5, true)),
@@ -180,6 +193,7 @@ const ALL_ROOMS: [(By, Call); 7] = [
 fn rooms_come_back(rt: HostRuntime) {
     calls_return(&rt, rt.alloc(), 4, &FOUR_ROOMS);
     calls_return(&rt, rt.alloc(), 4, &REFILLS);
+    calls_return(&rt, rt.alloc(), 3, &ALL_BACK);
     calls_return(&rt, rt.alloc(), 5, &A_PART);
     calls_return(&rt, rt.alloc(), 100, &A_QUANTUM);
     calls_return(&rt, rt.alloc(), 1, &ONE_ROOM);

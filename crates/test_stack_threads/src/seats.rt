@@ -78,6 +78,8 @@ pub enum Call {
     IsEmpty(bool),
     /// So many rooms are given back, if no others lie there.
     GiveBack(usize, bool),
+    /// Whether all rooms are given back, with those that were before.
+    GiveAllBack(bool),
     /// How many rooms the party takes that were given back.
     Refill(usize),
     /// The most rooms that the party takes of those that were given back, and how many it takes.
@@ -140,6 +142,7 @@ pub fn make(
             at_most(rt, rooms, party.rooms());
             same(rt, stack.give_back(party, rooms), wanted);
         }
+        Call::GiveAllBack(wanted) => same(rt, stack.give_all_back(party), wanted),
         Call::Refill(wanted) => same(rt, stack.refill(party), wanted),
         Call::RefillAtMost(most, wanted) => same(rt, stack.refill_at_most(party, most), wanted),
         Call::Push(first) => pushes(rt, stack, party, next_of(rt, stock), first),

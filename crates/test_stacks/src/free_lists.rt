@@ -173,7 +173,8 @@ fn parties_share_the_rooms_of_the_pool(rt: HostRuntime) {
     remote.puts(&rt, one, true);
     owner.refills_and_puts(&rt, two, Some(false));
     same(&rt, (owner.rooms(), remote.rooms()), (63, 4));
-    same(&rt, (remote.refill_at_most(100), remote.rooms()), (31, 35));
+    same(&rt, (remote.give_all_back(), remote.rooms()), (true, 0));
+    same(&rt, (remote.refill_at_most(100), remote.rooms()), (35, 35));
     same(&rt, remote.refill_at_most(1), 0);
     let mut local = owner.local();
     gets(&rt, &mut local, &[Some(2), Some(1), None]);

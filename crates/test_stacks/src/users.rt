@@ -156,6 +156,11 @@ impl<'f> Remote<'f> {
         self.list.give_back(&mut self.party, rooms)
     }
 
+    /// Gives all rooms to the pool, with those that are there, and returns whether it has taken them.
+    pub fn give_all_back(&mut self) -> bool {
+        self.list.give_all_back(&mut self.party)
+    }
+
     /// Puts a block back into a room that must be there, by one try.
     fn try_put(&mut self, rt: &impl Abort, block: Handle) -> Result<(), Handle> {
         has_room(rt, self.party.rooms());

@@ -1,5 +1,6 @@
 -- What the calls of a shared transfer stack promise: of the party u before, and of the party w after.
-use Rattle.std.specs.Prelude.{◌≡◌, ◌↔◌, ℕ, suc, ◌+◌, ◌<◌, List, [], ◌∷◌, ◌++◌, length, replicate, Bool, true, IsTrue, map, reverse}
+use Rattle.std.specs.Prelude.{◌≡◌, ◌↔◌, ℕ, suc, ◌+◌, ◌<◌, ◌≤◌, List, [], ◌∷◌, ◌++◌, length, replicate}
+use Rattle.std.specs.Prelude.{Bool, true, false, IsTrue, map, reverse}
 use Rattle.cordyceps_shared.specs.Histories.{plain, own}
 use Rattle.cordyceps_shared.specs.Shares.{Name}
 use Rattle.cordyceps_shared.specs.Standings.{Standing, name_of}
@@ -72,6 +73,12 @@ module _ {E : Type 0} where
   -- it took n rooms of the pool
   abbrev pub Refills : ℕ → PartyOf E → PartyOf E → Type 0
   Refills n u w = Adds u [] w × (w.rooms ≡ u.rooms + n)
+
+  -- it gave all its rooms to the pool, with those that were there; or others gave rooms back each time that it tried, and
+  -- it has no fewer than before
+  abbrev pub GivesAllBack : Bool → PartyOf E → PartyOf E → Type 0
+  GivesAllBack true u w = Adds u [] w × (w.rooms ≡ 0)
+  GivesAllBack false u w = Adds u [] w × (u.rooms ≤ w.rooms)
 
   -- each room is the party's, or has one of the elements that its history holds
   abbrev pub HasAllRooms : PartyOf E → Type 0

@@ -1,15 +1,16 @@
 //! The stack that threads share.
-ghost use Rattle.std.specs.Prelude.{◌≡◌, ◌<◌, ◌≤◌, List, length, map, max, reverse, true, false, is_ok, MatchResult};
+ghost use Rattle.std.specs.Prelude.{◌≡◌, ◌<◌, ◌≤◌, List, [], length, map, max, reverse, true, false, is_ok, MatchResult};
 ghost use Rattle.std.specs.Prelude.{IfOk, IfErr};
 ghost use Rattle.cordyceps_shared.specs.Histories.{plain};
 ghost use Rattle.cordyceps_shared.specs.Shares.{whole};
 ghost use Rattle.cordyceps_shared.specs.Standings.{new_party, keeping, giving, Knows, Absorbs, GivesBack};
 ghost use Rattle.cordyceps_stack.specs.History.{held, Legal};
 ghost use Rattle.cordyceps_stack.specs.Shared.Calls.{PushesAt, PushesAllAt, Misses, Takes, Looks};
-ghost use Rattle.cordyceps_stack.specs.Shared.Calls.{Refills, HasAllRooms, LacksRooms};
+ghost use Rattle.cordyceps_stack.specs.Shared.Calls.{Adds, Refills, GivesAllBack, HasAllRooms, LacksRooms};
 ghost use Rattle.cordyceps_stack.specs.Shared.Calls.{PushesRefilled, FailsToPush, IsCertainlyFull};
 
 use crate::shared::batch::hand_out;
+use crate::shared::pool::MORE_TRIES;
 use crate::shared::push_error::TryPushError;
 use crate::shared::table::{OwnedTable, PartySeat};
 use crate::shared::{chain, parting, pool, steps};
@@ -46,6 +47,7 @@ use std::marker::Model;
 /// | `refill` | yes | one gets the rooms of the pool; the other finds none |
 /// | `refill_at_most` | yes | one gets rooms of the pool; the other finds what is left, or none |
 /// | `give_back` | yes | one puts its rooms into the pool; the other returns `false` |
+/// | `give_all_back` | yes | one puts its rooms into the pool; the other takes these and puts all there |
 /// | `split`, `absorb` | yes | yes |
 /// | `close`, and the stack's drop | no: they take the stack, when no other thread has it | |
 ///
@@ -337,6 +339,51 @@ impl<T: Linked<Links<T>>> TransferStack<T> {
     {
         required::as_many_rooms(rooms, party.rooms());
         pool::give_back(&self.rooms.shared, &mut party.seat, &mut party.free, rooms)
+    }
+
+    /// Gives all rooms of the party to the pool, together with those that are there, and returns `true`. A party that
+    /// ends calls it before it is absorbed or dropped.
+    ///
+    /// It returns `false` only if other parties gave rooms back each of 8 times that it tried. The party then has no
+    /// fewer rooms than before, so call it again. A whole party always gets `true`.
+    ///
+    /// # Complexity
+    /// O(1).
+    ///
+    /// # Waits
+    /// Never.
+    pub fn give_all_back(&self, party: &mut Party<T>) -> bool
+        requires { party.old.table ≡ self.now }
+        ensures answer { GivesAllBack result party.old party.new }
+        ensures whole { party.old.share ≡ whole → result ≡ true }
+    {
+        self.take_and_give_back(party) || self.take_and_give_back_again(party)
+    }
+
+    /// Takes the rooms of the pool and gives them back with the party's, and returns `true`. If other rooms came into
+    /// the pool in between, it returns `false`, and the party keeps all.
+    fn take_and_give_back(&self, party: &mut Party<T>) -> bool
+        requires { party.old.table ≡ self.now }
+        ensures answer { GivesAllBack result party.old party.new }
+        ensures whole { party.old.share ≡ whole → result ≡ true }
+    {
+        self.refill(party);
+        let rooms = party.rooms();
+        self.give_back(party, rooms)
+    }
+
+    /// Tries that again until it returns `true`, up to `MORE_TRIES` times.
+    fn take_and_give_back_again(&self, party: &mut Party<T>) -> bool
+        requires table { party.old.table ≡ self.now }
+        requires seen { Adds party.old [] party.old }
+        ensures { GivesAllBack result party.old party.new }
+    {
+        for _try in 0..MORE_TRIES {
+            if self.take_and_give_back(party) {
+                return true;
+            }
+        }
+        false
     }
 
     /// Splits a new party off `party`, which gives it `rooms` of its rooms and a part of its share. The new party has

@@ -16,7 +16,7 @@ use cordyceps_shared::pool::{pack, unpack};
 use std::marker::Brand;
 
 /// How many more times a party takes the pool at most, if other rooms came into it before it gave rooms back.
-const MORE_TRIES: usize = 8;
+pub(crate) const MORE_TRIES: usize = 8;
 
 /// Takes the pool's rooms and their slots in hand, the last room's first. Returns the word that leads to these rooms.
 fn take<E: Drop>(words: &Words<E>, seat: &mut PartySeat<E>) -> u64
