@@ -5,6 +5,7 @@ mod Fronts
 mod Numbers
 mod Pops
 mod Puts
+mod Reached
 mod Renewals
 mod Retimed
 mod Rows

@@ -1,6 +1,7 @@
 //! A priority queue whose elements are due at times. The times at which elements come out never decrease, and each
 //! element is reached by its spot.
-ghost use Rattle.std.specs.Prelude.{◌≡◌, ℕ, ◌<◌, ◌≤◌, ◌==◌, [], ◌∷◌, ◌++◌, length, max, MatchOption, MatchResult, ◌⊎◌};
+ghost use Rattle.std.specs.Prelude.{◌≡◌, ◌≢◌, ℕ, ◌<◌, ◌≤◌, ◌==◌, [], ◌∷◌, ◌++◌, length, max, ◌⊎◌};
+ghost use Rattle.std.specs.Prelude.{IfOk, IfSome, MatchOption, MatchResult};
 ghost use Rattle.std.specs.List.Sorted.{IsPermutation};
 ghost use Rattle.std.specs.Fn.{FnOnceReturnsAtMut};
 ghost use Rattle.std.specs.List.{AllByRecursion};
@@ -126,6 +127,7 @@ impl<T: Linked<Links<T>>, O: Times<T>> ClockQueue<T, O> {
         requires same { (of anew : T → ℕ) → O.computes_by self.old.time of → O.computes_by time anew
             → (value : T) → self.old.clock ≤ of value → anew value ≡ of value }
         ensures nodes { self.new.nodes ≡ self.old.nodes }
+        ensures kept { (p : Ptr) → HasSpot self.old.nodes p → HasSpot self.new.nodes p }
         ensures now { self.new.clock ≡ self.old.clock }
         ensures time { self.new.time ≡ time }
         ensures due { (of anew : T → ℕ) → O.computes_by self.old.time of → O.computes_by time anew
@@ -178,6 +180,9 @@ impl<T: Linked<Links<T>>, O: Times<T>> ClockQueue<T, O> {
             → Holds (by_key nat_cmp of) self.old.nodes a
             → Holds (by_key nat_cmp of) self.new.nodes (a ++ (result, T.element handle) ∷ []) }
         ensures others { IsTaken self.new.nodes result (T.element handle) self.old.nodes }
+        ensures there { HasSpot self.new.nodes result }
+        ensures kept { (p : Ptr) → HasSpot self.old.nodes p → HasSpot self.new.nodes p }
+        ensures apart { HasSpot self.old.nodes result → ⊥ }
         ensures now { self.new.clock ≡ self.old.clock }
         ensures time { self.new.time ≡ self.old.time }
         ensures distinct { AreDistinct (spots self.new.nodes) }
@@ -209,6 +214,9 @@ impl<T: Linked<Links<T>>, O: Times<T>> ClockQueue<T, O> {
             (λ back. (T.element back ≡ T.element handle) × (self.new ≡ self.old)
             × ((length self.old.nodes ≡ usize.MAX)
             ⊎ ((of : T → ℕ) → O.computes_by self.old.time of → of (T.element handle).value < self.old.clock))) }
+        ensures there { IfOk result (λ spot. HasSpot self.new.nodes spot) }
+        ensures kept { (p : Ptr) → HasSpot self.old.nodes p → HasSpot self.new.nodes p }
+        ensures apart { IfOk result (λ spot. HasSpot self.old.nodes spot → ⊥) }
         ensures time { self.new.time ≡ self.old.time }
         ensures distinct { AreDistinct (spots self.new.nodes) }
     {
@@ -230,6 +238,7 @@ impl<T: Linked<Links<T>>, O: Times<T>> ClockQueue<T, O> {
         requires callable { O.can_compute self.old.time }
         requires there { HasSpot self.old.nodes at }
         ensures taken { IsTaken self.old.nodes at (T.element result) self.new.nodes }
+        ensures kept { (p : Ptr) → HasSpot self.old.nodes p → p ≢ at → HasSpot self.new.nodes p }
         ensures arrivals { (of : T → ℕ) (a : Nodes T)
             → O.computes_by self.old.time of
             → Holds (by_key nat_cmp of) self.old.nodes a
@@ -267,6 +276,7 @@ impl<T: Linked<Links<T>>, O: Times<T>> ClockQueue<T, O> {
             → Holds (by_key nat_cmp of) self.old.nodes a
             → (left : Nodes T) × (IsTaken a at e left
             × Holds (by_key nat_cmp of) self.new.nodes (left ++ (at, record { id = e.id; value = w }) ∷ []))) }
+        ensures kept { (p : Ptr) → HasSpot self.old.nodes p → HasSpot self.new.nodes p }
         ensures now { self.new.clock ≡ self.old.clock }
         ensures time { self.new.time ≡ self.old.time }
         ensures distinct { AreDistinct (spots self.new.nodes) }
@@ -289,12 +299,13 @@ impl<T: Linked<Links<T>>, O: Times<T>> ClockQueue<T, O> {
     /// least time does.
     pub fn front(&self) -> Option<Spot>
         requires { O.can_compute self.now.time }
-        ensures { MatchOption result (self.now.nodes ≡ [])
+        ensures first { MatchOption result (self.now.nodes ≡ [])
             (λ spot. (e : Element T) × HasElementAt self.now.nodes spot e
             × ((of : T → ℕ) (a : Nodes T)
             → O.computes_by self.now.time of
             → Holds (by_key nat_cmp of) self.now.nodes a
             → (rest : Nodes T) × IsEarliestLeast (precedes (by_key nat_cmp of)) a (spot, e) rest)) }
+        ensures there { IfSome result (λ spot. HasSpot self.now.nodes spot) }
     {
         self.list.spots_are_distinct();
         let at = self.list.front()?;
@@ -324,6 +335,8 @@ impl<T: Linked<Links<T>>, O: Times<T>> ClockQueue<T, O> {
             → (rest : Nodes T) × (IsEarliestLeast (precedes (by_key nat_cmp of)) a (spot, T.element h) rest
             × Holds (by_key nat_cmp of) self.new.nodes rest)))
             × IsPermutation ((spot, T.element h) ∷ self.new.nodes) self.old.nodes) }
+        ensures kept { (p : Ptr) → HasSpot self.old.nodes p → MatchOption result (HasSpot self.new.nodes p)
+            (λ h. HasSpot self.new.nodes p ⊎ HasElementAt self.old.nodes p (T.element h)) }
         ensures later { self.old.clock ≤ self.new.clock }
         ensures time { self.new.time ≡ self.old.time }
         ensures distinct { AreDistinct (spots self.new.nodes) }
@@ -373,6 +386,8 @@ impl<T: Linked<Links<T>>, O: Times<T>> ClockQueue<T, O> {
             → (rest : Nodes T) × (IsEarliestLeast (precedes (by_key nat_cmp of)) a (spot, T.element h) rest
             × Holds (by_key nat_cmp of) self.new.nodes rest)))
             × IsPermutation ((spot, T.element h) ∷ self.new.nodes) self.old.nodes) }
+        ensures kept { (p : Ptr) → HasSpot self.old.nodes p → MatchOption result (HasSpot self.new.nodes p)
+            (λ h. HasSpot self.new.nodes p ⊎ HasElementAt self.old.nodes p (T.element h)) }
         ensures later { self.old.clock ≤ self.new.clock }
         ensures time { self.new.time ≡ self.old.time }
         ensures distinct { AreDistinct (spots self.new.nodes) }

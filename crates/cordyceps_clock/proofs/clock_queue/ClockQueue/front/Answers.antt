@@ -2,13 +2,14 @@ use Rattle.std.proofs.Common.{rules, ◌<◌, ◌^◌, ℕ, [], ap, sym, subst}
 use Rattle.std.specs.Ordering.{nat_cmp}
 use Rattle.cordyceps_single.specs.ByKey.{by_key}
 use Rattle.cordyceps_stable.specs.Agreeing.{HasElementAt}
+use Rattle.cordyceps_stable.proofs.Holding.{spot_is_at}
 use Rattle.cordyceps_clock.specs.Clock.{Clocked, Holds}
 use Rattle.cordyceps_clock.proofs.Ends.{held_is}
 use Rattle.cordyceps_clock.proofs.Fronts.{front_least, front_there}
 use Rattle.cordyceps_clock.proofs.clock_queue.ClockQueue.front.Goals as goal
 
-pub returns : goal.returns
-returns g c =
+pub returns-clause-first : goal.returns-clause-first
+returns-clause-first g c =
     let nodes = ap (λ (s : Clocked g.row.T.Denot g.row.O.Denot). s.nodes) c.self.view_is in
     let list = c.self.inside.list in let now = c.self.inside.clock in let k = c.bucket-k.result in
     let (x, after, is) = c.in_ok-at.ensures in let (v, holds, tells) = c.time_at.ensures in let first = c.first_bucket-first.result in
@@ -25,3 +26,7 @@ returns g c =
           let asked = subst (λ (s : Clocked g.row.T.Denot g.row.O.Denot). g.O.Times.computes_by s.time f) (sym c.self.view_is) has in
           front_least f now k c.self.inside.ends list first.least first.at first.len small (c.self.invariant f asked) (bucket f asked) e c.spots_are_distinct.ensures there a (subst (λ l. Holds (by_key nat_cmp f) l a) (sym nodes) h),
     )
+
+pub returns-clause-there : goal.returns-clause-there
+returns-clause-there g c =
+    let (e, lies, _) = returns-clause-first g c in spot_is_at c.args.self.now.nodes c.first_bucket-first.result.at e lies

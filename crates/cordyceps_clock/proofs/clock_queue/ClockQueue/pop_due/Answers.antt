@@ -7,6 +7,7 @@ use Rattle.cordyceps_clock.specs.Buckets.{AreLater}
 use Rattle.cordyceps_clock.specs.Clock.{Clocked, Holds}
 use Rattle.cordyceps_clock.proofs.Advances.{none_timed}
 use Rattle.cordyceps_clock.proofs.Pops.{due_by, later_than, none_by, none_later, some_stay, timed_taken, popped_all, popped_due, popped_holds}
+use Rattle.cordyceps_clock.proofs.Reached.{permuted_keeps, popped_keeps}
 use Rattle.cordyceps_clock.proofs.clock_queue.ClockQueue.pop_due.Goals as goal
 
 pub returns-then-now-self-clause-due : goal.returns-then-now-self-clause-due
@@ -72,3 +73,17 @@ returns-clause-due g c =
           ),
       subst (IsPermutation ((p, e) ∷ new)) nodes (popped_all (λ _. now) now ends old list new p e distinct first taken c.advance-self-inside.ensures.kept),
     )
+
+pub returns-in_err-next-clause-kept : goal.returns-in_err-next-clause-kept
+returns-in_err-next-clause-kept g c =
+    absurd (some_stay c.self.inside.list c.advance-self-inside.new.list c.in-Some.at c.in-Some.ensures c.advance-self-inside.ensures.kept c.in_err-next.ensures)
+
+pub returns-then-due-now-clause-kept : goal.returns-then-due-now-clause-kept
+returns-then-due-now-clause-kept g c p has =
+    let (_, moved, _) = returns-then-due-now-clause-due g c in
+    permuted_keeps c.args.self.now.nodes c.advance-self-inside.new.list p moved has
+
+pub returns-clause-kept : goal.returns-clause-kept
+returns-clause-kept g c p has =
+    let (spot, _, all) = returns-clause-due g c in
+    popped_keeps c.args.self.now.nodes c.take_out.new.list spot p (g.T.Linked.element c.take_out.result) all has

@@ -4,6 +4,7 @@ use Rattle.std.specs.Ordering.{nat_cmp}
 use Rattle.cordyceps_single.specs.ByKey.{by_key}
 use Rattle.cordyceps_clock.specs.Clock.{Clocked, Holds}
 use Rattle.cordyceps_clock.proofs.Pops.{due_at_last, some_stay, timed_taken, popped_all, popped_due, popped_holds}
+use Rattle.cordyceps_clock.proofs.Reached.{popped_keeps}
 use Rattle.cordyceps_clock.proofs.clock_queue.ClockQueue.pop_front.Goals as goal
 
 pub invariant_of-self-2 : goal.invariant_of-self-2
@@ -29,3 +30,12 @@ returns-clause-taken g c =
           ),
       subst (IsPermutation ((p, e) ∷ new)) nodes (popped_all (λ _. now) now c.advance-self-inside.new.ends old list new p e c.advance-self-inside.ensures.distinct c.in_ok-first.ensures c.take_out.ensures.taken c.advance-self-inside.ensures.kept),
     )
+
+pub returns-in_err-first-clause-kept : goal.returns-in_err-first-clause-kept
+returns-in_err-first-clause-kept g c =
+    absurd (some_stay c.self.inside.list c.advance-self-inside.new.list c.in_ok-at.at c.in_ok-at.ensures c.advance-self-inside.ensures.kept c.in_err-first.ensures)
+
+pub returns-clause-kept : goal.returns-clause-kept
+returns-clause-kept g c p has =
+    let (spot, _, all) = returns-clause-taken g c in
+    popped_keeps c.args.self.now.nodes c.take_out.new.list spot p (g.T.Linked.element c.take_out.result) all has

@@ -2,9 +2,12 @@ use Rattle.std.proofs.Common.{rules, [], ◌∷◌, ◌++◌, ◌≡◌, ◌≤�
 use Rattle.std.specs.Ordering.{nat_cmp}
 use Rattle.cordyceps_base.specs.Element.{Element}
 use Rattle.cordyceps_single.specs.ByKey.{by_key}
+use Rattle.cordyceps_stable.proofs.Holding.{taken_gone}
+use Rattle.cordyceps_stable.proofs.Reached.{taken_has}
 use Rattle.cordyceps_clock.specs.Buckets.{bucket_of, number_at}
 use Rattle.cordyceps_clock.specs.Clock.{Clocked, Holds}
 use Rattle.cordyceps_clock.proofs.Pops.{holds_pushed, timed_pushed}
+use Rattle.cordyceps_clock.proofs.Reached.{put_keeps}
 use Rattle.cordyceps_clock.proofs.clock_queue.ClockQueue.push.Goals as goal
 
 pub invariant_of-self : goal.invariant_of-self
@@ -48,3 +51,18 @@ returns-clause-others g c =
     let numbered : number_at of now (c.put.result, e) ≡ k = ap (bucket_of now) (sym time) ∙ sym c.bucket-k.ensures.is in
     let (kept, (low, high, was, is, above)) = c.put.ensures.put (number_at of now) numbered timed.kept in
     (low, high, is ∙ (λ i. low ++ (c.put.result, same i) ∷ high), sym nodes ∙ was)
+
+pub returns-clause-there : goal.returns-clause-there
+returns-clause-there g c =
+    taken_has c.put.new.list c.args.self.now.nodes c.put.result (g.T.Linked.element c.args.handle)
+    (returns-clause-others g c)
+
+pub returns-clause-kept : goal.returns-clause-kept
+returns-clause-kept g c p has =
+    put_keeps c.args.self.now.nodes c.put.new.list c.put.result p (g.T.Linked.element c.args.handle)
+    (returns-clause-others g c) has
+
+pub returns-clause-apart : goal.returns-clause-apart
+returns-clause-apart g c =
+    taken_gone c.put.new.list c.args.self.now.nodes c.put.result (g.T.Linked.element c.args.handle)
+    c.put.ensures.distinct (returns-clause-others g c)

@@ -4,6 +4,7 @@ use Rattle.cordyceps_base.specs.BySpot.{IsTaken}
 use Rattle.cordyceps_base.specs.Element.{Element}
 use Rattle.cordyceps_single.specs.ByKey.{by_key}
 use Rattle.cordyceps_clock.specs.Clock.{Clocked, Holds}
+use Rattle.cordyceps_clock.proofs.Reached.{changed_keeps}
 use Rattle.cordyceps_clock.proofs.Renewals.{holds_renewed, timed_renewed}
 use Rattle.cordyceps_clock.proofs.clock_queue.ClockQueue.update.Goals as goal
 
@@ -41,3 +42,8 @@ returns-clause-changed g c =
           (c.self.invariant of own) gone (lies of own) small a
           (subst (λ l. Holds (by_key nat_cmp of) l a) (sym nodes) h),
     )
+
+pub returns-clause-kept : goal.returns-clause-kept
+returns-clause-kept g c p has =
+    let (e, w, rest, _, was, is, _) = returns-clause-changed g c in
+    changed_keeps c.args.self.now.nodes c.renew.new.list rest c.args.at p e (record { id = e.id; value = w }) was is has
