@@ -1,4 +1,5 @@
 mod Advances
+mod Bounds
 mod Ends
 mod Firsts
 mod Fronts

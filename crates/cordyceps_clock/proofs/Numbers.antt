@@ -11,7 +11,7 @@ same_from_xor : (a b : ℕ) → bit_xor a b ≡ 0 → a ≡ b
 same_from_xor a b none =
     same_from_bits a b (λ i. omega (arith, sym (bit_at_xor a b i) ∙ ap (λ n. n / 2 ^ i % 2) none ∙ bit_at-zero i, bit_at-lt a i, bit_at-lt b i))
 
-shr-le : (k a b : ℕ) → a ≤ b → a / 2 ^ k ≤ b / 2 ^ k
+pub shr-le : (k a b : ℕ) → a ≤ b → a / 2 ^ k ≤ b / 2 ^ k
 shr-le k a b below = le-div _ b _ (pow_pos k) (le_trans (div-mul-le_self a _) below)
 
 -- times that agree from bit k on are in the buckets up to k, and no others

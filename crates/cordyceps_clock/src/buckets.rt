@@ -7,6 +7,7 @@ ghost use Rattle.cordyceps_base.specs.Nodes.{Nodes, spots};
 ghost use Rattle.cordyceps_base.specs.Spots.{AreDistinct};
 ghost use Rattle.cordyceps_clock.specs.Buckets.{bucket_of, last_spot, number_at, row};
 ghost use Rattle.cordyceps_clock.specs.Buckets.{AreEmpty, IsKept, IsMovedIn, IsNearest, IsPutIn, IsSet};
+ghost use Rattle.cordyceps_clock.specs.Clock.{rounded};
 
 use crate::times::Times;
 use cordyceps_base::linked::Linked;
@@ -23,6 +24,15 @@ pub(crate) fn bucket(now: u64, time: u64) -> usize
     ensures within { result ≤ 64 }
 {
     64 - (now ^ time).leading_zeros() as usize
+}
+
+/// Returns the least time that the bucket of a time can hold: the time without its bits below the highest in which it
+/// differs from `now`.
+pub(crate) fn least_of_bucket(now: u64, time: u64) -> u64
+    ensures { result ≡ rounded now time }
+{
+    let low = bucket(now, time).saturating_sub(1);
+    (time >> low) << low
 }
 
 /// Returns the end of the bucket `k`, or where that has no element, of the nearest lower one that has.

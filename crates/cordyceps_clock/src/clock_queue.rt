@@ -17,9 +17,9 @@ ghost use Rattle.cordyceps_single.specs.ByKey.{by_key};
 ghost use Rattle.cordyceps_stable.specs.Agreeing.{HasElementAt};
 ghost use Rattle.cordyceps_stable.specs.Arranged.{precedes};
 ghost use Rattle.cordyceps_clock.specs.Buckets.{AreLater};
-ghost use Rattle.cordyceps_clock.specs.Clock.{Holds};
+ghost use Rattle.cordyceps_clock.specs.Clock.{Holds, rounded};
 
-use crate::buckets::{Ends, bucket, put, take_out, time_at};
+use crate::buckets::{Ends, bucket, least_of_bucket, put, take_out, time_at};
 use crate::renewing::renew;
 use crate::spreading::{First, advance, first_bucket};
 use crate::times::Times;
@@ -316,6 +316,33 @@ impl<T: Linked<Links<T>>, O: Times<T>> ClockQueue<T, O> {
             len: _,
         } = first_bucket(&self.list, &self.time, self.clock, k, at);
         Some(first)
+    }
+
+    /// Returns a time before which no element is due, or `None` if the queue is empty. It is the time of the first
+    /// element without the bits below the highest in which that differs from the clock. So it is the clock only if an
+    /// element is due then, and it is exact if that bit is the lowest one.
+    ///
+    /// Whoever sleeps until then and calls `pop_due` either gets the first element or has moved the clock so far that the
+    /// highest bit in which the two differ is a lower one. So he wakes at most 64 times before the first element is due.
+    ///
+    /// # Complexity
+    /// O(1).
+    pub fn not_before(&self) -> Option<u64>
+        requires { O.can_compute self.now.time }
+        ensures none_before { MatchOption result (self.now.nodes ≡ [])
+            (λ t. (of : T → ℕ)
+            → O.computes_by self.now.time of
+            → AllByRecursion (λ n. t ≤ of n.1.value) self.now.nodes) }
+        ensures near { IfSome result (λ t. (of : T → ℕ)
+            → O.computes_by self.now.time of
+            → (spot : Ptr) × (e : Element T) × HasElementAt self.now.nodes spot e
+            × AllByRecursion (λ n. of e.value ≤ of n.1.value) self.now.nodes
+            × (t ≡ rounded self.now.clock (of e.value)) × ((self.now.clock < t) ⊎ (of e.value ≡ t))) }
+    {
+        self.list.spots_are_distinct();
+        let at = self.list.front()?;
+        let due = time_at(&self.list, &self.time, at);
+        Some(least_of_bucket(self.clock, due))
     }
 
     /// Removes the element that is due first and returns it, or `None` if the queue is empty. Of those that are due at

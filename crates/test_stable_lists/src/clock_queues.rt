@@ -23,6 +23,8 @@ enum Call {
     PopDue(u64),
     /// Reads the time of the element that is due first.
     Front,
+    /// Reads a time before which none is due.
+    NotBefore,
     /// Replaces the function of times by an equal one.
     SetTimes,
 }
@@ -92,6 +94,7 @@ fn make_call(
         Call::PopFront => Reply::Out(parts(queue.pop_front())),
         Call::PopDue(now) => Reply::Out(parts(queue.pop_due(*now))),
         Call::Front => Reply::Read(first_time(queue)),
+        Call::NotBefore => Reply::Read(queue.not_before()),
         Call::SetTimes => {
             queue.set_times(ByValue);
             Reply::Read(first_time(queue))
@@ -144,6 +147,13 @@ const CALLS: &[(Call, Reply, usize, u64)] = &[
     (Call::PopFront, Reply::Out(Some((1, 5))), 2, 5),
     (Call::TryPush((9, u64::MAX)), Reply::Out(None), 3, 5),
     (Call::PopFront, Reply::Out(Some((3, 5))), 2, 5),
+    // the highest bit
+    (
+        Call::NotBefore,
+        Reply::Read(Some(9_223_372_036_854_775_808)),
+        2,
+        5,
+    ),
     // the last time of all
     (Call::PopFront, Reply::Out(Some((6, u64::MAX))), 1, u64::MAX),
     (
@@ -168,6 +178,7 @@ const CALLS: &[(Call, Reply, usize, u64)] = &[
 const POPS: &[(Call, Reply, usize, u64)] = &[
     // an empty queue, whose clock moves, and a time before the clock
     (Call::Front, Reply::Read(None), 0, 0),
+    (Call::NotBefore, Reply::Read(None), 0, 0),
     (Call::PopDue(2), Reply::Out(None), 0, 2),
     (Call::PopDue(1), Reply::Out(None), 0, 2),
     (Call::TryPush((1, 1)), Reply::Out(Some((1, 1))), 0, 2),
@@ -176,13 +187,17 @@ const POPS: &[(Call, Reply, usize, u64)] = &[
     (Call::TryPush((4, 9)), Reply::Out(None), 3, 2),
     (Call::TryPush((5, 2)), Reply::Out(None), 4, 2),
     // an element is due, at the clock
+    (Call::NotBefore, Reply::Read(Some(2)), 4, 2),
     (Call::PopDue(1), Reply::Out(None), 4, 2),
     (Call::PopDue(2), Reply::Out(Some((5, 2))), 3, 2),
     (Call::PopDue(2), Reply::Out(None), 3, 2),
     (Call::Front, Reply::Read(Some(6)), 3, 2),
+    (Call::NotBefore, Reply::Read(Some(4)), 3, 2),
     // none is due, and the clock moves: by its lowest bit, and then into the bucket of the first element
     (Call::PopDue(3), Reply::Out(None), 3, 3),
+    (Call::NotBefore, Reply::Read(Some(4)), 3, 3),
     (Call::PopDue(5), Reply::Out(None), 3, 5),
+    (Call::NotBefore, Reply::Read(Some(6)), 3, 5),
     // an element is due before the time
     (Call::PopDue(7), Reply::Out(Some((3, 6))), 2, 6),
     (Call::PopDue(7), Reply::Out(None), 2, 7),
@@ -196,6 +211,7 @@ const POPS: &[(Call, Reply, usize, u64)] = &[
     // the last time of all
     (Call::PopDue(u64::MAX), Reply::Out(None), 0, u64::MAX),
     (Call::TryPush((8, u64::MAX)), Reply::Out(None), 1, u64::MAX),
+    (Call::NotBefore, Reply::Read(Some(u64::MAX)), 1, u64::MAX),
     (Call::PopDue(0), Reply::Out(None), 1, u64::MAX),
     (
         Call::PopDue(u64::MAX),
