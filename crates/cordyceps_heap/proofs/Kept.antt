@@ -1,6 +1,6 @@
 -- Which spots a heap has, and how it agrees with a map of spots, by what its calls say.
-use Rattle.std.proofs.Common.{◌≡◌, ℕ, zero, suc, List, [], ◌∷◌, ◌++◌, Option, Some, None, MatchOption, refl, sym, ap, ◌∙◌, subst, inl, inr, arith}
-use Rattle.std.proofs.lemmas.List.Sorted.{Contains-permutation, IsPermutation-sym}
+use Rattle.std.proofs.Common.{◌≡◌, ℕ, zero, suc, List, [], ◌∷◌, ◌++◌, Option, Some, None, MatchOption, refl, sym, ap, ◌∙◌, subst, ◌⊎◌, inl, inr, arith}
+use Rattle.std.proofs.lemmas.List.Sorted.{Contains-permutation, IsPermutation-append_comm, IsPermutation-sym, IsPermutation-trans}
 use Rattle.std.specs.List.{Contains}
 use Rattle.std.specs.List.Sorted.{IsPermutation}
 use Rattle.std.specs.Prelude.{IfSome}
@@ -12,7 +12,7 @@ use Rattle.cordyceps_base.specs.Spots.{AreDistinct}
 use Rattle.cordyceps_stable.specs.Agreeing.{HasElementAt, Agrees, IsUpdated}
 use Rattle.cordyceps_stable.proofs.Agreeing.{none_some, put_agrees, taken_agrees}
 use Rattle.cordyceps_heap.proofs.Apart.{permuted_distinct}
-use Rattle.cordyceps_stable.proofs.Holding.{distinct_less, has_split, spot_is_at, taken_is_at, left_is_at, taken_or_left, taken_gone, joined_is_at, front_is_at}
+use Rattle.cordyceps_stable.proofs.Holding.{distinct_less, has_split, last_taken, spot_is_at, taken_is_at, left_is_at, taken_or_left, taken_gone, joined_is_at, front_is_at}
 
 module _ {X : Type 0} where
   contains_at : (b a : List X) (x : X) → Contains (b ++ x ∷ a) x
@@ -40,6 +40,26 @@ module _ {X : Type 0} where
   pub joined_keeps : (c more d : Nodes X) (q : Ptr) → IsPermutation (c ++ more) d → HasSpot c q → HasSpot d q
   joined_keeps c more d q kept (k, at) = let (e, lies) = has_split c k q at in spot_is_at d q e (permuted_is_at (c ++ more) d q e kept (front_is_at c more q e lies))
 
+  pub pushed_new : (c d : Nodes X) (p : Ptr) (e : Element X) → IsPermutation (c ++ (p, e) ∷ []) d → AreDistinct (spots d) → HasSpot c p → ⊥
+  pushed_new c d p e kept distinct has =
+      let all : Nodes X = c ++ (p, e) ∷ [] in
+      let apart = permuted_distinct d all (IsPermutation-sym all d kept) distinct in
+      taken_gone all c p e apart (last_taken all c p e refl) has
+
+  -- the spots of a heap whose elements were moved into another
+  pub taken_over : (c more d : Nodes X) (q : Ptr) → IsPermutation (c ++ more) d → HasSpot more q → HasSpot d q
+  taken_over c more d q kept has =
+      joined_keeps more c d q (IsPermutation-trans (more ++ c) (c ++ more) d (IsPermutation-append_comm more c) kept) has
+
+  -- spots from before an `update`
+  pub changed_keeps : (c d rest : Nodes X) (p q : Ptr) (e o : Element X) → IsTaken c p e rest → IsPermutation (rest ++ (p, o) ∷ []) d → HasSpot c q → HasSpot d q
+  changed_keeps c d rest p q e o taken kept (k, at) =
+      let (x, lies) = has_split c k q at in
+      elim (taken_or_left c rest p q e x taken lies) as (λ _. HasSpot d q) [
+        | inl same ↦ subst (HasSpot d) (sym same.0) (pushed_has rest d p o kept)
+        | inr on ↦ joined_keeps rest ((p, o) ∷ []) d q kept (spot_is_at rest q x on)
+      ]
+
   -- what `front` returns
   pub front_has : (c : Nodes X) (o : Option Ptr) (N : Type 0) (P : Ptr → Element X → Type 0) → MatchOption o N (λ p. (e : Element X) × HasElementAt c p e × P p e) → IfSome o (λ p. HasSpot c p)
   front_has c None N P h = tt
@@ -48,6 +68,14 @@ module _ {X : Type 0} where
   -- what `pop_front` removes
   pub popped_is_at : (c d : Nodes X) (p : Ptr) (e : Element X) → IsPermutation c ((p, e) ∷ d) → HasElementAt c p e
   popped_is_at c d p e kept = permuted_is_at ((p, e) ∷ d) c p e (IsPermutation-sym c ((p, e) ∷ d) kept) ([], d, refl)
+
+  pub popped_keeps : (c d : Nodes X) (p q : Ptr) (e : Element X) → IsPermutation c ((p, e) ∷ d) → HasSpot c q → HasSpot d q ⊎ HasElementAt c q e
+  popped_keeps c d p q e kept (k, at) =
+      let (o, lies) = has_split c k q at in
+      elim (taken_or_left ((p, e) ∷ d) d p q e o ([], d, refl, refl) (permuted_is_at c ((p, e) ∷ d) q o kept lies)) as (λ _. HasSpot d q ⊎ HasElementAt c q e) [
+        | inl same ↦ inr (subst (HasElementAt c q) same.1 lies)
+        | inr left ↦ inl (spot_is_at d q o left)
+      ]
 
   only_at : (n : Ptr × Element X) (q : Ptr) (o : Element X) → HasElementAt (n ∷ []) q o → (q, o) ≡ n
   only_at n q o ([], a, is) = let first : n ≡ (q, o) = cc in sym first

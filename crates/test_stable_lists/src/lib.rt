@@ -25,6 +25,8 @@ mod heaps;
 #[cfg(test)]
 mod keys;
 #[cfg(test)]
+mod queue_spots;
+#[cfg(test)]
 mod sorted_calls;
 #[cfg(test)]
 mod sorted_lists;

@@ -4,6 +4,7 @@ use Rattle.std.proofs.lemmas.List.Sorted.{length_permutation, IsPermutation-tran
 use Rattle.cordyceps_base.specs.DoubleLines.{flat}
 use Rattle.cordyceps_base.specs.Nodes.{Nodes}
 use Rattle.cordyceps_heap.specs.Heap.{Heaped, Holds, settled}
+use Rattle.cordyceps_heap.proofs.Kept.{joined_keeps, taken_over}
 use Rattle.cordyceps_heap.proofs.Said.{as_long}
 use Rattle.cordyceps_heap.proofs.Settled.{has_last, none_fresh, settled_distinct}
 use Rattle.cordyceps_heap.proofs.stable_heap.StableHeap.append.Goals as goal
@@ -43,3 +44,13 @@ invariant_of-self g c =
           ∙ ap (λ s. length (flat s)) (sym now),
       has_last c.push-2.new.self c.with_line.new.lines c.empty-2.result c.push-2.ensures c.with_line.ensures.room,
     )
+
+pub returns-clause-spots_kept : goal.returns-clause-spots_kept
+returns-clause-spots_kept g c p has =
+    joined_keeps (flat c.args.self.now.lines) (flat c.args.other.now.lines) (flat (settled c.push-2.new.self)) p
+    (returns-clause-kept g c) has
+
+pub returns-clause-taken_over : goal.returns-clause-taken_over
+returns-clause-taken_over g c p has =
+    taken_over (flat c.args.self.now.lines) (flat c.args.other.now.lines) (flat (settled c.push-2.new.self)) p
+    (returns-clause-kept g c) has

@@ -3,7 +3,9 @@ use Rattle.std.specs.List.Sorted.{IsPermutation}
 use Rattle.std.proofs.lemmas.List.Sorted.{length_permutation}
 use Rattle.cordyceps_base.specs.DoubleLines.{flat}
 use Rattle.cordyceps_stable.specs.Agreeing.{HasElementAt}
+use Rattle.cordyceps_stable.proofs.Holding.{spot_is_at}
 use Rattle.cordyceps_heap.specs.Heap.{Heaped, Holds, settled}
+use Rattle.cordyceps_heap.proofs.Kept.{permuted_has}
 use Rattle.cordyceps_heap.proofs.Least.{least_there, least_first}
 use Rattle.cordyceps_heap.proofs.Said.{first_is_at}
 use Rattle.cordyceps_heap.proofs.Settled.{has_last, none_fresh, settled_distinct}
@@ -53,3 +55,12 @@ returns-clause-kept g c =
 
 pub returns-clause-distinct : goal.returns-clause-distinct
 returns-clause-distinct g c = settled_distinct c.push.new.self c.are_distinct-2.ensures
+
+pub returns-clause-there : goal.returns-clause-there
+returns-clause-there g c =
+    let (e, lies, _) = returns-clause-first g c in
+    spot_is_at (flat (settled c.push.new.self)) c.spot_at.result e lies
+
+pub returns-clause-spots_kept : goal.returns-clause-spots_kept
+returns-clause-spots_kept g c p has =
+    permuted_has (flat c.args.self.now.lines) (flat (settled c.push.new.self)) p (returns-clause-kept g c) has

@@ -4,6 +4,7 @@ use Rattle.cordyceps_base.specs.DoubleLines.{flat}
 use Rattle.cordyceps_base.proofs.Segments.{sole_element}
 use Rattle.cordyceps_heap.specs.Heap.{Heaped, Holds, settled}
 use Rattle.cordyceps_heap.proofs.Held.{taken_flat}
+use Rattle.cordyceps_heap.proofs.Kept.{popped_keeps}
 use Rattle.cordyceps_base.proofs.LineSpots.{first_is_taken}
 use Rattle.cordyceps_heap.proofs.Least.{least_there, least_out}
 use Rattle.cordyceps_heap.proofs.Said.{first_said}
@@ -50,3 +51,9 @@ returns-clause-taken g c =
           let (rest, (first, on)) = least_out (λ f. g.O.Order.compares_by c.self.inside.order f) cmp (g.met.O.Order.lawful c.args.self.now.order cmp by) asked sorted left k p o a c.settle_for_least-line.ensures.least gone held in
           (rest, (first, subst (λ s. Holds cmp s rest) (sym now) on)),
     )
+
+pub returns-clause-spots_kept : goal.returns-clause-spots_kept
+returns-clause-spots_kept g c p has =
+    let (spot, kept, _) = returns-clause-taken g c in
+    popped_keeps (flat c.args.self.now.lines) (flat (settled c.push.new.self)) spot p
+    (g.T.Linked.element c.from_ptr.result) kept has

@@ -4,6 +4,7 @@ use denote.RawPtr.{Ptr}
 use Rattle.cordyceps_base.specs.DoubleLines.{flat}
 use Rattle.cordyceps_base.specs.Element.{Element}
 use Rattle.cordyceps_heap.specs.Heap.{Heaped, Holds, settled}
+use Rattle.cordyceps_heap.proofs.Kept.{joined_keeps, pushed_has, pushed_new}
 use Rattle.cordyceps_heap.proofs.Settled.{holds_more, kept_with, one_longer, settled_distinct}
 use Rattle.cordyceps_heap.proofs.stable_heap.StableHeap.push.Goals as goal
 
@@ -30,3 +31,18 @@ invariant_of-self g c = (
   one_longer (settled c.self.inside.lines) (settled c.add_fresh.new.lines) c.one-line.result.1 _ c.self.inside.len c.add_fresh.ensures.added c.one-line.ensures c.self.invariant.0,
   c.add_fresh.ensures.fresh,
 )
+
+pub returns-clause-there : goal.returns-clause-there
+returns-clause-there g c =
+    pushed_has (flat c.args.self.now.lines) (flat (settled c.add_fresh.new.lines)) c.spot_at.result (g.T.Linked.element c.args.handle)
+    (returns-clause-kept g c)
+
+pub returns-clause-spots_kept : goal.returns-clause-spots_kept
+returns-clause-spots_kept g c p has =
+    joined_keeps (flat c.args.self.now.lines) ((c.spot_at.result, g.T.Linked.element c.args.handle) ∷ []) (flat (settled c.add_fresh.new.lines)) p
+    (returns-clause-kept g c) has
+
+pub returns-clause-apart : goal.returns-clause-apart
+returns-clause-apart g c =
+    pushed_new (flat c.args.self.now.lines) (flat (settled c.add_fresh.new.lines)) c.spot_at.result (g.T.Linked.element c.args.handle)
+    (returns-clause-kept g c) (returns-clause-distinct g c)

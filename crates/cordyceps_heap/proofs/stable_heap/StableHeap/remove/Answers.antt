@@ -2,6 +2,7 @@ use Rattle.std.proofs.Common.{refl, ap, sym, ◌∙◌, subst}
 use Rattle.cordyceps_base.specs.BySpot.{HasSpot, IsTaken}
 use Rattle.cordyceps_base.specs.DoubleLines.{flat}
 use Rattle.cordyceps_base.proofs.Segments.{sole_element}
+use Rattle.cordyceps_stable.proofs.Holding.{others_stay}
 use Rattle.cordyceps_heap.specs.Heap.{Heaped, Holds, settled}
 use Rattle.cordyceps_heap.proofs.Said.{one_less, out_said}
 use Rattle.cordyceps_heap.proofs.Settled.{last_left, settled_distinct, settled_has, settled_holds_taken, settled_taken}
@@ -38,3 +39,8 @@ pub invariant_of-self : goal.invariant_of-self
 invariant_of-self g c =
     let lines = c.self.inside.lines in let left = c.take_at-one.new.self in let p = c.address_of.result.ptr in let (e, one, out) = c.take_at-one.ensures in
     (one_less (flat (settled lines)) (flat (settled left)) p e c.self.inside.len (settled_taken lines left p e out) c.self.invariant.0, last_left lines left p e out c.self.invariant.1)
+
+pub returns-clause-spots_kept : goal.returns-clause-spots_kept
+returns-clause-spots_kept g c p has other =
+    others_stay (flat c.args.self.now.lines) (flat (settled c.take_at-one.new.self)) c.args.at p
+    (g.T.Linked.element c.from_ptr.result) (returns-clause-taken g c) has (λ same. other (sym same))

@@ -6,6 +6,7 @@ use Rattle.cordyceps_base.specs.DoubleLines.{flat}
 use Rattle.cordyceps_base.specs.Element.{Element}
 use Rattle.cordyceps_base.specs.Nodes.{Nodes}
 use Rattle.cordyceps_heap.specs.Heap.{Heaped, Holds, settled}
+use Rattle.cordyceps_heap.proofs.Kept.{changed_keeps}
 use Rattle.cordyceps_heap.proofs.Said.{out_said, one_less, some_long, only_value, same_node, taken_holds}
 use Rattle.cordyceps_heap.proofs.Settled.{holds_more, kept_with, last_left, one_longer, settled_distinct, settled_has, settled_holds_taken, settled_taken}
 use Rattle.cordyceps_heap.proofs.stable_heap.StableHeap.update.Goals as goal
@@ -63,3 +64,9 @@ returns-clause-changed g c =
           let (rest, (taken, held)) = settled_holds_taken (g.met.O.Order.lawful c.args.self.now.order cmp by) lines left c.args.at e a said (subst (λ s. Holds cmp s a) (sym view) h) in
           (rest, (taken, holds_more cmp (settled left) (settled c.add_fresh.new.lines) c.change_only-answer.new.line x rest c.add_fresh.ensures.added line held)),
     )
+
+pub returns-clause-spots_kept : goal.returns-clause-spots_kept
+returns-clause-spots_kept g c p has =
+    let (e, w, rest, _, taken, kept, _) = returns-clause-changed g c in
+    changed_keeps (flat c.args.self.now.lines) (flat (settled c.add_fresh.new.lines)) rest c.args.at p
+    e (record { id = e.id; value = w }) taken kept has

@@ -1,12 +1,8 @@
 use Rattle.std.proofs.Common.{None, subst, nat_eq}
 use Rattle.std.specs.HashMap.{get}
 use Rattle.cordyceps_stable.specs.Agreeing.{IsUpdated}
-use Rattle.cordyceps_stable.proofs.Holding.{spot_is_at}
 use Rattle.test_stable_lists.proofs.Finding.{finds_taken}
 use Rattle.test_stable_lists.proofs.clock_calls.Timers.remove_front.Goals as goal
-
-pub remove-node-requires-clause-there : goal.remove-node-requires-clause-there
-remove-node-requires-clause-there c = let (e, lies, least) = c.in_ok-spot.ensures in spot_is_at c.self.inside.queue.nodes c.in_ok-spot.spot e lies
 
 pub invariant_of-self : goal.invariant_of-self
 invariant_of-self c =
