@@ -83,7 +83,7 @@ module _ {P : Type 0} (clock : ℕ) where
       let next : Nodes (Timer P) = started clock n.0 n.1 s in
       IsPermutation-trans _ _ _ (all_kept c next) (IsPermutation-trans _ _ _ (IsPermutation-append_left c next (n ∷ s) (one_kept n.0 n.1 s)) (IsPermutation-sym _ _ (IsPermutation-middle s n c)))
 
-  kept : (c : Nodes (Timer P)) → IsPermutation (arranged clock c) c
+  pub kept : (c : Nodes (Timer P)) → IsPermutation (arranged clock c) c
   kept c = all_kept c []
 
   pub as_long : (c : Nodes (Timer P)) → length (arranged clock c) ≡ length c

@@ -4,6 +4,7 @@ use Rattle.std.specs.List.{AllByRecursion}
 use denote.RawPtr.{Ptr}
 use Rattle.cordyceps.specs.Elements.Element.{Element}
 use Rattle.cordyceps.specs.Elements.Nodes.{Nodes, spots}
+use Rattle.cordyceps.specs.Spots.Clock.{rounded}
 use Rattle.cordyceps.specs.Spots.Spots.{AreDistinct}
 use Rattle.cordyceps_shared_uses.specs.declared.timers.Timer.{Timer}
 
@@ -60,6 +61,11 @@ module _ {P : Type 0} where
   abbrev pub first_time : (clock : ℕ) → Nodes (Timer P) → Option ℕ
   first_time clock [] = None
   first_time clock (x ∷ s) = Some (time_of clock x.1)
+
+  -- that time without its bits below the highest in which it differs from the clock
+  abbrev pub first_rounded : (clock : ℕ) → Nodes (Timer P) → Option ℕ
+  first_rounded clock [] = None
+  first_rounded clock (x ∷ s) = Some (rounded clock (time_of clock x.1))
 
   -- those that fire at the time `now` or before
   abbrev pub due : (clock now : ℕ) → Nodes (Timer P) → Nodes (Timer P)

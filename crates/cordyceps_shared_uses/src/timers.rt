@@ -3,6 +3,7 @@ ghost use Rattle.std.specs.Prelude.{
   ◌≡◌,
   ◌≤◌,
   ◌<◌,
+  ◌⊎◌,
   ℕ,
   max,
   [],
@@ -10,18 +11,21 @@ ghost use Rattle.std.specs.Prelude.{
   length,
   IfErr,
   IfOk,
+  IfSome,
   IsOk,
   MatchOption,
   OnErr,
   OnOk,
+  Some,
   refl,
   ⊤,
 };
+ghost use Rattle.std.specs.List.{AllByRecursion};
 ghost use denote.RawPtr.{Ptr};
 ghost use Rattle.cordyceps.specs.Elements.Nodes.{spots};
 ghost use Rattle.cordyceps.specs.Spots.BySpot.{HasSpot, IsTaken};
 ghost use Rattle.cordyceps.specs.Spots.Spots.{AreDistinct};
-ghost use Rattle.cordyceps_shared_uses.specs.Timers.{started, new_timer, due, first_time, time_of, InOrder};
+ghost use Rattle.cordyceps_shared_uses.specs.Timers.{started, new_timer, due, first_rounded, first_time, time_of, InOrder};
 
 use cordyceps::clock_queue::Times;
 use cordyceps::list::Links;
@@ -197,6 +201,24 @@ impl<P: Drop> Timers<P> {
     {
         let first = self.queue.get(self.queue.front()?);
         Some(first.deadline.max(self.queue.now()))
+    }
+
+    /// Returns a time before which no timer fires, or `None` if no timer runs. It is what `first_deadline` returns,
+    /// without the bits below the highest in which that differs from the clock. So it is the clock only if a timer fires
+    /// then.
+    ///
+    /// Whoever sleeps until then and calls `stop_due` wakes at most 64 times before the first timer fires.
+    ///
+    /// # Complexity
+    /// O(1).
+    pub fn not_before(&self) -> Option<u64>
+        ensures near { result ≡ first_rounded self.now.clock self.now.nodes }
+        ensures none_before { IfSome result (λ t.
+            AllByRecursion (λ n. t ≤ time_of self.now.clock n.1) self.now.nodes) }
+        ensures later { IfSome result (λ t.
+            (self.now.clock < t) ⊎ (first_time self.now.clock self.now.nodes ≡ Some t)) }
+    {
+        self.queue.not_before()
     }
 
     /// Removes the first timer in its node and returns it, if it fires at the time `now` or before. The clock is then

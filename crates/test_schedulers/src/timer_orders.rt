@@ -151,6 +151,21 @@ fn a_timer_that_is_started_again_too_late_fires_at_once(rt: HostRuntime) {
 }
 
 #[test]
+fn a_bound_comes_nearer_until_the_first_timer_is_due(rt: HostRuntime) {
+    let drops = no_drops(&rt, rt.alloc());
+    let mut timers = Timers::new();
+    same(&rt, timers.not_before(), None);
+    start(&rt, &mut timers, rt.alloc(), 23, 1, &drops);
+    for bound in [16, 20, 22] {
+        same(&rt, timers.not_before(), Some(bound));
+        come(&rt, &mut timers, &[(bound, None)]);
+    }
+    same(&rt, timers.not_before(), Some(23));
+    come(&rt, &mut timers, &[(23, Some((23, 1)))]);
+    same(&rt, (timers.not_before(), drops.count()), (None, 1));
+}
+
+#[test]
 fn a_timer_whose_deadline_has_passed_comes_as_it_was_given(rt: HostRuntime) {
     let drops = no_drops(&rt, rt.alloc());
     let mut timers = Timers::new();
