@@ -513,8 +513,7 @@ fn run_in<L: Run + Send + Sync, R: Threads + Wait + Sync>(
 ///
 /// # Complexity
 /// O(`rooms` + n), for n tasks, and at most `turns` turns of the submitter and of each worker, besides the tries while
-/// no room is free. A turn is O(1) amortized, except that, if no task is due, a turn of the submitter costs as much as
-/// `Timers::first_deadline`.
+/// no room is free. A turn is O(1) amortized.
 ///
 /// # Waits
 /// For the threads that it starts, and for two locks. No thread waits for anything else while it holds a lock. The

@@ -244,6 +244,25 @@ impl<P: Drop> Timers<P> {
         first
     }
 
+    /// Removes the first timer in its node and returns it, or `None` if no timer runs. The clock is then at its deadline,
+    /// or stays if that had passed or no timer runs.
+    ///
+    /// # Complexity
+    /// That of `stop_due`.
+    pub fn stop_first(&mut self) -> Option<Stopped<P>>
+        ensures stopped { MatchOption result
+            ((self.old.nodes ≡ []) × (self.new ≡ self.old))
+            (λ t. (spot : Ptr) × (self.old.nodes ≡ (spot, t) ∷ self.new.nodes)
+            × (self.new.clock ≡ time_of self.old.clock t)) }
+        ensures order { InOrder self.old.clock self.old.nodes }
+        ensures distinct { AreDistinct (spots self.new.nodes) }
+    {
+        let first = self.queue.pop_front();
+        let clock = self.queue.now();
+        self.queue.set_times(NotBefore { clock });
+        first
+    }
+
     /// Removes the first timer, frees its node and returns it, if it fires at the time `now` or before. The clock is
     /// then at its deadline, or stays if that had passed. Returns `None` if no timer is due. All timers stay then, and
     /// the clock is set to `now`, if that is later.

@@ -150,6 +150,33 @@ fn a_timer_that_is_started_again_too_late_fires_at_once(rt: HostRuntime) {
     same(&rt, drops.count(), 2);
 }
 
+/// Stops the first timer before it is due, and compares its deadline and its number, and then the clock.
+fn stops_first(rt: &impl Abort, timers: &mut Timers<Counted>, wanted: Option<Pair>, clock: u64) {
+    let came = match timers.stop_first() {
+        Some(timer) => Some((timer.get().deadline, timer.get().payload.value)),
+        None => None,
+    };
+    same(rt, (came, timers.now()), (wanted, clock));
+}
+
+#[test]
+fn the_first_timer_is_stopped_before_it_is_due(rt: HostRuntime) {
+    let drops = no_drops(&rt, rt.alloc());
+    let mut timers = Timers::new();
+    stops_first(&rt, &mut timers, None, 0);
+    for (deadline, number) in [(30, 1), (10, 2), (30, 3)] {
+        start(&rt, &mut timers, rt.alloc(), deadline, number, &drops);
+    }
+    stops_first(&rt, &mut timers, Some((10, 2)), 10);
+    // its deadline has passed
+    start(&rt, &mut timers, rt.alloc(), 9, 4, &drops);
+    stops_first(&rt, &mut timers, Some((9, 4)), 10);
+    stops_first(&rt, &mut timers, Some((30, 1)), 30);
+    stops_first(&rt, &mut timers, Some((30, 3)), 30);
+    stops_first(&rt, &mut timers, None, 30);
+    same(&rt, drops.count(), 4);
+}
+
 #[test]
 fn a_bound_comes_nearer_until_the_first_timer_is_due(rt: HostRuntime) {
     let drops = no_drops(&rt, rt.alloc());

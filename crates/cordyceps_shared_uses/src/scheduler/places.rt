@@ -179,7 +179,7 @@ impl<L: Run> Sleepers<L> {
     /// stays the same then.
     ///
     /// # Complexity
-    /// That of two calls of `wake`.
+    /// O(1) amortized.
     pub fn wake_first(&mut self, accounts: &Accounts, mine: &mut Account) -> Option<Stopped<Work>>
         requires { (accounts.now.table ≡ L.accounts) × IsOpen L.accounts mine.old }
         ensures mine { MatchOption result
@@ -192,10 +192,10 @@ impl<L: Run> Sleepers<L> {
             (self.new.time ≡ self.old.time)
             (λ task. self.new.time ≡ task.value.deadline) }
     {
-        match self.wake(accounts, mine) {
-            Some(task) => Some(task),
-            None => self.wake(accounts, mine),
-        }
+        let task = self.timers.stop_first()?;
+        self.time = task.get().deadline;
+        accounts.give(&mut self.account, mine, Name::of(&task));
+        Some(task)
     }
 
     /// Returns the tasks that still sleep, and the account of the place.

@@ -187,7 +187,7 @@ fn wake_first<L: Run, R: Wait>(
 /// calls the run off.
 ///
 /// # Complexity
-/// That of 2 · `turns` calls of `Sleepers::wake`, besides the tries while no room is free.
+/// That of `turns` calls of `Sleepers::wake_first`, besides the tries while no room is free.
 ///
 /// # Waits
 /// For the lock of the tasks that sleep, for a task that goes to sleep, and for the dispatcher, while no room is free.
