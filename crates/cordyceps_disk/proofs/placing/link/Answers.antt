@@ -1,6 +1,5 @@
 use Rattle.std.proofs.Common.{◌≡◌, Some, refl, ap, sym, ◌∙◌, subst, arith}
 use Rattle.cordyceps.specs.Spots.Heap.{Holds}
-use Rattle.cordyceps.proofs.Spots.Kept.{pushed_has}
 use Rattle.cordyceps_disk.specs.declared.request.Ticket.{Ticket}
 use Rattle.cordyceps_disk.specs.Orders.{by_deadline}
 use Rattle.cordyceps_disk.specs.Pairs.{Paired, deadline_of, due_of, spot_or, tickets_in}
@@ -13,12 +12,6 @@ use Rattle.cordyceps_disk.proofs.placing.link.Goals as goal
 pub push-ticket-requires : goal.push-ticket-requires
 push-ticket-requires g c =
     omega (arith, c.requires.fits, c.requires.kept.paired.length, as_long c.args.tickets.now.lines)
-
-pub update-requires-clause-there : goal.update-requires-clause-there
-update-requires-clause-there g c = pushed_has _ _ c.push-ticket.result c.in-Ok.ticket c.push-ticket.ensures.kept
-
-pub remove-requires : goal.remove-requires
-remove-requires g c = pushed_has _ _ c.push-ticket.result c.in-Ok.ticket c.push-ticket.ensures.kept
 
 pub returns-in-Ok-new-clause-put : goal.returns-in-Ok-new-clause-put
 returns-in-Ok-new-clause-put g c = (
