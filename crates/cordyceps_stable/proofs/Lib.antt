@@ -7,4 +7,5 @@ pub mod Holding
 mod Parts
 pub mod Reached
 mod Spots
+pub mod Valid
 pub mod Walk

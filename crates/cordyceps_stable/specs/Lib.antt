@@ -3,4 +3,5 @@ pub mod Arranged
 pub mod Changing
 pub mod Replacing
 pub mod StableLending
+pub mod Valid
 pub mod Walk

@@ -1,0 +1,157 @@
+-- Which spots are valid after a call, by what the call says.
+use Rattle.std.proofs.Common.{append_assoc, ◌≡◌, ◌≢◌, ℕ, zero, suc, List, [], ◌∷◌, ◌++◌, Option, Some, None, MatchOption, refl, sym, ap, ◌∙◌, subst, ◌⊎◌, inl, inr, arith}
+use Rattle.std.specs.Prelude.{IfSome}
+use Rattle.std.proofs.lemmas.List.Sorted.{Contains-permutation}
+use Rattle.std.specs.List.{Contains}
+use Rattle.std.specs.List.Sorted.{IsPermutation}
+use denote.RawPtr.{Ptr}
+use Rattle.cordyceps_base.specs.BySpot.{HasSpot, IsTaken, IsMovedFront, IsMovedBack, IsMovedAfter, IsFirst, IsLast, AreNext}
+use Rattle.cordyceps_base.specs.Element.{Element}
+use Rattle.cordyceps_base.specs.Nodes.{Nodes, spots, with_item}
+use Rattle.cordyceps_base.specs.Spots.{index_of, AreDistinct}
+use Rattle.cordyceps_stable.specs.Agreeing.{HasElementAt}
+use Rattle.cordyceps_stable.specs.Replacing.{IsReplaced}
+use Rattle.cordyceps_stable.specs.Valid.{IsThere, IsValid}
+use Rattle.cordyceps_stable.proofs.Holding.{spot_is_at, has_split, first_taken, last_taken, after_taken, taken_gone, left_is_at, taken_or_left, others_stay, front_is_at, written_lies}
+use Rattle.cordyceps_stable.proofs.Reached.{taken_has, put_after_has}
+use Rattle.cordyceps_stable.proofs.Walk.{next_index}
+
+module _ {X : Type 0} where
+  -- the two forms say the same
+  pub valid : (c : Nodes X) (p : Ptr) → HasSpot c p → IsValid c p
+  unfolding IsValid
+  valid c p has = has
+
+  pub valid_has : (c : Nodes X) (p : Ptr) → IsValid c p → HasSpot c p
+  unfolding IsValid
+  valid_has c p has = has
+
+  pub there : (c : Nodes X) (p : Ptr) → HasSpot c p → IsThere c p
+  there c p has = (has, valid c p has)
+
+  pub made_valid : (c : Nodes X) (p : Ptr) → HasSpot c p ⊎ IsValid c p → IsThere c p
+  made_valid c p known = elim known as (λ _. IsThere c p) [
+    | inl has ↦ there c p has
+    | inr on ↦ (valid_has c p on, on)
+  ]
+
+  pub same_keeps : (c d : Nodes X) → d ≡ c → (p : Ptr) → IsValid c p → IsValid d p
+  same_keeps c d same p on = subst (λ s. IsValid s p) (sym same) on
+
+  -- the same of an answer that may be none
+  pub some_there : (c : Nodes X) (o : Option Ptr) → IfSome o (λ p. HasSpot c p) → IfSome o (λ p. IsThere c p)
+  some_there c None has = tt
+  some_there c (Some p) has = there c p has
+
+  has_at : (c : Nodes X) (p : Ptr) → IsValid c p → (e : Element X) × HasElementAt c p e
+  has_at c p on = let (k, at) = valid_has c p on in has_split c k p at
+
+  lies_valid : (c : Nodes X) (p : Ptr) (e : Element X) → HasElementAt c p e → IsValid c p
+  lies_valid c p e lies = valid c p (spot_is_at c p e lies)
+
+  -- c is d with the element e at p: the spots of d are those of c except p
+  pub put_keeps : (c d : Nodes X) (p : Ptr) (e : Element X) → IsTaken c p e d → (q : Ptr) → IsValid d q → IsValid c q
+  put_keeps c d p e taken q on = let (o, lies) = has_at d q on in lies_valid c q o (left_is_at c d p q e o taken lies)
+
+  pub put_apart : (c d : Nodes X) (p : Ptr) (e : Element X) → AreDistinct (spots c) → IsTaken c p e d → (q : Ptr) → IsValid d q → q ≢ p
+  put_apart c d p e distinct taken q on same = taken_gone c d p e distinct taken (subst (λ r. HasSpot d r) same (valid_has d q on))
+
+  pub taken_keeps : (c d : Nodes X) (p : Ptr) (e : Element X) → IsTaken c p e d → (q : Ptr) → IsValid c q → q ≢ p → IsValid d q
+  taken_keeps c d p e taken q on other = valid d q (others_stay c d p q e taken (valid_has c q on) (λ same. other (sym same)))
+
+  -- the first or the last was taken out
+  pub first_out_keeps : (c d : Nodes X) (p : Ptr) (e : Element X) → c ≡ (p, e) ∷ d → (q : Ptr) → IsValid c q → (IsFirst c q → ⊥) → IsValid d q
+  first_out_keeps c d p e is q on other = taken_keeps c d p e (first_taken c d p e is) q on (λ same. other (e, d, is ∙ ap (λ r. (r, e) ∷ d) (sym same)))
+
+  pub last_out_keeps : (c d : Nodes X) (p : Ptr) (e : Element X) → c ≡ d ++ (p, e) ∷ [] → (q : Ptr) → IsValid c q → (IsLast c q → ⊥) → IsValid d q
+  last_out_keeps c d p e is q on other = taken_keeps c d p e (last_taken c d p e is) q on (λ same. other (d, e, is ∙ ap (λ r. d ++ (r, e) ∷ []) (sym same)))
+
+  -- one was taken out, and another was put in where it was
+  pub replaced_keeps : (c d : Nodes X) (p q : Ptr) (o e : Element X) → IsReplaced c p o q e d → (r : Ptr) → IsValid c r → r ≢ p → IsValid d r
+  replaced_keeps c d p q o e (b, a, was, is) r on other = put_keeps d (b ++ a) q e (b, a, is, refl) r (taken_keeps c (b ++ a) p o (b, a, was, refl) r on other)
+
+  pub replaced_apart : (c d : Nodes X) (p q : Ptr) (o e : Element X) → AreDistinct (spots d) → IsReplaced c p o q e d → (r : Ptr) → IsValid c r → r ≢ p → r ≢ q
+  replaced_apart c d p q o e distinct (b, a, was, is) r on other same =
+      let rest : Nodes X = b ++ a in
+      put_apart d rest q e distinct (b, a, is, refl) r (taken_keeps c rest p o (b, a, was, refl) r on other) same
+
+  -- one was moved, also with another value
+  pub moved_keeps : (c d rest : Nodes X) (p : Ptr) (e o : Element X) → IsTaken c p e rest → IsTaken d p o rest → (q : Ptr) → IsValid c q → IsValid d q
+  moved_keeps c d rest p e o was is q on = let (x, lies) = has_at c q on in elim (taken_or_left c rest p q e x was lies) as (λ _. IsValid d q) [
+    | inl same ↦ subst (λ r. IsValid d r) (sym same.0) (valid d p (taken_has d rest p o is))
+    | inr on ↦ lies_valid d q x (left_is_at d rest p q o x is on)
+  ]
+
+  pub moved_front_keeps : (c d : Nodes X) (p : Ptr) → IsMovedFront c p d → (q : Ptr) → IsValid c q → IsValid d q
+  moved_front_keeps c d p (e, rest, taken, is) = moved_keeps c d rest p e e taken (first_taken d rest p e is)
+
+  pub moved_front_has : (c d : Nodes X) (p : Ptr) → IsMovedFront c p d → HasSpot d p
+  moved_front_has c d p (e, rest, taken, is) = taken_has d rest p e (first_taken d rest p e is)
+
+  pub moved_back_keeps : (c d : Nodes X) (p : Ptr) → IsMovedBack c p d → (q : Ptr) → IsValid c q → IsValid d q
+  moved_back_keeps c d p (e, rest, taken, is) = moved_keeps c d rest p e e taken (last_taken d rest p e is)
+
+  pub moved_after_has : (c d : Nodes X) (p r : Ptr) → IsMovedAfter c p r d → HasSpot d p
+  moved_after_has c d p r (e, rest, taken, put) = put_after_has rest d r p e put
+
+  pub moved_after_keeps : (c d : Nodes X) (p r : Ptr) → IsMovedAfter c p r d → (q : Ptr) → IsValid c q → IsValid d q
+  moved_after_keeps c d p r (e, rest, taken, put) = moved_keeps c d rest p e e taken (after_taken d rest r p e put)
+
+  -- a value was written
+  pub written_keeps : (c : Nodes X) (k : ℕ) (w : X) (q : Ptr) → IsValid c q → IsValid (with_item c k w) q
+  written_keeps c k w q on = let (e, lies) = has_at c q on in let (o, _, on) = written_lies c k w q e lies in lies_valid (with_item c k w) q o on
+
+  -- two lists were joined
+  back_is_at : (c d : Nodes X) (q : Ptr) (o : Element X) → HasElementAt d q o → HasElementAt (c ++ d) q o
+  back_is_at c d q o (b, a, is) = (c ++ b, a, ap (λ s. c ++ s) is ∙ sym (append_assoc c b ((q, o) ∷ a)))
+
+  pub front_keeps : (c d n : Nodes X) → n ≡ c ++ d → (q : Ptr) → IsValid c q → IsValid n q
+  front_keeps c d n joined q on = let (o, lies) = has_at c q on in subst (λ s. IsValid s q) (sym joined) (lies_valid (c ++ d) q o (front_is_at c d q o lies))
+
+  pub back_keeps : (c d n : Nodes X) → n ≡ c ++ d → (q : Ptr) → IsValid d q → IsValid n q
+  back_keeps c d n joined q on = let (o, lies) = has_at d q on in subst (λ s. IsValid s q) (sym joined) (lies_valid (c ++ d) q o (back_is_at c d q o lies))
+
+  pub parts_apart : (c d n : Nodes X) → n ≡ c ++ d → AreDistinct (spots n) → (p q : Ptr) → IsValid c p → IsValid d q → p ≢ q
+  parts_apart c d n joined distinct p q on other same =
+      let (e, (b, a, is)) = has_at c p on in
+      let left : Nodes X = b ++ (a ++ d) in
+      let out : IsTaken n p e left = (b, a ++ d, joined ∙ ap (λ s. s ++ d) is ∙ append_assoc b ((p, e) ∷ a) d, refl) in
+      let on : IsValid left q = back_keeps b (a ++ d) left refl q (back_keeps a d (a ++ d) refl q other) in
+      taken_gone n left p e distinct out (valid_has left p (subst (λ r. IsValid left r) (sym same) on))
+
+  -- what `next` and `prev` answer is another spot
+  following : (c : Nodes X) (p q : Ptr) → AreDistinct (spots c) → AreNext c p q → p ≡ q → ⊥
+  following c p q distinct next same = let on = next_index c p q distinct next in let stays = ap (λ r. index_of r (spots c)) same in absurd (omega (arith, on, stays))
+
+  pub next_apart : (c : Nodes X) (p : Ptr) (o : Option Ptr) → AreDistinct (spots c) → MatchOption o (IsLast c p) (λ q. AreNext c p q) → IfSome o (λ q. q ≢ p)
+  next_apart c p None distinct step = tt
+  next_apart c p (Some q) distinct step = λ same. following c p q distinct step (sym same)
+
+  pub prev_apart : (c : Nodes X) (p : Ptr) (o : Option Ptr) → AreDistinct (spots c) → MatchOption o (IsFirst c p) (λ q. AreNext c q p) → IfSome o (λ q. q ≢ p)
+  prev_apart c p None distinct step = tt
+  prev_apart c p (Some q) distinct step = following c q p distinct step
+
+module _ {A : Type 0} where
+  contains_at : (b a : List A) (x : A) → Contains (b ++ x ∷ a) x
+  contains_at [] a x = (0, omega arith, refl)
+  contains_at (y ∷ b) a x = let (k, within, at) = contains_at b a x in (suc k, omega (arith, within), at)
+
+  contained_at : (c : List A) (x : A) → Contains c x → (b : List A) × (a : List A) × (c ≡ b ++ x ∷ a)
+  contained_at [] x (k, within, at) = absurd (omega (arith, within))
+  contained_at (y ∷ c) x (zero, within, at) = ([], c, ap (λ z. z ∷ c) at)
+  contained_at (y ∷ c) x (suc k, within, at) = let (before, after, is) = contained_at c x (k, omega (arith, within), at) in (y ∷ before, after, ap (λ s. y ∷ s) is)
+
+module _ {X : Type 0} where
+  -- the same elements are there, in another order
+  pub permuted_is_at : (c d : Nodes X) (q : Ptr) (o : Element X) → IsPermutation c d → HasElementAt c q o → HasElementAt d q o
+  permuted_is_at c d q o p (b, a, is) =
+      contained_at d (q, o) (Contains-permutation c d (q, o) p (subst (λ s. Contains s (q, o)) (sym is) (contains_at b a (q, o))))
+
+  pub permuted_keeps : (c d : Nodes X) → IsPermutation c d → (q : Ptr) → IsValid c q → IsValid d q
+  permuted_keeps c d p q on = let (o, lies) = has_at c q on in lies_valid d q o (permuted_is_at c d q o p lies)
+
+  pub joined_keeps : (c d n : Nodes X) → IsPermutation (c ++ d) n → (q : Ptr) → IsValid c q → IsValid n q
+  joined_keeps c d n kept q on = permuted_keeps (c ++ d) n kept q (front_keeps c d (c ++ d) refl q on)
+
+  pub joined_takes_over : (c d n : Nodes X) → IsPermutation (c ++ d) n → (q : Ptr) → IsValid d q → IsValid n q
+  joined_takes_over c d n kept q on = permuted_keeps (c ++ d) n kept q (back_keeps c d (c ++ d) refl q on)
