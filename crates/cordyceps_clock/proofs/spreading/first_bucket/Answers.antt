@@ -10,7 +10,7 @@ use Rattle.cordyceps_clock.proofs.spreading.first_bucket.Goals as goal
 pub loop-next-init : goal.loop-next-init
 loop-next-init g c =
     let (o, front, was) = c.requires.first in let (v, holds, tells) = c.time_at.ensures in (
-      seen_first c.args.list.now c.args.at c.next-next.result c.spots_are_distinct.ensures c.requires.first c.next-next.ensures,
+      seen_first c.args.list.now c.args.at c.next-next.result c.spots_are_distinct.ensures c.requires.first c.next-next.ensures.step,
       λ of e after has is at. least_begun of c.args.now c.args.k c.args.list.now after front c.args.at e o v c.time_at.result c.spots_are_distinct.ensures was is holds (tells of has) at,
     )
 
@@ -28,7 +28,7 @@ next-next-requires-in-Some g c = seen_has c.args.list.now c.loop-next.first.len 
 pub loop-next-smaller : goal.loop-next-smaller
 loop-next-smaller g c =
     let has = seen_has c.args.list.now c.loop-next.first.len c.in-Some.at (subst (Seen c.args.list.now c.loop-next.first.len) c.in-Some.is c.loop-next.invariant.0) in
-    subst (λ o. nodes_from c.args.list.now c.next-next-in-Some.result < nodes_from c.args.list.now o) (sym c.in-Some.is) (next_nearer c.args.list.now c.in-Some.at c.next-next-in-Some.result c.spots_are_distinct.ensures has c.next-next-in-Some.ensures)
+    subst (λ o. nodes_from c.args.list.now c.next-next-in-Some.result < nodes_from c.args.list.now o) (sym c.in-Some.is) (next_nearer c.args.list.now c.in-Some.at c.next-next-in-Some.result c.spots_are_distinct.ensures has c.next-next-in-Some.ensures.step)
 
 pub loop-next-preserved : goal.loop-next-preserved
 loop-next-preserved g c =
@@ -36,7 +36,7 @@ loop-next-preserved g c =
     let K : (X → ℕ) → Type 0 = λ of. g.O.Times.computes_by c.args.time.now of in
     let (v, holds, tells) = c.time_at-due.ensures in
     counted_more K now k list c.args.at least c.loop-next.first.at c.loop-next.first.len c.with_next-first.result.len c.in-Some.at c.next-next-in-Some.result v c.time_at-due.result c.with_next-first.result.least c.with_next-first.result.at c.bucket.result c.spots_are_distinct.ensures
-    holds tells c.with_next-first.ensures.len c.with_next-first.ensures.least c.bucket.ensures.is c.if-bucket-k.false c.next-next-in-Some.ensures (subst (λ o. Counted list c.loop-next.first.len o (λ seen. (of : X → ℕ) (e : Element X) (after : Nodes X) → K of → list ≡ (c.args.at, e) ∷ after → bucket_of now (of e.value) ≡ k → IsLeastOf of now k least c.loop-next.first.at seen)) c.in-Some.is c.loop-next.invariant)
+    holds tells c.with_next-first.ensures.len c.with_next-first.ensures.least c.bucket.ensures.is c.if-bucket-k.false c.next-next-in-Some.ensures.step (subst (λ o. Counted list c.loop-next.first.len o (λ seen. (of : X → ℕ) (e : Element X) (after : Nodes X) → K of → list ≡ (c.args.at, e) ∷ after → bucket_of now (of e.value) ≡ k → IsLeastOf of now k least c.loop-next.first.at seen)) c.in-Some.is c.loop-next.invariant)
 
 pub returns-then-bucket-k : goal.returns-then-bucket-k
 returns-then-bucket-k g c of e after has ascends is at =

@@ -62,7 +62,7 @@ loop-left-preserved g c of j ahead others has long due s =
     let (more, spreading, put) = c.place.ensures.placed (number_at of now) j t.done t.e t.ahead others numbered t.spreading in
     record {
       stands = stands_on of now ends list j ahead others c.place.new.ends c.place.new.list more at left c.bucket-k.result c.next-next.result t c.ranges.now.fits due numbered
-          (next_is of now ends list j ahead others at left t c.next-next.result c.spots_are_distinct.ensures c.next-next.ensures) spreading put (left - 1) (omega (arith, c.loop-left-test.true));
+          (next_is of now ends list j ahead others at left t c.next-next.result c.spots_are_distinct.ensures c.next-next.ensures.step) spreading put (left - 1) (omega (arith, c.loop-left-test.true));
       empty = λ i over upto small. c.place.ensures.end.1 i (λ same. omega (arith, over, same, c.max-top.ensures)) ∙ inv.empty i (omega (arith, over, c.max-top.ensures)) upto small;
     }
 

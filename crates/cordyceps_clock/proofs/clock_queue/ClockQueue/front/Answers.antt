@@ -12,7 +12,7 @@ pub returns-clause-first : goal.returns-clause-first
 returns-clause-first g c =
     let nodes = ap (λ (s : Clocked g.row.T.Denot g.row.O.Denot). s.nodes) c.self.view_is in
     let list = c.self.inside.list in let now = c.self.inside.clock in let k = c.bucket-k.result in
-    let (x, after, is) = c.in_ok-at.ensures in let (v, holds, tells) = c.time_at.ensures in let first = c.first_bucket-first.result in
+    let (x, after, is) = c.in_ok-at.ensures.first in let (v, holds, tells) = c.time_at.ensures in let first = c.first_bucket-first.result in
     let callable = subst (λ (s : Clocked g.row.T.Denot g.row.O.Denot). g.O.Times.can_compute s.time) (sym c.self.view_is) c.requires in
     let small : now < 2 ^ 64 = search rules in
     let (of, own) = g.met.O.Times.computes c.self.inside.time callable in

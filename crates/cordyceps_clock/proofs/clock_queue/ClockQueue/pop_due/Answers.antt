@@ -21,19 +21,19 @@ returns-then-now-self-clause-due g c =
     )
 
 pub invariant_of-self : goal.invariant_of-self
-invariant_of-self g c of has = none_timed of c.self.inside.clock c.args.now c.self.inside.ends c.self.inside.list c.in_default.ensures (c.self.invariant of has)
+invariant_of-self g c of has = none_timed of c.self.inside.clock c.args.now c.self.inside.ends c.self.inside.list c.in_default.ensures.first (c.self.invariant of has)
 
 pub returns-in_default-clause-due : goal.returns-in_default-clause-due
 returns-in_default-clause-due g c =
     let clock = ap (λ (s : Clocked g.row.T.Denot g.row.O.Denot). s.clock) c.self.view_is in let nodes = ap (λ (s : Clocked g.row.T.Denot g.row.O.Denot). s.nodes) c.self.view_is in (
       omega (arith, clock, c.if-now-self.false),
       subst (λ l. IsPermutation l c.self.inside.list) nodes (IsPermutation-refl c.self.inside.list),
-      λ of has. (none_later of c.args.now c.self.inside.list c.in_default.ensures, λ a h. subst (λ l. Holds (by_key nat_cmp of) l a) (sym nodes) h),
+      λ of has. (none_later of c.args.now c.self.inside.list c.in_default.ensures.first, λ a h. subst (λ l. Holds (by_key nat_cmp of) l a) (sym nodes) h),
     )
 
 pub returns-in_err-next-clause-due : goal.returns-in_err-next-clause-due
 returns-in_err-next-clause-due g c =
-    absurd (some_stay c.self.inside.list c.advance-self-inside.new.list c.in-Some.at c.in-Some.ensures c.advance-self-inside.ensures.kept c.in_err-next.ensures)
+    absurd (some_stay c.self.inside.list c.advance-self-inside.new.list c.in-Some.at c.in-Some.ensures.first c.advance-self-inside.ensures.kept c.in_err-next.ensures.first)
 
 pub returns-then-due-now-clause-due : goal.returns-then-due-now-clause-due
 returns-then-due-now-clause-due g c =
@@ -41,12 +41,12 @@ returns-then-due-now-clause-due g c =
     let nodes = ap (λ (s : Clocked g.row.T.Denot g.row.O.Denot). s.nodes) c.self.view_is in
     let callable = subst (λ (s : Clocked g.row.T.Denot g.row.O.Denot). g.O.Times.can_compute s.time) (sym c.self.view_is) c.requires.callable in
     let (of, own) = g.met.O.Times.computes c.self.inside.time callable in
-    let reached = (let (v, holds, tells) = c.time_at-due.ensures in none_by of c.advance-self-inside.result c.args.now c.advance-self-inside.new.ends list c.in_ok-next.next c.advance-self-inside.ensures.distinct c.in_ok-next.ensures (c.advance-self-inside.ensures.due of own) v c.time_at-due.result holds (tells of own) c.if-due-now.true c.advance-self-inside.ensures.within.1) in (
+    let reached = (let (v, holds, tells) = c.time_at-due.ensures in none_by of c.advance-self-inside.result c.args.now c.advance-self-inside.new.ends list c.in_ok-next.next c.advance-self-inside.ensures.distinct c.in_ok-next.ensures.first (c.advance-self-inside.ensures.due of own) v c.time_at-due.result holds (tells of own) c.if-due-now.true c.advance-self-inside.ensures.within.1) in (
       omega (arith, clock, c.if-now-self.false, reached.0),
       subst (λ l. IsPermutation l list) nodes c.advance-self-inside.ensures.kept,
       λ f has.
           let asked = subst (λ (s : Clocked g.row.T.Denot g.row.O.Denot). g.O.Times.computes_by s.time f) (sym c.self.view_is) has in
-          let none = (let (v, holds, tells) = c.time_at-due.ensures in none_by f c.advance-self-inside.result c.args.now c.advance-self-inside.new.ends list c.in_ok-next.next c.advance-self-inside.ensures.distinct c.in_ok-next.ensures (c.advance-self-inside.ensures.due f asked) v c.time_at-due.result holds (tells f asked) c.if-due-now.true c.advance-self-inside.ensures.within.1) in
+          let none = (let (v, holds, tells) = c.time_at-due.ensures in none_by f c.advance-self-inside.result c.args.now c.advance-self-inside.new.ends list c.in_ok-next.next c.advance-self-inside.ensures.distinct c.in_ok-next.ensures.first (c.advance-self-inside.ensures.due f asked) v c.time_at-due.result holds (tells f asked) c.if-due-now.true c.advance-self-inside.ensures.within.1) in
           (none.1, λ a h z. c.advance-self-inside.ensures.stable f asked z ∙ subst (λ l. Holds (by_key nat_cmp f) l a) (sym nodes) h z),
     )
 
@@ -59,7 +59,7 @@ pub returns-clause-due : goal.returns-clause-due
 returns-clause-due g c =
     let e = g.T.Linked.element c.take_out.result in let p = c.in_ok-next.next in let now = c.advance-self-inside.result in let until = c.args.now in
     let old = c.self.inside.list in let list = c.advance-self-inside.new.list in let ends = c.advance-self-inside.new.ends in let new = c.take_out.new.list in
-    let distinct = c.advance-self-inside.ensures.distinct in let first = c.in_ok-next.ensures in let taken = c.take_out.ensures.taken in
+    let distinct = c.advance-self-inside.ensures.distinct in let first = c.in_ok-next.ensures.first in let taken = c.take_out.ensures.taken in
     let nodes = ap (λ (s : Clocked g.row.T.Denot g.row.O.Denot). s.nodes) c.self.view_is in let (v, holds, tells) = c.time_at-due.ensures in (
       p,
       λ of has.

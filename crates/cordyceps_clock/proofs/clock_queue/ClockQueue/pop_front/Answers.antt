@@ -14,7 +14,7 @@ invariant_of-self-2 g c of has =
 
 pub returns-in_err-first-clause-taken : goal.returns-in_err-first-clause-taken
 returns-in_err-first-clause-taken g c =
-    absurd (some_stay c.self.inside.list c.advance-self-inside.new.list c.in_ok-at.at c.in_ok-at.ensures c.advance-self-inside.ensures.kept c.in_err-first.ensures)
+    absurd (some_stay c.self.inside.list c.advance-self-inside.new.list c.in_ok-at.at c.in_ok-at.ensures.first c.advance-self-inside.ensures.kept c.in_err-first.ensures.first)
 
 pub returns-clause-taken : goal.returns-clause-taken
 returns-clause-taken g c =
@@ -24,11 +24,11 @@ returns-clause-taken g c =
       p,
       λ of has.
           let own = subst (λ (s : Clocked g.row.T.Denot g.row.O.Denot). g.O.Times.computes_by s.time of) (sym c.self.view_is) has in
-          let timed = c.advance-self-inside.ensures.timed of own in let due = due_at_last of now (2 ^ 64 - 1) c.advance-self-inside.new.ends list p c.advance-self-inside.ensures.distinct c.in_ok-first.ensures (c.advance-self-inside.ensures.due of own) timed (omega arith) in let stable = c.advance-self-inside.ensures.stable of own in (
-            sym (popped_due of now c.advance-self-inside.new.ends old list new p e c.advance-self-inside.ensures.distinct c.in_ok-first.ensures c.take_out.ensures.taken timed due stable),
-            λ a h. popped_holds of now c.advance-self-inside.new.ends old list new p e c.advance-self-inside.ensures.distinct c.in_ok-first.ensures c.take_out.ensures.taken timed due stable a (subst (λ l. Holds (by_key nat_cmp of) l a) (sym nodes) h),
+          let timed = c.advance-self-inside.ensures.timed of own in let due = due_at_last of now (2 ^ 64 - 1) c.advance-self-inside.new.ends list p c.advance-self-inside.ensures.distinct c.in_ok-first.ensures.first (c.advance-self-inside.ensures.due of own) timed (omega arith) in let stable = c.advance-self-inside.ensures.stable of own in (
+            sym (popped_due of now c.advance-self-inside.new.ends old list new p e c.advance-self-inside.ensures.distinct c.in_ok-first.ensures.first c.take_out.ensures.taken timed due stable),
+            λ a h. popped_holds of now c.advance-self-inside.new.ends old list new p e c.advance-self-inside.ensures.distinct c.in_ok-first.ensures.first c.take_out.ensures.taken timed due stable a (subst (λ l. Holds (by_key nat_cmp of) l a) (sym nodes) h),
           ),
-      subst (IsPermutation ((p, e) ∷ new)) nodes (popped_all (λ _. now) now c.advance-self-inside.new.ends old list new p e c.advance-self-inside.ensures.distinct c.in_ok-first.ensures c.take_out.ensures.taken c.advance-self-inside.ensures.kept),
+      subst (IsPermutation ((p, e) ∷ new)) nodes (popped_all (λ _. now) now c.advance-self-inside.new.ends old list new p e c.advance-self-inside.ensures.distinct c.in_ok-first.ensures.first c.take_out.ensures.taken c.advance-self-inside.ensures.kept),
     )
 
 pub returns-in_err-first-clause-kept : goal.returns-in_err-first-clause-kept
