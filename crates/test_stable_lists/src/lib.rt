@@ -23,6 +23,8 @@ mod heap_operations;
 #[cfg(test)]
 mod heaps;
 #[cfg(test)]
+mod kept_spots;
+#[cfg(test)]
 mod keys;
 #[cfg(test)]
 mod queue_spots;

@@ -109,7 +109,6 @@ fn reply_at(list: &Keys, spot: Option<Spot>) -> Reply
 }
 
 /// Makes a call, and returns its reply.
-#[tactic(auto, using(cordyceps_stable::proofs::Reached::first_has, cordyceps_stable::proofs::Reached::last_has))]
 pub fn reply(rt: &impl Abort, alloc: Global, list: &mut Keys, call: &Call) -> Reply {
     at_most(rt, list.len(), LONGEST);
     match call {

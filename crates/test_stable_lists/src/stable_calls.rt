@@ -80,7 +80,6 @@ fn move_after_next(list: &mut StableList<Key>, spot: Spot)
     requires { HasSpot list.old spot }
     ensures { HasSpot list.new spot }
 {
-    list.spots_are_distinct();
     if let Some(next) = list.next(spot) {
         list.move_after(spot, next);
     }
@@ -92,7 +91,9 @@ fn move_after_new(list: &mut StableList<Key>, spot: Spot, handle: Handle)
     requires fits { length list.old < usize.MAX }
     ensures { HasSpot list.new spot }
 {
+    list.spot_is_valid(spot);
     let first = list.push_front(handle);
+    list.spot_is_valid(spot);
     list.move_after(spot, first);
 }
 
@@ -112,7 +113,9 @@ fn by_spot(
         BySpot::InsertBefore(pair) => list.insert_before(spot, make(rt, alloc, *pair)),
         BySpot::InsertAfter(pair) => list.insert_after(spot, make(rt, alloc, *pair)),
         BySpot::Write(key) => {
+            list.spot_is_valid(spot);
             list.get_mut(spot).value = *key;
+            list.spot_is_valid(spot);
             spot
         }
         BySpot::MoveToFront => {
