@@ -9,4 +9,5 @@ pub use Rattle.cordyceps_stable.proofs.Arrivals
 pub use Rattle.cordyceps_stable.proofs.Classes
 pub use Rattle.cordyceps_stable.proofs.Holding
 pub use Rattle.cordyceps_stable.proofs.Reached
+pub use Rattle.cordyceps_stable.proofs.Valid
 pub use Rattle.cordyceps_stable.proofs.Walk
