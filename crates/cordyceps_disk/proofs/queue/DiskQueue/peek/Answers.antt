@@ -82,7 +82,7 @@ returns-clause-next g c =
       | in-None s ↦
           subst (λ o. Next o (seen nodes (tickets_in ls) head)) (sym s.result-is)
           (next_front nodes (tickets_in ls) head now kept.paired u first w read early
-          s.front-in-None.result (sym c.self.invariant.1 ∙ s.in-None.is) s.front-in-None.ensures)
+          s.front-in-None.result (sym c.self.invariant.1 ∙ s.in-None.is) s.front-in-None.ensures.first)
     ])
 
 pub returns-then-first-now-clause-there : goal.returns-then-first-now-clause-there
