@@ -80,6 +80,7 @@ fn move_after_next(list: &mut StableList<Key>, spot: Spot)
     requires { HasSpot list.old spot }
     ensures { HasSpot list.new spot }
 {
+    list.spots_are_distinct();
     if let Some(next) = list.next(spot) {
         list.move_after(spot, next);
     }
