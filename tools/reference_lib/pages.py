@@ -172,8 +172,9 @@ class Writer:
             if meaning:
                 self.page.point(f"`{name}` of [{stem_of(file)}](../../crates/{file})", meaning)
 
-    def item(self, item, name, paths):
-        """An item, with the paths by which users name it."""
+    def item(self, item, name, paths, last=""):
+        """An item, with the paths by which users name it; of a type whose later calls are on another page, those before
+        the first of these."""
         if item.kind == "fn":
             self.call(2, Call(name, item, None))
             return
@@ -184,31 +185,39 @@ class Writer:
         if item.kind == "trait":
             self.trait(item)
         elif item.kind in ("struct", "enum"):
-            self.type(item)
+            self.type(item, last)
 
-    def type(self, item):
+    def later(self, item, first):
+        """The calls of a type from one on, on a page of their own."""
+        self.page.prose(f"The type, and its other calls: {self.page.link(key_of(item), f'`{item.name}`')}.")
+        calls = calls_of(item, impls_of(item))
+        self.calls(calls[index_of(first, calls) :])
+
+    def type(self, item, last):
         impls = list(impls_of(item))
         models = [it for it, trait in impls if trait == "Model"]
         for it in models:
             self.view(it)
         if not models:
             self.read_by(item, [it for it, _ in impls])
-        own = [it for it, trait in impls if not trait]
-        calls = [(it, Call(f"{item.name}::{m.name}", m, it)) for it in own for m in sources.inside(it) if is_call(m)]
+        calls = calls_of(item, impls)
         others = [(it, trait) for it, trait in impls if trait not in ("", "Model")]
         self.table([it for _, it in calls])
-        header = ""
-        for outer, call in calls:
-            if sources.header_of(outer) != header:
-                header = sources.header_of(outer)
-                self.page.prose(f"Of `{header}`:")
-            self.call(3, call)
+        self.calls(calls[: index_of(last, calls)])
         for it, trait in others:
             if sources.inside(it):
                 self.of_trait(item, it, trait)
         marks = sorted({trait for it, trait in others if not sources.inside(it)})
         if marks:
             self.page.prose(f"It is {names(marks)} too.")
+
+    def calls(self, calls):
+        header = ""
+        for outer, call in calls:
+            if sources.header_of(outer) != header:
+                header = sources.header_of(outer)
+                self.page.prose(f"Of `{header}`:")
+            self.call(3, call)
 
     def view(self, model):
         """What a contract sees of a type."""
@@ -293,6 +302,17 @@ class Writer:
         self.table(functions)
         for it in functions:
             self.call(3, it)
+
+
+def calls_of(item, impls):
+    """The calls of a type, each with its block."""
+    own = [it for it, trait in impls if not trait]
+    return [(it, Call(f"{item.name}::{m.name}", m, it)) for it in own for m in sources.inside(it) if is_call(m)]
+
+
+def index_of(name, calls):
+    """The index of a call by its name, or how many calls there are."""
+    return next((at for at, (_, it) in enumerate(calls) if it.name.endswith(f"::{name}")), len(calls))
 
 
 def is_call(item):
