@@ -24,7 +24,8 @@ use std::marker::Model;
 /// nothing, and can be copied and kept anywhere.
 ///
 /// It is valid for the collection that has the element, as long as that has it. Each call that takes a spot requires a
-/// valid one. Nothing checks this when the program runs. Spots cannot be compared, and `Debug` prints no address.
+/// valid one, and the contract of each call of a list says which spots are valid after it. Nothing checks this when the
+/// program runs. Spots cannot be compared, and `Debug` prints no address.
 #[derive(Clone, Copy)]
 #[derive_where(Debug)]
 pub struct Spot {

@@ -1,7 +1,7 @@
 //! Spots that a caller keeps. What the calls promise shows that they are valid, so no test here has a proof file.
-use crate::compared::same;
+use crate::compared::{at_most, same};
 use crate::keys::{Key, ONE, Pair, THREE, TWO, make, parts};
-use crate::sorted_calls::Keys;
+use crate::sorted_calls::{Keys, LONGEST};
 use cordyceps_stable::stable_list::StableList;
 use cordyceps_stable::stable_sorted_list::StableSortedList;
 use std::process::Abort;
@@ -99,4 +99,19 @@ fn a_kept_spot_of_a_sorted_list_is_removed(rt: HostRuntime) {
     list.spot_is_valid(first);
     let one = parts(Some(list.remove(first)));
     came_out(&rt, (two, one), (TWO, (1, 21)));
+}
+
+#[test]
+fn a_spot_of_a_joined_sorted_list_is_removed(rt: HostRuntime) {
+    let mut list: Keys = StableSortedList::new_min();
+    let mut other: Keys = StableSortedList::new_min();
+    list.insert(make(&rt, rt.alloc(), ONE));
+    let second = other.insert(make(&rt, rt.alloc(), TWO));
+    at_most(&rt, list.len(), LONGEST);
+    at_most(&rt, other.len(), LONGEST);
+    list.append(&mut other);
+    let mut plain = list.into_stable_list();
+    plain.spot_is_valid(second);
+    same(&rt, parts(Some(plain.remove(second))), Some(TWO));
+    same(&rt, plain.len(), 1);
 }

@@ -1,5 +1,4 @@
 use Rattle.cordyceps_stable.proofs.Holding.{next_stays, replaced_before, replaced_last}
-use Rattle.cordyceps_stable.proofs.Reached.{replaced_has}
 use Rattle.cordyceps_stable.proofs.Valid.{replaced_apart, replaced_keeps}
 use Rattle.cordyceps_stable.proofs.stable_list.StableList.replace.Goals as goal
 
