@@ -9,5 +9,4 @@ pub use Rattle.cordyceps_stable.specs.Arranged
 pub use Rattle.cordyceps_stable.specs.Changing
 pub use Rattle.cordyceps_stable.specs.Replacing
 pub use Rattle.cordyceps_stable.specs.StableLending
-pub use Rattle.cordyceps_stable.specs.Valid
 pub use Rattle.cordyceps_stable.specs.Walk

@@ -11,113 +11,89 @@ use Rattle.cordyceps_base.specs.Nodes.{Nodes, spots, with_item}
 use Rattle.cordyceps_base.specs.Spots.{index_of, AreDistinct}
 use Rattle.cordyceps_stable.specs.Agreeing.{HasElementAt}
 use Rattle.cordyceps_stable.specs.Replacing.{IsReplaced}
-use Rattle.cordyceps_stable.specs.Valid.{IsThere, IsValid}
 use Rattle.cordyceps_stable.proofs.Holding.{spot_is_at, has_split, first_taken, last_taken, after_taken, taken_gone, left_is_at, taken_or_left, others_stay, front_is_at, written_lies}
 use Rattle.cordyceps_stable.proofs.Reached.{taken_has, put_after_has}
 use Rattle.cordyceps_stable.proofs.Walk.{next_index}
 
 module _ {X : Type 0} where
-  -- the two forms say the same
-  pub valid : (c : Nodes X) (p : Ptr) → HasSpot c p → IsValid c p
-  unfolding IsValid
-  valid c p has = has
+  pub same_keeps : (c d : Nodes X) → d ≡ c → (p : Ptr) → HasSpot c p → HasSpot d p
+  same_keeps c d same p on = subst (λ s. HasSpot s p) (sym same) on
 
-  pub valid_has : (c : Nodes X) (p : Ptr) → IsValid c p → HasSpot c p
-  unfolding IsValid
-  valid_has c p has = has
+  has_at : (c : Nodes X) (p : Ptr) → HasSpot c p → (e : Element X) × HasElementAt c p e
+  has_at c p on = let (k, at) = on in has_split c k p at
 
-  pub there : (c : Nodes X) (p : Ptr) → HasSpot c p → IsThere c p
-  there c p has = (has, valid c p has)
-
-  pub made_valid : (c : Nodes X) (p : Ptr) → HasSpot c p ⊎ IsValid c p → IsThere c p
-  made_valid c p known = elim known as (λ _. IsThere c p) [
-    | inl has ↦ there c p has
-    | inr on ↦ (valid_has c p on, on)
-  ]
-
-  pub same_keeps : (c d : Nodes X) → d ≡ c → (p : Ptr) → IsValid c p → IsValid d p
-  same_keeps c d same p on = subst (λ s. IsValid s p) (sym same) on
-
-  -- the same of an answer that may be none
-  pub some_there : (c : Nodes X) (o : Option Ptr) → IfSome o (λ p. HasSpot c p) → IfSome o (λ p. IsThere c p)
-  some_there c None has = tt
-  some_there c (Some p) has = there c p has
-
-  has_at : (c : Nodes X) (p : Ptr) → IsValid c p → (e : Element X) × HasElementAt c p e
-  has_at c p on = let (k, at) = valid_has c p on in has_split c k p at
-
-  lies_valid : (c : Nodes X) (p : Ptr) (e : Element X) → HasElementAt c p e → IsValid c p
-  lies_valid c p e lies = valid c p (spot_is_at c p e lies)
+  lies_valid : (c : Nodes X) (p : Ptr) (e : Element X) → HasElementAt c p e → HasSpot c p
+  lies_valid c p e lies = spot_is_at c p e lies
 
   -- c is d with the element e at p: the spots of d are those of c except p
-  pub put_keeps : (c d : Nodes X) (p : Ptr) (e : Element X) → IsTaken c p e d → (q : Ptr) → IsValid d q → IsValid c q
+  pub put_keeps : (c d : Nodes X) (p : Ptr) (e : Element X) → IsTaken c p e d → (q : Ptr) → HasSpot d q → HasSpot c q
   put_keeps c d p e taken q on = let (o, lies) = has_at d q on in lies_valid c q o (left_is_at c d p q e o taken lies)
 
-  pub put_apart : (c d : Nodes X) (p : Ptr) (e : Element X) → AreDistinct (spots c) → IsTaken c p e d → (q : Ptr) → IsValid d q → q ≢ p
-  put_apart c d p e distinct taken q on same = taken_gone c d p e distinct taken (subst (λ r. HasSpot d r) same (valid_has d q on))
+  pub put_apart : (c d : Nodes X) (p : Ptr) (e : Element X) → AreDistinct (spots c) → IsTaken c p e d → (q : Ptr) → HasSpot d q → q ≢ p
+  put_apart c d p e distinct taken q on same = taken_gone c d p e distinct taken (subst (λ r. HasSpot d r) same on)
 
-  pub taken_keeps : (c d : Nodes X) (p : Ptr) (e : Element X) → IsTaken c p e d → (q : Ptr) → IsValid c q → q ≢ p → IsValid d q
-  taken_keeps c d p e taken q on other = valid d q (others_stay c d p q e taken (valid_has c q on) (λ same. other (sym same)))
+  pub taken_keeps : (c d : Nodes X) (p : Ptr) (e : Element X) → IsTaken c p e d → (q : Ptr) → HasSpot c q → q ≢ p → HasSpot d q
+  taken_keeps c d p e taken q on other = others_stay c d p q e taken on (λ same. other (sym same))
 
   -- the first or the last was taken out
-  pub first_out_keeps : (c d : Nodes X) (p : Ptr) (e : Element X) → c ≡ (p, e) ∷ d → (q : Ptr) → IsValid c q → (IsFirst c q → ⊥) → IsValid d q
+  pub first_out_keeps : (c d : Nodes X) (p : Ptr) (e : Element X) → c ≡ (p, e) ∷ d → (q : Ptr) → HasSpot c q → (IsFirst c q → ⊥) → HasSpot d q
   first_out_keeps c d p e is q on other = taken_keeps c d p e (first_taken c d p e is) q on (λ same. other (e, d, is ∙ ap (λ r. (r, e) ∷ d) (sym same)))
 
-  pub last_out_keeps : (c d : Nodes X) (p : Ptr) (e : Element X) → c ≡ d ++ (p, e) ∷ [] → (q : Ptr) → IsValid c q → (IsLast c q → ⊥) → IsValid d q
+  pub last_out_keeps : (c d : Nodes X) (p : Ptr) (e : Element X) → c ≡ d ++ (p, e) ∷ [] → (q : Ptr) → HasSpot c q → (IsLast c q → ⊥) → HasSpot d q
   last_out_keeps c d p e is q on other = taken_keeps c d p e (last_taken c d p e is) q on (λ same. other (d, e, is ∙ ap (λ r. d ++ (r, e) ∷ []) (sym same)))
 
   -- one was taken out, and another was put in where it was
-  pub replaced_keeps : (c d : Nodes X) (p q : Ptr) (o e : Element X) → IsReplaced c p o q e d → (r : Ptr) → IsValid c r → r ≢ p → IsValid d r
+  pub replaced_keeps : (c d : Nodes X) (p q : Ptr) (o e : Element X) → IsReplaced c p o q e d → (r : Ptr) → HasSpot c r → r ≢ p → HasSpot d r
   replaced_keeps c d p q o e (b, a, was, is) r on other = put_keeps d (b ++ a) q e (b, a, is, refl) r (taken_keeps c (b ++ a) p o (b, a, was, refl) r on other)
 
-  pub replaced_apart : (c d : Nodes X) (p q : Ptr) (o e : Element X) → AreDistinct (spots d) → IsReplaced c p o q e d → (r : Ptr) → IsValid c r → r ≢ p → r ≢ q
+  pub replaced_apart : (c d : Nodes X) (p q : Ptr) (o e : Element X) → AreDistinct (spots d) → IsReplaced c p o q e d → (r : Ptr) → HasSpot c r → r ≢ p → r ≢ q
   replaced_apart c d p q o e distinct (b, a, was, is) r on other same =
       let rest : Nodes X = b ++ a in
       put_apart d rest q e distinct (b, a, is, refl) r (taken_keeps c rest p o (b, a, was, refl) r on other) same
 
   -- one was moved, also with another value
-  pub moved_keeps : (c d rest : Nodes X) (p : Ptr) (e o : Element X) → IsTaken c p e rest → IsTaken d p o rest → (q : Ptr) → IsValid c q → IsValid d q
-  moved_keeps c d rest p e o was is q on = let (x, lies) = has_at c q on in elim (taken_or_left c rest p q e x was lies) as (λ _. IsValid d q) [
-    | inl same ↦ subst (λ r. IsValid d r) (sym same.0) (valid d p (taken_has d rest p o is))
+  pub moved_keeps : (c d rest : Nodes X) (p : Ptr) (e o : Element X) → IsTaken c p e rest → IsTaken d p o rest → (q : Ptr) → HasSpot c q → HasSpot d q
+  moved_keeps c d rest p e o was is q on = let (x, lies) = has_at c q on in elim (taken_or_left c rest p q e x was lies) as (λ _. HasSpot d q) [
+    | inl same ↦ subst (λ r. HasSpot d r) (sym same.0) (taken_has d rest p o is)
     | inr on ↦ lies_valid d q x (left_is_at d rest p q o x is on)
   ]
 
-  pub moved_front_keeps : (c d : Nodes X) (p : Ptr) → IsMovedFront c p d → (q : Ptr) → IsValid c q → IsValid d q
+  pub moved_front_keeps : (c d : Nodes X) (p : Ptr) → IsMovedFront c p d → (q : Ptr) → HasSpot c q → HasSpot d q
   moved_front_keeps c d p (e, rest, taken, is) = moved_keeps c d rest p e e taken (first_taken d rest p e is)
 
   pub moved_front_has : (c d : Nodes X) (p : Ptr) → IsMovedFront c p d → HasSpot d p
   moved_front_has c d p (e, rest, taken, is) = taken_has d rest p e (first_taken d rest p e is)
 
-  pub moved_back_keeps : (c d : Nodes X) (p : Ptr) → IsMovedBack c p d → (q : Ptr) → IsValid c q → IsValid d q
+  pub moved_back_keeps : (c d : Nodes X) (p : Ptr) → IsMovedBack c p d → (q : Ptr) → HasSpot c q → HasSpot d q
   moved_back_keeps c d p (e, rest, taken, is) = moved_keeps c d rest p e e taken (last_taken d rest p e is)
 
   pub moved_after_has : (c d : Nodes X) (p r : Ptr) → IsMovedAfter c p r d → HasSpot d p
   moved_after_has c d p r (e, rest, taken, put) = put_after_has rest d r p e put
 
-  pub moved_after_keeps : (c d : Nodes X) (p r : Ptr) → IsMovedAfter c p r d → (q : Ptr) → IsValid c q → IsValid d q
+  pub moved_after_keeps : (c d : Nodes X) (p r : Ptr) → IsMovedAfter c p r d → (q : Ptr) → HasSpot c q → HasSpot d q
   moved_after_keeps c d p r (e, rest, taken, put) = moved_keeps c d rest p e e taken (after_taken d rest r p e put)
 
   -- a value was written
-  pub written_keeps : (c : Nodes X) (k : ℕ) (w : X) (q : Ptr) → IsValid c q → IsValid (with_item c k w) q
+  pub written_keeps : (c : Nodes X) (k : ℕ) (w : X) (q : Ptr) → HasSpot c q → HasSpot (with_item c k w) q
   written_keeps c k w q on = let (e, lies) = has_at c q on in let (o, _, on) = written_lies c k w q e lies in lies_valid (with_item c k w) q o on
 
   -- two lists were joined
   back_is_at : (c d : Nodes X) (q : Ptr) (o : Element X) → HasElementAt d q o → HasElementAt (c ++ d) q o
   back_is_at c d q o (b, a, is) = (c ++ b, a, ap (λ s. c ++ s) is ∙ sym (append_assoc c b ((q, o) ∷ a)))
 
-  pub front_keeps : (c d n : Nodes X) → n ≡ c ++ d → (q : Ptr) → IsValid c q → IsValid n q
-  front_keeps c d n joined q on = let (o, lies) = has_at c q on in subst (λ s. IsValid s q) (sym joined) (lies_valid (c ++ d) q o (front_is_at c d q o lies))
+  pub front_keeps : (c d n : Nodes X) → n ≡ c ++ d → (q : Ptr) → HasSpot c q → HasSpot n q
+  front_keeps c d n joined q on = let (o, lies) = has_at c q on in subst (λ s. HasSpot s q) (sym joined) (lies_valid (c ++ d) q o (front_is_at c d q o lies))
 
-  pub back_keeps : (c d n : Nodes X) → n ≡ c ++ d → (q : Ptr) → IsValid d q → IsValid n q
-  back_keeps c d n joined q on = let (o, lies) = has_at d q on in subst (λ s. IsValid s q) (sym joined) (lies_valid (c ++ d) q o (back_is_at c d q o lies))
+  pub back_keeps : (c d n : Nodes X) → n ≡ c ++ d → (q : Ptr) → HasSpot d q → HasSpot n q
+  back_keeps c d n joined q on = let (o, lies) = has_at d q on in subst (λ s. HasSpot s q) (sym joined) (lies_valid (c ++ d) q o (back_is_at c d q o lies))
 
-  pub parts_apart : (c d n : Nodes X) → n ≡ c ++ d → AreDistinct (spots n) → (p q : Ptr) → IsValid c p → IsValid d q → p ≢ q
+  pub parts_apart : (c d n : Nodes X) → n ≡ c ++ d → AreDistinct (spots n) → (p q : Ptr) → HasSpot c p → HasSpot d q → p ≢ q
   parts_apart c d n joined distinct p q on other same =
       let (e, (b, a, is)) = has_at c p on in
       let left : Nodes X = b ++ (a ++ d) in
       let out : IsTaken n p e left = (b, a ++ d, joined ∙ ap (λ s. s ++ d) is ∙ append_assoc b ((p, e) ∷ a) d, refl) in
-      let on : IsValid left q = back_keeps b (a ++ d) left refl q (back_keeps a d (a ++ d) refl q other) in
-      taken_gone n left p e distinct out (valid_has left p (subst (λ r. IsValid left r) (sym same) on))
+      let on : HasSpot left q = back_keeps b (a ++ d) left refl q (back_keeps a d (a ++ d) refl q other) in
+      taken_gone n left p e distinct out (subst (λ r. HasSpot left r) (sym same) on)
 
   -- what `next` and `prev` answer is another spot
   following : (c : Nodes X) (p q : Ptr) → AreDistinct (spots c) → AreNext c p q → p ≡ q → ⊥
@@ -147,11 +123,11 @@ module _ {X : Type 0} where
   permuted_is_at c d q o p (b, a, is) =
       contained_at d (q, o) (Contains-permutation c d (q, o) p (subst (λ s. Contains s (q, o)) (sym is) (contains_at b a (q, o))))
 
-  pub permuted_keeps : (c d : Nodes X) → IsPermutation c d → (q : Ptr) → IsValid c q → IsValid d q
+  pub permuted_keeps : (c d : Nodes X) → IsPermutation c d → (q : Ptr) → HasSpot c q → HasSpot d q
   permuted_keeps c d p q on = let (o, lies) = has_at c q on in lies_valid d q o (permuted_is_at c d q o p lies)
 
-  pub joined_keeps : (c d n : Nodes X) → IsPermutation (c ++ d) n → (q : Ptr) → IsValid c q → IsValid n q
+  pub joined_keeps : (c d n : Nodes X) → IsPermutation (c ++ d) n → (q : Ptr) → HasSpot c q → HasSpot n q
   joined_keeps c d n kept q on = permuted_keeps (c ++ d) n kept q (front_keeps c d (c ++ d) refl q on)
 
-  pub joined_takes_over : (c d n : Nodes X) → IsPermutation (c ++ d) n → (q : Ptr) → IsValid d q → IsValid n q
+  pub joined_takes_over : (c d n : Nodes X) → IsPermutation (c ++ d) n → (q : Ptr) → HasSpot d q → HasSpot n q
   joined_takes_over c d n kept q on = permuted_keeps (c ++ d) n kept q (back_keeps c d (c ++ d) refl q on)

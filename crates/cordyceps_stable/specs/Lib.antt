@@ -3,5 +3,4 @@ pub mod Arranged
 pub mod Changing
 pub mod Replacing
 pub mod StableLending
-pub mod Valid
 pub mod Walk

@@ -1,5 +1,5 @@
 //! A list whose elements are reached by their spots.
-ghost use Rattle.std.specs.Prelude.{◌≡◌, ◌≢◌, ◌⊎◌, ◌+◌, ◌<◌, ◌≤◌, ◌==◌, [], ◌∷◌, ◌++◌, length, slice_get};
+ghost use Rattle.std.specs.Prelude.{◌≡◌, ◌≢◌, ◌+◌, ◌<◌, ◌≤◌, ◌==◌, [], ◌∷◌, ◌++◌, length, slice_get};
 ghost use Rattle.std.specs.Prelude.{IfOk, IfSome, MatchOption, MatchResult, Some, None};
 ghost use Rattle.std.specs.Bool.{Decides};
 ghost use Rattle.std.specs.Borrow.{sem};
@@ -10,7 +10,6 @@ ghost use Rattle.cordyceps_base.specs.Element.{values};
 ghost use Rattle.cordyceps_base.specs.Nodes.{elements, spots, with_item};
 ghost use Rattle.cordyceps_base.specs.Spots.{index_of, AreDistinct};
 ghost use Rattle.cordyceps_stable.specs.Replacing.{IsReplaced};
-ghost use Rattle.cordyceps_stable.specs.Valid.{IsThere, IsValid};
 
 pub use crate::cursor::SpotCursor;
 use cordyceps_base::boxes::Address;
@@ -215,14 +214,14 @@ impl<T: Linked<Links<T>>> StableList<T> {
         let _chain = &self.chain;
     }
 
-    /// Does nothing when the program runs. Its contract states that the spot is valid, for the next call that takes it.
-    /// Requires that the calls before kept it valid, which a check finds by itself in their clauses `kept`.
+    /// Does nothing when the program runs. Its contract states what it requires: that the spot is valid. A check that
+    /// does not find in one step that several calls kept a spot finds it in two, with a call of this between them.
     ///
     /// # Complexity
     /// O(1).
     pub fn spot_is_valid(&self, at: Spot)
-        requires { HasSpot self.now at ⊎ IsValid self.now at }
-        ensures { IsThere self.now at }
+        requires { HasSpot self.now at }
+        ensures { HasSpot self.now at }
     {
         let _chain = &self.chain;
     }
@@ -234,9 +233,9 @@ impl<T: Linked<Links<T>>> StableList<T> {
     pub fn push_front(&mut self, handle: T::Handle) -> Spot
         requires { length self.old < usize.MAX }
         ensures holds { self.new ≡ (result, T.element handle) ∷ self.old }
-        ensures there { IsThere self.new result }
-        ensures kept { (p : Ptr) → IsValid self.old p → IsValid self.new p }
-        ensures apart { (p : Ptr) → IsValid self.old p → p ≢ result }
+        ensures there { HasSpot self.new result }
+        ensures kept { (p : Ptr) → HasSpot self.old p → HasSpot self.new p }
+        ensures apart { (p : Ptr) → HasSpot self.old p → p ≢ result }
         ensures distinct { AreDistinct (spots self.new) }
     {
         let address = self.chain.link_front(T::into_ptr(handle));
@@ -250,9 +249,9 @@ impl<T: Linked<Links<T>>> StableList<T> {
     pub fn push_back(&mut self, handle: T::Handle) -> Spot
         requires { length self.old < usize.MAX }
         ensures holds { self.new ≡ self.old ++ (result, T.element handle) ∷ [] }
-        ensures there { IsThere self.new result }
-        ensures kept { (p : Ptr) → IsValid self.old p → IsValid self.new p }
-        ensures apart { (p : Ptr) → IsValid self.old p → p ≢ result }
+        ensures there { HasSpot self.new result }
+        ensures kept { (p : Ptr) → HasSpot self.old p → HasSpot self.new p }
+        ensures apart { (p : Ptr) → HasSpot self.old p → p ≢ result }
         ensures distinct { AreDistinct (spots self.new) }
     {
         let address = self.chain.link_back(T::into_ptr(handle));
@@ -271,9 +270,9 @@ impl<T: Linked<Links<T>>> StableList<T> {
             (λ spot. (length self.old < usize.MAX) × (self.new ≡ (spot, T.element handle) ∷ self.old)
             × AreDistinct (spots self.new))
             (λ back. (length self.old ≡ usize.MAX) × (back ≡ handle) × (self.new ≡ self.old)) }
-        ensures there { IfOk result (λ spot. IsThere self.new spot) }
-        ensures kept { (p : Ptr) → IsValid self.old p → IsValid self.new p }
-        ensures apart { IfOk result (λ spot. (p : Ptr) → IsValid self.old p → p ≢ spot) }
+        ensures there { IfOk result (λ spot. HasSpot self.new spot) }
+        ensures kept { (p : Ptr) → HasSpot self.old p → HasSpot self.new p }
+        ensures apart { IfOk result (λ spot. (p : Ptr) → HasSpot self.old p → p ≢ spot) }
     {
         if self.len() == usize::MAX {
             return Err(handle);
@@ -293,9 +292,9 @@ impl<T: Linked<Links<T>>> StableList<T> {
             (λ spot. (length self.old < usize.MAX) × (self.new ≡ self.old ++ (spot, T.element handle) ∷ [])
             × AreDistinct (spots self.new))
             (λ back. (length self.old ≡ usize.MAX) × (back ≡ handle) × (self.new ≡ self.old)) }
-        ensures there { IfOk result (λ spot. IsThere self.new spot) }
-        ensures kept { (p : Ptr) → IsValid self.old p → IsValid self.new p }
-        ensures apart { IfOk result (λ spot. (p : Ptr) → IsValid self.old p → p ≢ spot) }
+        ensures there { IfOk result (λ spot. HasSpot self.new spot) }
+        ensures kept { (p : Ptr) → HasSpot self.old p → HasSpot self.new p }
+        ensures apart { IfOk result (λ spot. (p : Ptr) → HasSpot self.old p → p ≢ spot) }
     {
         if self.len() == usize::MAX {
             return Err(handle);
@@ -312,9 +311,9 @@ impl<T: Linked<Links<T>>> StableList<T> {
         requires there { HasSpot self.old at }
         requires fits { length self.old < usize.MAX }
         ensures holds { IsPutBefore self.old at result (T.element handle) self.new }
-        ensures there { IsThere self.new result }
-        ensures kept { (p : Ptr) → IsValid self.old p → IsValid self.new p }
-        ensures apart { (p : Ptr) → IsValid self.old p → p ≢ result }
+        ensures there { HasSpot self.new result }
+        ensures kept { (p : Ptr) → HasSpot self.old p → HasSpot self.new p }
+        ensures apart { (p : Ptr) → HasSpot self.old p → p ≢ result }
         ensures distinct { AreDistinct (spots self.new) }
     {
         let address = self.chain.link_before(at.address, T::into_ptr(handle));
@@ -330,9 +329,9 @@ impl<T: Linked<Links<T>>> StableList<T> {
         requires there { HasSpot self.old at }
         requires fits { length self.old < usize.MAX }
         ensures holds { IsPutAfter self.old at result (T.element handle) self.new }
-        ensures there { IsThere self.new result }
-        ensures kept { (p : Ptr) → IsValid self.old p → IsValid self.new p }
-        ensures apart { (p : Ptr) → IsValid self.old p → p ≢ result }
+        ensures there { HasSpot self.new result }
+        ensures kept { (p : Ptr) → HasSpot self.old p → HasSpot self.new p }
+        ensures apart { (p : Ptr) → HasSpot self.old p → p ≢ result }
         ensures distinct { AreDistinct (spots self.new) }
     {
         let address = self.chain.link_after(at.address, T::into_ptr(handle));
@@ -346,7 +345,7 @@ impl<T: Linked<Links<T>>> StableList<T> {
     pub fn remove(&mut self, at: Spot) -> T::Handle
         requires { HasSpot self.old at }
         ensures taken { IsTaken self.old at (T.element result) self.new }
-        ensures kept { (p : Ptr) → IsValid self.old p → p ≢ at → IsValid self.new p }
+        ensures kept { (p : Ptr) → HasSpot self.old p → p ≢ at → HasSpot self.new p }
         ensures distinct { AreDistinct (spots self.new) }
     {
         let node = self.chain.unlink_at(at.address);
@@ -362,9 +361,9 @@ impl<T: Linked<Links<T>>> StableList<T> {
     pub fn replace(&mut self, at: Spot, handle: T::Handle) -> (T::Handle, Spot)
         requires { HasSpot self.old at }
         ensures replaced { IsReplaced self.old at (T.element result.0) result.1 (T.element handle) self.new }
-        ensures there { IsThere self.new result.1 }
-        ensures kept { (p : Ptr) → IsValid self.old p → p ≢ at → IsValid self.new p }
-        ensures apart { (p : Ptr) → IsValid self.old p → p ≢ at → p ≢ result.1 }
+        ensures there { HasSpot self.new result.1 }
+        ensures kept { (p : Ptr) → HasSpot self.old p → p ≢ at → HasSpot self.new p }
+        ensures apart { (p : Ptr) → HasSpot self.old p → p ≢ at → p ≢ result.1 }
         ensures distinct { AreDistinct (spots self.new) }
     {
         // both for the proof: no other element is at this spot, and there is room once one is out
@@ -385,7 +384,7 @@ impl<T: Linked<Links<T>>> StableList<T> {
     pub fn pop_front(&mut self) -> Option<T::Handle>
         ensures taken { MatchOption result ((self.old ≡ []) × (self.new ≡ []))
             (λ h. (spot : Ptr) × (self.old ≡ (spot, T.element h) ∷ self.new)) }
-        ensures kept { (p : Ptr) → IsValid self.old p → (IsFirst self.old p → ⊥) → IsValid self.new p }
+        ensures kept { (p : Ptr) → HasSpot self.old p → (IsFirst self.old p → ⊥) → HasSpot self.new p }
         ensures distinct { AreDistinct (spots self.new) }
     {
         if self.chain.len() == 0 {
@@ -403,7 +402,7 @@ impl<T: Linked<Links<T>>> StableList<T> {
     pub fn pop_back(&mut self) -> Option<T::Handle>
         ensures taken { MatchOption result ((self.old ≡ []) × (self.new ≡ []))
             (λ h. (spot : Ptr) × (self.old ≡ self.new ++ (spot, T.element h) ∷ [])) }
-        ensures kept { (p : Ptr) → IsValid self.old p → (IsLast self.old p → ⊥) → IsValid self.new p }
+        ensures kept { (p : Ptr) → HasSpot self.old p → (IsLast self.old p → ⊥) → HasSpot self.new p }
         ensures distinct { AreDistinct (spots self.new) }
     {
         if self.chain.len() == 0 {
@@ -434,8 +433,8 @@ impl<T: Linked<Links<T>>> StableList<T> {
         requires { HasSpot self.old at }
         ensures* writes_back { sem 𝓛 (LendsSpot T.row self.entry at result) }
         ensures value { slice_get (values (elements self.old)) (index_of at (spots self.old)) ≡ Some result.now }
-        ensures kept { (written : T) (p : Ptr) → IsValid self.old p
-            → IsValid (with_item self.old (index_of at (spots self.old)) written) p }
+        ensures kept { (written : T) (p : Ptr) → HasSpot self.old p
+            → HasSpot (with_item self.old (index_of at (spots self.old)) written) p }
     {
         self.chain.get_at_mut(at.address)
     }
@@ -446,7 +445,7 @@ impl<T: Linked<Links<T>>> StableList<T> {
     /// O(1).
     pub fn front(&self) -> Option<Spot>
         ensures first { MatchOption result (self.now ≡ []) (λ p. IsFirst self.now p) }
-        ensures there { IfSome result (λ p. IsThere self.now p) }
+        ensures there { IfSome result (λ p. HasSpot self.now p) }
     {
         first_spot(&self.chain)
     }
@@ -457,7 +456,7 @@ impl<T: Linked<Links<T>>> StableList<T> {
     /// O(1).
     pub fn back(&self) -> Option<Spot>
         ensures last { MatchOption result (self.now ≡ []) (λ p. IsLast self.now p) }
-        ensures there { IfSome result (λ p. IsThere self.now p) }
+        ensures there { IfSome result (λ p. HasSpot self.now p) }
     {
         last_spot(&self.chain)
     }
@@ -469,7 +468,7 @@ impl<T: Linked<Links<T>>> StableList<T> {
     pub fn next(&self, at: Spot) -> Option<Spot>
         requires { HasSpot self.now at }
         ensures step { MatchOption result (IsLast self.now at) (λ p. AreNext self.now at p) }
-        ensures there { IfSome result (λ p. IsThere self.now p) }
+        ensures there { IfSome result (λ p. HasSpot self.now p) }
         ensures apart { IfSome result (λ p. p ≢ at) }
     {
         spot_of(self.chain.next_at(at.address))
@@ -482,7 +481,7 @@ impl<T: Linked<Links<T>>> StableList<T> {
     pub fn prev(&self, at: Spot) -> Option<Spot>
         requires { HasSpot self.now at }
         ensures step { MatchOption result (IsFirst self.now at) (λ p. AreNext self.now p at) }
-        ensures there { IfSome result (λ p. IsThere self.now p) }
+        ensures there { IfSome result (λ p. HasSpot self.now p) }
         ensures apart { IfSome result (λ p. p ≢ at) }
     {
         spot_of(self.chain.prev_at(at.address))
@@ -518,8 +517,8 @@ impl<T: Linked<Links<T>>> StableList<T> {
     pub fn move_to_front(&mut self, at: Spot)
         requires { HasSpot self.old at }
         ensures moved { IsMovedFront self.old at self.new }
-        ensures there { IsThere self.new at }
-        ensures kept { (p : Ptr) → IsValid self.old p → IsValid self.new p }
+        ensures there { HasSpot self.new at }
+        ensures kept { (p : Ptr) → HasSpot self.old p → HasSpot self.new p }
         ensures distinct { AreDistinct (spots self.new) }
     {
         self.chain.move_front(at.address);
@@ -534,8 +533,8 @@ impl<T: Linked<Links<T>>> StableList<T> {
     pub fn move_to_back(&mut self, at: Spot)
         requires { HasSpot self.old at }
         ensures moved { IsMovedBack self.old at self.new }
-        ensures there { IsThere self.new at }
-        ensures kept { (p : Ptr) → IsValid self.old p → IsValid self.new p }
+        ensures there { HasSpot self.new at }
+        ensures kept { (p : Ptr) → HasSpot self.old p → HasSpot self.new p }
         ensures distinct { AreDistinct (spots self.new) }
     {
         self.chain.move_back(at.address);
@@ -552,8 +551,8 @@ impl<T: Linked<Links<T>>> StableList<T> {
         requires target { HasSpot self.old to }
         requires other { at ≢ to }
         ensures moved { IsMovedAfter self.old at to self.new }
-        ensures there { IsThere self.new at }
-        ensures kept { (p : Ptr) → IsValid self.old p → IsValid self.new p }
+        ensures there { HasSpot self.new at }
+        ensures kept { (p : Ptr) → HasSpot self.old p → HasSpot self.new p }
         ensures distinct { AreDistinct (spots self.new) }
     {
         self.chain.move_after(at.address, to.address);
@@ -569,9 +568,9 @@ impl<T: Linked<Links<T>>> StableList<T> {
         requires { length self.old + length other.old ≤ usize.MAX }
         ensures joined { self.new ≡ self.old ++ other.old }
         ensures emptied { other.new ≡ [] }
-        ensures kept { (p : Ptr) → IsValid self.old p → IsValid self.new p }
-        ensures taken_over { (p : Ptr) → IsValid other.old p → IsValid self.new p }
-        ensures apart { (p q : Ptr) → IsValid self.old p → IsValid other.old q → p ≢ q }
+        ensures kept { (p : Ptr) → HasSpot self.old p → HasSpot self.new p }
+        ensures taken_over { (p : Ptr) → HasSpot other.old p → HasSpot self.new p }
+        ensures apart { (p q : Ptr) → HasSpot self.old p → HasSpot other.old q → p ≢ q }
         ensures distinct { AreDistinct (spots self.new) }
     {
         let more = other.chain.take();

@@ -18,7 +18,6 @@ fn the_later_spot_is_removed_first(rt: HostRuntime) {
     let second = list.push_back(make(&rt, rt.alloc(), TWO));
     same(&rt, list.is_last(second), true);
     let two = parts(Some(list.remove(second)));
-    list.spot_is_valid(first);
     let one = parts(Some(list.remove(first)));
     came_out(&rt, (two, one), (TWO, ONE));
 }
@@ -28,9 +27,7 @@ fn the_earlier_spot_is_removed_first(rt: HostRuntime) {
     let mut list: StableList<Key> = StableList::new();
     let first = list.push_back(make(&rt, rt.alloc(), ONE));
     let second = list.push_back(make(&rt, rt.alloc(), TWO));
-    list.spot_is_valid(first);
     let one = parts(Some(list.remove(first)));
-    list.spot_is_valid(second);
     let two = parts(Some(list.remove(second)));
     came_out(&rt, (one, two), (ONE, TWO));
 }
@@ -57,17 +54,14 @@ fn a_spot_outlasts_what_is_replaced_and_popped(rt: HostRuntime) {
     let mut list: StableList<Key> = StableList::new();
     let first = list.push_back(make(&rt, rt.alloc(), ONE));
     let second = list.push_back(make(&rt, rt.alloc(), TWO));
-    list.spot_is_valid(first);
     let (one, third) = list.replace(first, make(&rt, rt.alloc(), THREE));
     list.move_to_front(third);
-    list.spot_is_valid(second);
     if !list.is_first(second) {
         came_out(
             &rt,
             (parts(Some(one)), parts(list.pop_front())),
             (ONE, THREE),
         );
-        list.spot_is_valid(second);
         same(&rt, parts(Some(list.remove(second))), Some(TWO));
     }
     same(&rt, list.len(), 0);
@@ -80,9 +74,7 @@ fn a_spot_of_an_appended_list_is_removed(rt: HostRuntime) {
     let first = list.push_back(make(&rt, rt.alloc(), ONE));
     let second = other.push_back(make(&rt, rt.alloc(), TWO));
     list.append(&mut other);
-    list.spot_is_valid(first);
     let one = parts(Some(list.remove(first)));
-    list.spot_is_valid(second);
     let two = parts(Some(list.remove(second)));
     came_out(&rt, (one, two), (ONE, TWO));
 }
@@ -111,7 +103,6 @@ fn a_spot_of_a_joined_sorted_list_is_removed(rt: HostRuntime) {
     at_most(&rt, other.len(), LONGEST);
     list.append(&mut other);
     let mut plain = list.into_stable_list();
-    plain.spot_is_valid(second);
     same(&rt, parts(Some(plain.remove(second))), Some(TWO));
     same(&rt, plain.len(), 1);
 }

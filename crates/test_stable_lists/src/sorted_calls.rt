@@ -21,6 +21,8 @@ pub type Keys = StableSortedList<Key, Least>;
 #[derive(Drop)]
 pub enum Call {
     Insert(Pair),
+    /// Inserts an element, if there is room for one more.
+    TryInsert(Pair),
     /// Appends a list of these elements, in their order.
     Append(&'static [Pair]),
     PopFront,
@@ -116,6 +118,10 @@ pub fn reply(rt: &impl Abort, alloc: Global, list: &mut Keys, call: &Call) -> Re
             let spot = list.insert(make(rt, alloc, *pair));
             Reply::At(around(list, spot))
         }
+        Call::TryInsert(pair) => match list.try_insert(make(rt, alloc, *pair)) {
+            Ok(spot) => Reply::At(around(list, spot)),
+            Err(back) => Reply::Out(parts(Some(back))),
+        },
         Call::Append(pairs) => {
             let mut other = keys_of(rt, alloc, pairs);
             at_most(rt, other.len(), LONGEST);

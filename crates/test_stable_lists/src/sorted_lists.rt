@@ -21,7 +21,7 @@ const CALLS: &[(Call, Reply)] = &[
     (Call::Insert((1, 5)), Reply::At((None, Some(5), None))),
     (Call::Insert((2, 3)), Reply::At((None, Some(3), Some(5)))),
     (Call::Insert((3, 5)), Reply::At((Some(5), Some(5), None))),
-    (Call::Insert((4, 1)), Reply::At((None, Some(1), Some(3)))),
+    (Call::TryInsert((4, 1)), Reply::At((None, Some(1), Some(3)))),
     (Call::Insert((5, 3)), Reply::At((Some(3), Some(3), Some(5)))),
     (Call::Front, Reply::At((None, Some(1), Some(3)))),
     (Call::Back, Reply::At((Some(5), Some(5), None))),

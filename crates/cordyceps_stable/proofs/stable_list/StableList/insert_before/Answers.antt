@@ -2,14 +2,14 @@ use Rattle.cordyceps_base.specs.BySpot.{IsPutBefore}
 use Rattle.cordyceps_stable.proofs.Spots.{put_said}
 use Rattle.cordyceps_stable.proofs.Holding.{before_taken}
 use Rattle.cordyceps_stable.proofs.Reached.{taken_has}
-use Rattle.cordyceps_stable.proofs.Valid.{put_apart, put_keeps, there}
+use Rattle.cordyceps_stable.proofs.Valid.{put_apart, put_keeps}
 use Rattle.cordyceps_stable.proofs.stable_list.StableList.insert_before.Goals as goal
 
 pub returns-clause-holds : goal.returns-clause-holds
 returns-clause-holds g c = let X = g.row.T.Denot in search (put_said {X = X} IsPutBefore)
 
 pub returns-clause-there : goal.returns-clause-there
-returns-clause-there g c = there _ _ (taken_has _ _ _ _ (before_taken _ _ _ _ _ (returns-clause-holds g c)))
+returns-clause-there g c = taken_has _ _ _ _ (before_taken _ _ _ _ _ (returns-clause-holds g c))
 
 pub returns-clause-kept : goal.returns-clause-kept
 returns-clause-kept g c = put_keeps _ _ _ _ (before_taken _ _ _ _ _ (returns-clause-holds g c))

@@ -4,7 +4,7 @@ use Rattle.cordyceps_base.specs.BySpot.{HasSpot}
 use Rattle.cordyceps_base.specs.Nodes.{Nodes}
 use Rattle.cordyceps_stable.proofs.Holding.{others_stay}
 use Rattle.cordyceps_stable.proofs.Spots.{moved_after_said}
-use Rattle.cordyceps_stable.proofs.Valid.{moved_after_has, moved_after_keeps, there}
+use Rattle.cordyceps_stable.proofs.Valid.{moved_after_has, moved_after_keeps}
 use Rattle.cordyceps_stable.proofs.stable_list.StableList.move_after.Goals as goal
 
 pub move_after-requires-clause-other : goal.move_after-requires-clause-other
@@ -19,4 +19,4 @@ pub returns-clause-kept : goal.returns-clause-kept
 returns-clause-kept g c = moved_after_keeps _ _ _ _ (returns-clause-moved g c)
 
 pub returns-clause-there : goal.returns-clause-there
-returns-clause-there g c = there _ _ (moved_after_has _ _ _ _ (returns-clause-moved g c))
+returns-clause-there g c = moved_after_has _ _ _ _ (returns-clause-moved g c)

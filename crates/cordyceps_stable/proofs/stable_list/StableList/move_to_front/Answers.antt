@@ -1,6 +1,6 @@
 use Rattle.cordyceps_base.specs.BySpot.{IsMovedFront}
 use Rattle.cordyceps_stable.proofs.Spots.{move_said}
-use Rattle.cordyceps_stable.proofs.Valid.{moved_front_has, moved_front_keeps, there}
+use Rattle.cordyceps_stable.proofs.Valid.{moved_front_has, moved_front_keeps}
 use Rattle.cordyceps_stable.proofs.stable_list.StableList.move_to_front.Goals as goal
 
 pub returns-clause-moved : goal.returns-clause-moved
@@ -10,4 +10,4 @@ pub returns-clause-kept : goal.returns-clause-kept
 returns-clause-kept g c = moved_front_keeps _ _ _ (returns-clause-moved g c)
 
 pub returns-clause-there : goal.returns-clause-there
-returns-clause-there g c = there _ _ (moved_front_has _ _ _ (returns-clause-moved g c))
+returns-clause-there g c = moved_front_has _ _ _ (returns-clause-moved g c)
