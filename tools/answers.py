@@ -13,6 +13,22 @@ TOKEN = re.compile(r'"[^"]*"|\w+|=>|->|::|==|!=|<=|>=|&&|\|\||\S')
 STEERS = re.compile(r"=>|==|!=|<=|>=|&&|\|\||[<>!?|;{}]|if|else|match|while|for|in|loop|return|break|continue|move")
 # The word of a goal's name that tells what it asks of a call or of a loop.
 ASKS = re.compile(r"-(requires|init|preserved|smaller)(?:-|$)")
+# What a goal is asked of alone, and the import of what it names.
+SEARCH = "search rules"
+# How the name begins that an answer has beside such a `search`.
+WRITTEN = "written-"
+RULES = "use Rattle.std.proofs.Common.{rules}\n"
+# The words with which a `search` in an answer says that it tried all that it could, or that what it asked last did.
+EVERY_WAY = "Every way was tried"
+ENDED = re.compile(r"`grind` found no proof|the goal does not follow")
+# The words of a verdict that names the goals which `search` left open, and those that find fault with what the function
+# calls.
+SEARCHED = "`search` did not prove"
+CALLS = re.compile(r"\bit calls `|\ba call of `.* which has no proof\b")
+# Why a body that is not proved is not refused either.
+LITTLE = "a proof names what the edit took away, and no goal refuses it: change a value, and keep the names"
+SAFETY = "is not judged: only goals of safety are open, which an empty contract would have too: change the result"
+LIMIT = "is not judged: `search` stopped at a limit, so the goal may hold: give it a form in which it does not"
 
 
 def answers_of(text):
@@ -139,10 +155,150 @@ def renamed(text, pairs):
 
 
 def with_answers(text, ways, without):
-    """The text of an Answers.antt with answers under new names as well, and without those to goals that are gone."""
+    """The text of an Answers.antt with answers under new names as well, and without some of its own. What stands behind
+    one of those, as a definition that others use, stays.
+
+    >>> text = "use a.{b}\\n\\npub f : goal.f\\nf c =\\n    b\\n\\ng : b\\ng = h\\n\\npub k : goal.k\\nk = g\\n"
+    >>> with_answers(text, [], {"f"})
+    'use a.{b}\\n\\ng : b\\ng = h\\n\\npub k : goal.k\\nk = g\\n\\n'
+    """
     head, answers = answers_of(text)
     more = [renamed(answers[old], pairs) for pairs in ways for old, _ in pairs]
-    return head + "".join([*(it for name, it in answers.items() if name not in without), "\n", *more])
+    own = [behind(name, it) if name in without else it for name, it in answers.items()]
+    return head + "".join([*own, "\n", *more])
+
+
+def asked_alone(text, goal, absent, is_kept):
+    """The text of an Answers.antt with a `search` as the answer to one goal, and with a hole for each of the others, but
+    for those that are absent. If it is kept, the goal's own answer is there too, under another name.
+
+    >>> text = "use a.{arith}\\n\\npub f : goal.f\\nf g c = b\\n\\npub k : goal.k\\nk = b\\n"
+    >>> print(asked_alone(text, "f", set(), True), end="")
+    use Rattle.std.proofs.Common.{rules}
+    use a.{arith}
+    <BLANKLINE>
+    pub k : goal.k
+    k = ?
+    written-f : goal.f
+    written-f g c = b
+    <BLANKLINE>
+    pub f : goal.f
+    f g c = search rules
+    """
+    head, answers = answers_of(text)
+    binders = {it: re.search(rf"^{re.escape(it)}((?: \w+)*) =", answer, re.M) for it, answer in answers.items()}
+    known = [it[1] for it in (binders.get(goal), *binders.values()) if it]
+    own = [f"pub {it} : goal.{it}\n{it} = ?\n" for it in answers if it not in absent and it != goal]
+    own += [behind(it, answers[it]) for it in answers if not is_kept or it != goal]
+    if is_kept and goal in answers:
+        own.append(re.sub(rf"^(?:(?:abbrev )?pub )?(?={re.escape(goal)} )", WRITTEN, answers[goal], flags=re.M))
+    own.append(f"pub {goal} : goal.{goal}\n{goal}{known[0] if known else ''} = {SEARCH}\n")
+    return "".join([RULES if not re.search(r"(?<![\w-])rules(?![\w-])", head) else "", head, *own])
+
+
+def behind(name, answer):
+    """What stands behind an answer in its text, up to the next one."""
+    ends = re.search(rf"^(?!(?:abbrev |pub )*{re.escape(name)} )[\w+].*", answer, re.M)
+    return answer[ends.start() :] if ends else ""
+
+
+def failing_in(lines, text):
+    """The goals whose answers, of this text, do not hold as these lines of a check say, and those that are not there.
+
+    >>> lines = ["./proofs/f/Answers.antt:9:5: error: `returns`: record `base.proofs.f.Past` has no field `get`"]
+    >>> lines += ["./proofs/f/Answers.antt:3:9: error: `f`: `goal.f-requires`: module `base.proofs.f.Goals` has no `f-requires`"]
+    >>> failing_in(lines, "pub returns : goal.returns\\nreturns c = b\\npub f-requires : goal.f-requires\\nf-requires = b\\n")
+    ({'returns'}, {'f-requires'})
+    """
+    names = answers_of(text)[1].keys()
+    gone = {it[1] for it in map(GONE.search, lines) if it} & names
+    return {it[1] for it in map(FAILS.search, lines) if it} & names - gone, gone
+
+
+def with_calls(text, calls):
+    """The text of an Answers.antt in which the steps of functions, and what they ask for, have other functions' names.
+
+    >>> with_calls("pub one-requires : goal.one-requires\\none-requires c = c.in_ok-one.was one\\n", [("one", "two")])
+    'pub two-requires : goal.two-requires\\ntwo-requires c = c.in_ok-two.was one\\n'
+    """
+    names = "|".join(map(re.escape, sorted(answers_of(text)[1], key=len, reverse=True)))
+    words = re.compile(rf"(?<![\w.-])(?:(?:c|goal)\.[\w.-]+{f'|(?:{names})(?![.-]|[^ ]*[)])' if names else ''})")
+    new = dict(calls)
+    part = re.compile(rf"(?<!\w)({'|'.join(map(re.escape, new))})(?!\w)")
+    return words.sub(lambda it: part.sub(lambda name: new[name[1]], it[0]), text)
+
+
+def calls_changed(old, new):
+    """The functions that a line calls in place of others, as pairs of the old name and the new one.
+
+    >>> calls_changed("    one(x) + f(y)", "    two(x) + f(y)")
+    [('one', 'two')]
+    >>> calls_changed("    one(x)", "    two(three(x))")
+    []
+    """
+    both = [calls_in(TOKEN.findall(it)) for it in (old, new)]
+    return [it for it in zip(*both) if it[0] != it[1]] if len(both[0]) == len(both[1]) else []
+
+
+def is_of_contract(goal):
+    """Whether a goal is about what the function promises: what it ensures, the invariant of a type, or that of a loop.
+    Others ask that a step is safe: that an index or a number is in range, that a place is never reached, that what a
+    function requires holds where it is called, or that a loop ends.
+
+    >>> [is_of_contract(it) for it in ("returns-then-x-clause-len", "invariant_of-self-2", "loop-at-preserved")]
+    [True, True, True]
+    >>> [is_of_contract(it) for it in ("unreachable-requires", "get-requires", "overflow_add-x", "loop-at-smaller")]
+    [False, False, False, False]
+    """
+    name, asks = kind_of(goal)
+    return asks in ("preserved", "init") or not asks and name in ("returns", "invariant_of")
+
+
+def searched_in(lines, text):
+    """The goals that have a `search` as their answers in this text and that these lines of a check name as not proved,
+    though every way was tried, each with its line.
+
+    >>> line = "./proofs/f/Answers.antt:7:9: error: `f`: `search`: no proof of `goal.f` was found. Every way was tried: .."
+    >>> [len(searched_in([line], f"pub f : goal.f\\nf g c = {it}\\n")) for it in ("search rules", "g (search rules)")]
+    [1, 0]
+    """
+    found = {it[1]: line for line in lines if has_ended(line) for it in [FAILS.search(line)] if it}
+    known = answers_of(text)[1]
+    is_search = {it: re.search(rf"^{re.escape(it)} [^=]*= search\b", known.get(it, ""), re.M) for it in found}
+    return {goal: line for goal, line in found.items() if is_search[goal]}
+
+
+def has_ended(line):
+    """Whether a `search` in an answer tried all that it could, or else what it asked last did.
+
+    >>> has_ended("error: `f`: `search`: no proof of `a` was found. It stopped 5 lemmas deep, with lemmas still to try")
+    False
+    >>> has_ended("error: `f`: `search`: no proof of `a` was found. It stopped 5 lemmas deep. .. `grind` found no proof.")
+    True
+    >>> has_ended("error: `f`: `search`: no proof of `a` was found. It stopped 5 lemmas deep. .. stopped at its own limit")
+    False
+    >>> has_ended("error: `f`: `search`: no proof of `a` was found. Every way was tried. .. stopped at its own limit")
+    True
+    """
+    return EVERY_WAY in line or bool(ENDED.search(line)) and "stopped at its own limit" not in line
+
+
+def is_at_limit(line):
+    """Whether a line with an open goal says that `search` stopped before it had tried all that it could."""
+    return not has_ended(line) if FAILS.search(line) else "gave up at one of its limits" in line
+
+
+def open_in(lines):
+    """The goals that these lines of a check name as open, each with its line.
+
+    >>> open_in(["note: src/a.rt:3:5: it is not proved that a (`f`)", "`search` did not prove `f`, `returns`"])
+    {'f': 'note: src/a.rt:3:5: it is not proved that a (`f`)', 'returns': '`search` did not prove `f`, `returns`'}
+    """
+    found = {}
+    for line in lines:
+        for goal in goals_in([line]):
+            found.setdefault(goal, line)
+    return found
 
 
 def asking(text, goals):
@@ -183,55 +339,172 @@ def goals_in(lines):
     return [*dict.fromkeys(names)]
 
 
+def is_for_callees(verdict):
+    """Whether a verdict refuses a function for what it calls, and names no goal of its own.
+
+    >>> is_for_callees("not proved; it calls `base::Chain::empty`, which is not proved")
+    True
+    >>> is_for_callees("no proof: it calls `base::Chain::of_one`, which is not proved")
+    True
+    >>> is_for_callees("no proof: a call of `queue::Consumer::release`, which has no proof: help: prove it first")
+    True
+    >>> is_for_callees("no proof: `search` did not prove `returns`; it calls `base::Chain::get`, which is not proved")
+    False
+    >>> is_for_callees("not proved")
+    False
+    """
+    return SEARCHED not in verdict and bool(CALLS.search(verdict))
+
+
 class Suspect:
-    """A wrong body that leaves only goals open which the right body may not have. Its proof is tried under their names:
-    one that holds there shows that the body was refused for a name."""
+    """A function with a wrong body that a check did not prove, and what is tried before that counts as a refusal: answers
+    that do not fit are taken away, so that `search` tries their goals, and the right body's answers are tried at goals
+    that it may not have.
 
-    def __init__(self, folder, text):
-        # The folder of the function's proof, and the text of its answers.
-        self.folder, self.text = folder, text
-        # The answers to goals that are not there, the ways that were found to hold, and the one goal that is looked at,
-        # with the ways to answer it that are left, what refused the others, and how many were tried.
-        self.gone, self.held, self.goal, self.ways, self.why, self.tries = set(), [], None, [], [], 0
-        # The goals that are open, and the paths of the right body's, once these are known.
-        self.open, self.right = [], None
+    A goal refuses the body if it is about the result, `search` did not prove it and stopped at no limit, and either the
+    right body has it too, or none of the right body's answers holds under its name."""
 
-    def is_of_right(self):
-        """Whether one of the open goals is known to be one of the right body's."""
-        return bool(self.right) and any(parts_of(it)[0] in self.right for it in self.open)
+    def __init__(self, folder, text, keeps, calls, named=None):
+        # The folder of the function's proof, the text of its answers, whether the edit leaves the paths as they are, and
+        # the functions that it calls in place of others, as pairs.
+        self.folder, self.text, self.keeps, self.calls = folder, text, keeps, calls
+        # The answers that are taken away, the ways that were found to hold, the goals at which none did, the one goal that
+        # is looked at, with the ways to answer it that are left, and how many checks were asked for.
+        self.gone, self.held, self.tried, self.goal, self.ways, self.tries = set(), [], set(), None, [], 0
+        # The answers of these whose goals are not there, the goals that `search` is still asked for alone, and whether it
+        # left one of those open.
+        self.absent, self.asked, self.searched, self.has_open = set(), [named] if named else [], set(), False
+        # Whether the goal is asked for that the edit names, and whether the answers have other functions' names.
+        self.is_named, self.is_renamed = bool(named), False
+        # The goals that are open, each with the line that says so, and the paths of the right body's, once these are
+        # known.
+        self.open, self.right = {}, None
+        # The line that shows that the body is refused, once there is one, and the goal of it that was asked for alone.
+        self.refused, self.by = None, None
 
-    def looks_at(self, lines, errors):
-        """Looks at an open goal that these lines of a check name. Returns whether each of them may have an answer under
-        another name."""
-        self.open = goals_in(lines)
-        self.gone |= {it[1] for it in map(GONE.search, errors) if it}
-        names = [*answers_of(self.text)[1]]
-        gone = [it for it in names if it in self.gone]
-        known = [new for pairs in self.held for _, new in pairs]
-        ways = {it: put_under(it, gone) or put_under(it, names) for it in self.open if it not in known}
-        is_of_right = self.is_of_right() or any(it in names for it in ways) or any(FAILS.search(it) for it in lines)
-        if is_of_right or not ways or not all(ways.values()):
+    def is_of_right(self, goal):
+        """Whether one of the goals is known to be one of the right body's."""
+        path = parts_of(goal)[0]
+        known = {parts_of(it)[0] for it in answers_of(self.text)[1]} | (self.right or set())
+        return path in known or self.keeps and kind_of(goal) == ("returns", None)
+
+    def takes(self, lines):
+        """Takes what a check said of the function, and answers whether another one has to be asked: not where a goal
+        refuses the body, or nothing is left to try."""
+        if self.goal and not self.has_way(lines):
+            return self.goes_on()
+        if self.is_named:
+            return self.has_named(lines)
+        if self.asked:
+            return self.has_searched(lines)
+        self.open = {**open_in(lines), **searched_in(lines, self.text)}
+        if self.refuses():
             return False
-        self.goal = min(ways, key=lambda it: len(ways[it]))
-        self.ways, self.why, self.tries = ways[self.goal], [], self.tries + 1
+        fail, gone = failing_in(lines, self.text)
+        new = (fail | gone) - self.gone
+        if new and self.calls:
+            self.text, self.calls, self.is_renamed = with_calls(self.text, self.calls), (), True
+            return self.asks()
+        self.gone, self.absent = self.gone | new, self.absent | gone
+        at_limit = {it for it, line in self.open.items() if is_at_limit(line)} - self.searched if self.text else set()
+        asked = {it for it in new & fail | at_limit if is_of_contract(it)}
+        self.asked = sorted(asked, key=lambda it: (kind_of(it)[0] != "returns", it))
+        # (to take answers away whose goals are not there opens no goal, so the next way can be tried in the same check)
+        return self.asks() if self.asked or new & fail or new and not self.open else self.chooses()
+
+    def has_named(self, lines):
+        """Takes what a check said of the goal that the edit names: neither `search` nor the right body's answer may have
+        proved it. Otherwise all is looked at, as if the edit named none."""
+        goal, self.asked, self.is_named = self.asked[0], [], False
+        names = {it[1] for it in map(FAILS.search, lines) if it}
+        if WRITTEN + goal in names or goal not in answers_of(self.text)[1]:
+            self.open = {goal: it for it in lines if goal in named_in(it)}
+        self.searched = set(self.open)
+        return not self.refuses() and self.asks()
+
+    def has_searched(self, lines):
+        """Takes what a check said of the goal that `search` was asked for alone, and goes on with the next one. If all of
+        them hold, all is checked without their answers."""
+        goal, *self.asked = self.asked
+        self.searched.add(goal)
+        about = [it for it in lines if goal in named_in(it)]
+        self.open.pop(goal, None)
+        if about:
+            self.open[goal], self.has_open = about[0], True
+        if self.refuses():
+            return False
+        return self.asks() if self.asked or not self.has_open else self.chooses()
+
+    def has_way(self, lines):
+        """Whether the way that was tried holds, as a check said."""
+        path, clause = parts_of(self.goal)
+        if any(of == self.goal or not clause and parts_of(of)[0] == path for it in lines for of in named_in(it)):
+            del self.ways[0]
+            return False
+        self.held.append(self.ways[0])
+        self.goal, self.ways = None, []
         return True
 
-    def answers(self):
-        """The text of the answers with the next way."""
-        return with_answers(self.text, [*self.held, self.ways[0]], self.gone)
+    def goes_on(self):
+        """Goes on with the goal that is looked at, or another one, and answers whether there is something to try."""
+        if self.ways:
+            return self.asks()
+        self.tried.add(self.goal)
+        return self.chooses()
 
-    def takes(self, good, errors):
-        """Takes what a check said of that way: the lines that show that a goal refuses the body, and all. Returns
-        whether the body is refused, or None where that is still open."""
+    def chooses(self):
+        """Chooses the goal that is looked at, and answers whether there is one."""
+        self.goal, self.ways = None, []
+        if self.refuses():
+            return False
+        left = {it: self.ways_to(it) for it in self.open if it not in self.tried and not self.is_of_right(it)}
+        # (those first that can refuse the body, and of these the one that takes fewest checks)
+        order = sorted((it for it in left if left[it]), key=lambda it: (not self.counts(it), len(left[it])))
+        if order:
+            self.goal, self.ways = order[0], left[order[0]]
+        return bool(order) and self.asks()
+
+    def asks(self):
+        """Asks for another check."""
         self.tries += 1
-        path = parts_of(self.goal)[0]
-        about = [it for it in errors if any(parts_of(of)[0] == path for of in named_in(it))]
-        if not about:
-            self.held.append(self.ways[0])
-            return None if self.looks_at(good, errors) else bool(good)
-        self.why += [it for it in about if it in good]
-        del self.ways[0]
-        return None if self.ways else bool(self.why)
+        return True
+
+    def ways_to(self, goal):
+        """The ways to answer a goal that the right body may not have by the right body's answers."""
+        names = [*answers_of(self.text)[1]]
+        return put_under(goal, [it for it in names if it in self.gone]) or put_under(goal, names)
+
+    def counts(self, goal):
+        """Whether an open goal can refuse the body."""
+        return is_of_contract(goal) and not is_at_limit(self.open[goal])
+
+    def refuses(self):
+        """Whether an open goal refuses the body, as far as is known."""
+        for goal, line in self.open.items():
+            is_known = goal in self.tried or self.is_of_right(goal) or not self.ways_to(goal)
+            if self.counts(goal) and is_known:
+                self.refused, self.by = line, goal if goal in self.searched else None
+                return True
+        return False
+
+    def waits(self):
+        """Whether it has to be known which goals the right body has before the next way is tried."""
+        return self.goal is not None and self.right is None
+
+    def answers(self):
+        """The text of the answers with the next way, or None where none is left."""
+        if self.asked:
+            return asked_alone(self.text, self.asked[0], self.absent, self.is_named)
+        ways = [*self.held, *self.ways[:1]]
+        is_left = ways or not self.gone >= answers_of(self.text)[1].keys()
+        return with_answers(self.text, ways, self.gone) if is_left else None
+
+    def fault(self):
+        """Why a body that is not proved is not refused."""
+        of_contract = [it for it in self.open if is_of_contract(it)]
+        if of_contract:
+            return f"{LIMIT} (`{of_contract[0]}`)"
+        return f"{SAFETY} (`{[*self.open][0]}`)" if self.open else LITTLE
 
 
 def named_in(line):

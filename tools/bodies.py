@@ -1,17 +1,25 @@
-"""The functions of a source file, and its text without their bodies."""
+"""The functions of a source file, its text without their bodies, and wrong bodies for them."""
 
+import os
 import re
 from collections import namedtuple
+
+from common import text_of
 
 # A function in the sources: its file, its lines, what a check may call its type, if it has one, its name, and the
 # beginning of the `impl` or trait that it stands in, with the imports there.
 Function = namedtuple("Function", "path first last types name header")
 
+# A wrong body: its name, the lines that it changes, by file and number, the functions that these lie in, whether it is
+# tried alone, and the goal that it names.
+Edit = namedtuple("Edit", "name lines functions is_alone goal", defaults=[None])
 BEGINS = re.compile(r"^( *)(?:pub(?:\([a-z]+\))? )?(?:const |unsafe )*fn (\w+)", re.M)
 # A line with which the front end refuses a crate.
 FAULT = re.compile(r"(?:\./)?(src/\S+?\.rt):(\d+):\d+: error\b")
 # A body for a function of any type, where its proof is left open.
 ENDLESS = "loop {}"
+# The line of an edit that names a goal.
+GOAL = re.compile(r"^# goal: .*\n", re.M)
 OF_TYPE = re.compile(r"^(?:unsafe )?(?:impl\b.*|(?:pub(?:\([a-z]+\))? )?trait .*)$", re.M)
 
 
@@ -138,3 +146,37 @@ def without_bodies(path, text):
         if body:
             lines[body] = []
     return [it for it in lines if it.strip() and not it.lstrip().startswith("//")]
+
+
+def read_edit(crate, name):
+    """A wrong body as its file says, or why it cannot be applied."""
+    path, old, named, goal, texts, was = None, None, None, None, {}, {}
+    for line in text_of(f"{crate.folder}/wrong_bodies/{name}").split("\n"):
+        word, _, said = line.partition(": ") if not line.startswith("new:") else ("new", "", line[4:].removeprefix(" "))
+        if word == "file":
+            path, file = said, f"{crate.folder}/{said}"
+            was.setdefault(path, text_of(file) if os.path.isfile(file) else "")
+            texts.setdefault(path, was[path])
+        elif word == "fn":
+            named = said
+        elif word == "# goal":
+            goal = said
+        elif word == "old" and path:
+            old = said
+        elif word == "new" and old:
+            if texts[path].count(old) != 1:
+                return None, f"its text stands not once in {path}: {old}"
+            texts[path], old = texts[path].replace(old, said), None
+        elif line.strip() and not line.startswith("#"):
+            return None, f"a line is not read: {line}"
+    # (each text is one line, so that all lines stay where they are)
+    both = {it: list(enumerate(zip(was[it].split("\n"), texts[it].split("\n")), 1)) for it in was}
+    lines = {(it, number): new for it in was for number, (old, new) in both[it] if old != new}
+    known = [function for it in was for function in functions_of(it, was[it])]
+    if named:
+        functions = [it for it in known if any(f"{type}::{it.name}" == named for type in it.types)]
+    else:
+        functions = [it for it in known if any(it.path == at and it.first <= n <= it.last for at, n in lines)]
+    if not lines or not functions:
+        return None, "it changes nothing, or changes no function and names none"
+    return Edit(name.removesuffix(".edit"), lines, frozenset(functions), bool(named), goal), None
