@@ -3,6 +3,8 @@ a wrong body has and the right body has not."""
 
 import re
 
+import at_hand
+
 BEGINS = re.compile(r"^(?:abbrev )?pub (\S+) : goal\.\S+", re.M)
 # The goals that a line of a check names as open, or as what an error in a proof is about.
 OPEN = re.compile(r"it is not proved that .*\(`([^`]+)`\)|^`search` did not prove ((?:`[^`]+`(?:, | and )?)+)")
@@ -15,9 +17,11 @@ STEERS = re.compile(r"=>|==|!=|<=|>=|&&|\|\||[<>!?|;{}]|if|else|match|while|for|
 ASKS = re.compile(r"-(requires|init|preserved|smaller)(?:-|$)")
 # What a goal is asked of alone, and the import of what it names.
 SEARCH = "search rules"
-# How the name begins that an answer has beside such a `search`.
-WRITTEN = "written-"
-RULES = "use Rattle.std.proofs.Common.{rules}\n"
+IMPORTS = {"rules": "std.proofs.Common", "arith": "std.proofs.Common", "common_steps": "std.proofs.lemmas.Grind"}
+# What a goal is asked of there that the right body's proof has no answer to.
+LONGER = f"{at_hand.FIRST} ({SEARCH}, {SEARCH} depth 7 fits 3000, grind (arith, common_steps))"
+# How many checks are asked for at most before terms that do not fit are given up.
+MOST_TRIES = 5
 # The words with which a `search` in an answer says that it tried all that it could, or that what it asked last did.
 EVERY_WAY = "Every way was tried"
 ENDED = re.compile(r"`grind` found no proof|the goal does not follow")
@@ -28,6 +32,8 @@ CALLS = re.compile(r"\bit calls `|\ba call of `.* which has no proof\b")
 # Why a body that is not proved is not refused either.
 LITTLE = "a proof names what the edit took away, and no goal refuses it: change a value, and keep the names"
 SAFETY = "is not judged: only goals of safety are open, which an empty contract would have too: change the result"
+AT_HAND = "NOT REFUSED: `search` proves its goals where it has the right body's answers at hand"
+UNFIT = "is not judged: terms of the right body's answer do not fit: keep the names, and change another value"
 LIMIT = "is not judged: `search` stopped at a limit, so the goal may hold: give it a form in which it does not"
 
 
@@ -155,45 +161,86 @@ def renamed(text, pairs):
 
 
 def with_answers(text, ways, without):
-    """The text of an Answers.antt with answers under new names as well, and without some of its own. What stands behind
-    one of those, as a definition that others use, stays.
+    """The text of an Answers.antt with answers under new names as well, each at hand of a `search`, and without some of its
+    own. What stands behind one of those, as a definition that others use, stays.
 
     >>> text = "use a.{b}\\n\\npub f : goal.f\\nf c =\\n    b\\n\\ng : b\\ng = h\\n\\npub k : goal.k\\nk = g\\n"
     >>> with_answers(text, [], {"f"})
     'use a.{b}\\n\\ng : b\\ng = h\\n\\npub k : goal.k\\nk = g\\n\\n'
     """
     head, answers = answers_of(text)
-    more = [renamed(answers[old], pairs) for pairs in ways for old, _ in pairs]
+    more = [asked_of(new, {new: renamed(answers[old], pairs)}) for pairs in ways for old, new in pairs]
     own = [behind(name, it) if name in without else it for name, it in answers.items()]
-    return head + "".join([*own, "\n", *more])
+    return importing(head, IMPORTS if more else ()) + "".join([*own, "\n", *more])
 
 
-def asked_alone(text, goal, absent, is_kept):
-    """The text of an Answers.antt with a `search` as the answer to one goal, and with a hole for each of the others, but
-    for those that are absent. If it is kept, the goal's own answer is there too, under another name.
+def begun(crate, folder):
+    """The text of an Answers.antt that has no answer yet, for the function of a crate whose proof is in a folder.
 
-    >>> text = "use a.{arith}\\n\\npub f : goal.f\\nf g c = b\\n\\npub k : goal.k\\nk = b\\n"
-    >>> print(asked_alone(text, "f", set(), True), end="")
-    use Rattle.std.proofs.Common.{rules}
-    use a.{arith}
-    <BLANKLINE>
-    pub k : goal.k
-    k = ?
-    written-f : goal.f
-    written-f g c = b
+    >>> begun("base", "Chain/get")
+    'use Rattle.base.proofs.Chain.get.Goals as goal\\n\\n'
+    """
+    return f"use Rattle.{crate}.proofs.{folder.replace('/', '.')}.Goals as goal\n\n"
+
+
+def asked_beside(text, goals, absent, binders="", questions=()):
+    """The text of an Answers.antt with a `search` as the answer to each of these goals that has the terms of its written
+    answer at hand, and with a hole for each of the others, but for those that are absent.
+
+    >>> text = "use Rattle.std.proofs.Common.{rules, arith}\\n\\npub f : goal.f\\nf g c = h c\\n\\npub k : goal.k\\nk = b\\n"
+    >>> print(asked_beside(text, ["f"], {"k"}), end="")
+    use Rattle.std.proofs.lemmas.Grind.{common_steps}
+    use Rattle.std.proofs.Common.{rules, arith}
     <BLANKLINE>
     pub f : goal.f
-    f g c = search rules
+    f g c = let right = h c in
+            search rules
     """
     head, answers = answers_of(text)
+    own = [f"pub {it} : goal.{it}\n{it} = ?\n" for it in answers if it not in absent and it not in goals]
+    own += [behind(it, answers[it]) for it in answers]
+    own += [questions[it] if it in questions else asked_of(it, answers, binders) for it in goals]
+    return importing(head, IMPORTS) + "".join(own)
+
+
+def asked_of(goal, answers, binders=""):
+    """A `search` as the answer to a goal that has the terms of its written answer at hand, and a longer one where there is
+    no such answer.
+
+    >>> asked_of("k", {}, " c").startswith("pub k : goal.k\\nk c =\\n        Prim.first_of (search rules, search rules depth")
+    True
+    """
+    answer = answers.get(goal, "")
+    begins = re.search(rf"^{re.escape(goal)}(?: \w+)* =", answer, re.M)
+    question = at_hand.LINE + LONGER
+    if begins:
+        question = at_hand.beside(answer[begins.end() : len(answer) - len(behind(goal, answer))])
+        question = question if question.startswith("\n") else f" {question}"
+    # (a line above an answer may open definitions)
+    opened = "".join(re.findall(r"^unfolding .*\n", answer, re.M))
+    return f"pub {goal} : goal.{goal}\n{opened}{goal}{binders_of(goal, answers, binders)} ={question}\n"
+
+
+def binders_of(goal, answers, otherwise=""):
+    """The variables of an answer to a goal, as its own answer or another one has them.
+
+    >>> binders_of("g", {"f": "pub f : goal.f\\nf g c = b\\n"})
+    ' g c'
+    """
     binders = {it: re.search(rf"^{re.escape(it)}((?: \w+)*) =", answer, re.M) for it, answer in answers.items()}
-    known = [it[1] for it in (binders.get(goal), *binders.values()) if it]
-    own = [f"pub {it} : goal.{it}\n{it} = ?\n" for it in answers if it not in absent and it != goal]
-    own += [behind(it, answers[it]) for it in answers if not is_kept or it != goal]
-    if is_kept and goal in answers:
-        own.append(re.sub(rf"^(?:(?:abbrev )?pub )?(?={re.escape(goal)} )", WRITTEN, answers[goal], flags=re.M))
-    own.append(f"pub {goal} : goal.{goal}\n{goal}{known[0] if known else ''} = {SEARCH}\n")
-    return "".join([RULES if not re.search(r"(?<![\w-])rules(?![\w-])", head) else "", head, *own])
+    own = binders.get(goal)
+    # (an answer may have further variables of its own goal)
+    return own[1] if own else min((it[1] for it in binders.values() if it), key=len, default=otherwise)
+
+
+def importing(head, names):
+    """The lines before the first answer, with an import of each of these names that they lack.
+
+    >>> importing("use Rattle.std.proofs.Common.{arith}\\n", ["rules", "arith"])
+    'use Rattle.std.proofs.Common.{rules}\\nuse Rattle.std.proofs.Common.{arith}\\n'
+    """
+    new = [it for it in names if not re.search(rf"(?<![\w-]){it}(?![\w-])", head)]
+    return "".join(f"use Rattle.{IMPORTS[it]}.{{{it}}}\n" for it in new) + head
 
 
 def behind(name, answer):
@@ -301,8 +348,9 @@ def open_in(lines):
     return found
 
 
-def asking(text, goals):
-    """The text of an Answers.antt with a hole for each of its answers, and one for each of these goals.
+def asking(text, goals, questions=()):
+    """The text of an Answers.antt with a hole for each of its answers, and one for each of these goals; and with questions
+    under other names, each as its name, its goal and its text.
 
     >>> print(asking("use a.{b}\\npub f-requires : goal.f-requires\\nf-requires c = b\\n", ["returns", "returns"]), end="")
     use a.{b}
@@ -310,9 +358,15 @@ def asking(text, goals):
     f-requires = ?
     pub returns : goal.returns
     returns = ?
+    >>> print(asking("", [], [("asked-1", "f", "pub f : goal.f\\nf g c = f-is\\n")]).split("}\\n")[-1], end="")
+    asked-1 : goal.f
+    asked-1 g c = f-is
     """
     head, answers = answers_of(text)
-    return head + "".join(f"pub {it} : goal.{it}\n{it} = ?\n" for it in dict.fromkeys([*answers, *goals]))
+    holes = [f"pub {it} : goal.{it}\n{it} = ?\n" for it in dict.fromkeys([*answers, *goals])]
+    own = [behind(it, answers[it]) for it in answers] if questions else []
+    named = [re.sub(rf"^(?:pub )?{re.escape(goal)}(?= )", name, it, flags=re.M) for name, goal, it in questions]
+    return importing(head, IMPORTS if questions else ()) + "".join([*own, *holes, *named])
 
 
 def holes_in(lines, folder):
@@ -324,6 +378,18 @@ def holes_in(lines, folder):
     """
     hole = re.compile(rf"(?:\./)?proofs/{re.escape(folder)}/Answers\.antt:\d+:\d+: goal \? in `([^`]+)`")
     return [it[1] for it in map(hole.match, lines) if it]
+
+
+def is_proved(name, lines, folder):
+    """Whether an answer of this name in a folder of proofs has no error as these lines of a check say.
+
+    >>> lines = ["./proofs/f/Answers.antt:7:11: error: `asked-1`: `search`: no proof of `a` was found."]
+    >>> is_proved("asked-1", lines, "f"), is_proved("asked-2", lines, "f"), is_proved("asked-1", lines, "g")
+    (False, True, True)
+    """
+    about = [it for it in lines if re.match(rf"(?:\./)?proofs/{re.escape(folder)}/Answers\.antt:\d+:\d+: error", it)]
+    names = [it[1] if it else None for it in map(FAILS.search, about)]
+    return name not in names and None not in names
 
 
 def goals_in(lines):
@@ -357,30 +423,38 @@ def is_for_callees(verdict):
 
 
 class Suspect:
-    """A function with a wrong body that a check did not prove, and what is tried before that counts as a refusal: answers
-    that do not fit are taken away, so that `search` tries their goals, and the right body's answers are tried at goals
-    that it may not have.
+    """A function with a wrong body that a check did not prove, and what is tried before that counts as a refusal. Where a
+    written answer does not fit, its goal is asked of a `search` that has the answer's terms at hand. Answers that do not
+    fit are then taken away, so that other goals are tried, and the right body's answers are tried at goals that it may not
+    have.
 
-    A goal refuses the body if it is about the result, `search` did not prove it and stopped at no limit, and either the
-    right body has it too, or none of the right body's answers holds under its name."""
+    A goal refuses the body if it is about the result, if the `search` did not prove it, and if that proves the right
+    body's. So it does where the right body's answer is at hand. Where the right body needs no answer, the goal is one of
+    the right body's, or none of the right body's answers holds under its name; and if `search` stopped at a limit, a
+    longer one did not prove it either."""
 
-    def __init__(self, folder, text, keeps, calls, named=None):
-        # The folder of the function's proof, the text of its answers, whether the edit leaves the paths as they are, and
-        # the functions that it calls in place of others, as pairs.
-        self.folder, self.text, self.keeps, self.calls = folder, text, keeps, calls
-        # The answers that are taken away, the ways that were found to hold, the goals at which none did, the one goal that
-        # is looked at, with the ways to answer it that are left, and how many checks were asked for.
-        self.gone, self.held, self.tried, self.goal, self.ways, self.tries = set(), [], set(), None, [], 0
-        # The answers of these whose goals are not there, the goals that `search` is still asked for alone, and whether it
-        # left one of those open.
-        self.absent, self.asked, self.searched, self.has_open = set(), [named] if named else [], set(), False
-        # Whether the goal is asked for that the edit names, and whether the answers have other functions' names.
-        self.is_named, self.is_renamed = bool(named), False
+    def __init__(self, folder, text, keeps, calls, named=None, binders=""):
+        # The folder of the function's proof, the text of its answers, with the variables of each, whether the edit leaves
+        # the paths as they are, and the functions that it calls in place of others, as pairs.
+        self.binders, self.folder, self.text, self.keeps, self.calls = binders, folder, text, keeps, calls
+        # The answers that are taken away, those of these whose goals are not there, the ways that were found to hold, the
+        # goals at which none did, the one goal that is looked at, with the ways to answer it that are left, and how many
+        # checks were asked for.
+        self.gone, self.absent, self.held, self.tried, self.goal, self.ways, self.tries = set(), set(), [], set(), None, [], 0
+        # The goals that are asked for with the right body's answers at hand, the texts of the questions that are not the
+        # first, and of these goals those that were proved, and those at which the right body's terms do not fit.
+        self.beside, self.questions, self.proved, self.unfit = [named] if named else [], {}, set(), set()
+        # Whether the goal is asked for that the edit names, whether the answers have other functions' names, and how they
+        # were before.
+        self.is_named, self.is_renamed, self.written, self.back = bool(named), False, text, [(new, old) for old, new in calls]
+        if named and calls:
+            self.text = with_calls(text, calls)
         # The goals that are open, each with the line that says so, and the paths of the right body's, once these are
         # known.
         self.open, self.right = {}, None
-        # The line that shows that the body is refused, once there is one, and the goal of it that was asked for alone.
-        self.refused, self.by = None, None
+        # The line that shows that the body is refused, once there is one, and the goal of it that was asked for; and before
+        # that the goal, the line and the question of which it is not known yet whether it proves the right body's goal.
+        self.refused, self.by, self.asserted = None, None, None
 
     def is_of_right(self, goal):
         """Whether one of the goals is known to be one of the right body's."""
@@ -393,11 +467,10 @@ class Suspect:
         refuses the body, or nothing is left to try."""
         if self.goal and not self.has_way(lines):
             return self.goes_on()
-        if self.is_named:
-            return self.has_named(lines)
-        if self.asked:
-            return self.has_searched(lines)
-        self.open = {**open_in(lines), **searched_in(lines, self.text)}
+        if self.beside:
+            return self.has_beside(lines)
+        found = {**open_in(lines), **searched_in(lines, self.text)}
+        self.open = {goal: line for goal, line in found.items() if goal not in self.proved}
         if self.refuses():
             return False
         fail, gone = failing_in(lines, self.text)
@@ -406,34 +479,50 @@ class Suspect:
             self.text, self.calls, self.is_renamed = with_calls(self.text, self.calls), (), True
             return self.asks()
         self.gone, self.absent = self.gone | new, self.absent | gone
-        at_limit = {it for it, line in self.open.items() if is_at_limit(line)} - self.searched if self.text else set()
-        asked = {it for it in new & fail | at_limit if is_of_contract(it)}
-        self.asked = sorted(asked, key=lambda it: (kind_of(it)[0] != "returns", it))
+        asked = {it for it in new & fail if is_of_contract(it)} or {*self.at_limit()}
+        self.beside = sorted(it for it in asked - self.proved - self.unfit if self.is_of_right(it))
         # (to take answers away whose goals are not there opens no goal, so the next way can be tried in the same check)
-        return self.asks() if self.asked or new & fail or new and not self.open else self.chooses()
+        return self.asks() if self.beside or new & fail or new and not self.open else self.chooses()
 
-    def has_named(self, lines):
-        """Takes what a check said of the goal that the edit names: neither `search` nor the right body's answer may have
-        proved it. Otherwise all is looked at, as if the edit named none."""
-        goal, self.asked, self.is_named = self.asked[0], [], False
-        names = {it[1] for it in map(FAILS.search, lines) if it}
-        if WRITTEN + goal in names or goal not in answers_of(self.text)[1]:
-            self.open = {goal: it for it in lines if goal in named_in(it)}
-        self.searched = set(self.open)
-        return not self.refuses() and self.asks()
+    def has_beside(self, lines):
+        """Takes what a check said of the goals that were asked for with the right body's answers at hand: one that is open
+        refuses the body, even where `search` stopped at a limit. Where none is, all is checked without the answers that do
+        not fit; and as if the edit named no goal, if it did."""
+        asked, text = self.beside, self.answers()
+        found = at_hand.left_open(lines, text)
+        about = {goal: line for line in lines for goal in named_in(line) or asked if " error: " in line}
+        for goal in asked:
+            if goal in found:
+                question = answers_of(text)[1][goal]
+                self.asserted = goal, found[goal], with_calls(question, self.back) if self.is_renamed else question
+                # (that the question proves the right body's goal was shown when the edit got the goal's name)
+                return self.confirms(True) if self.is_named else self.asks()
+        # (a term of the right body's that does not fit is at hand in its turn)
+        finer = {goal: at_hand.refined(text, about[goal]) for goal in asked if goal in about}
+        self.questions = {goal: answers_of(it)[1][goal] for goal, it in finer.items() if it and self.tries < MOST_TRIES}
+        self.proved |= {goal for goal in asked if goal not in about}
+        self.unfit |= about.keys() & set(asked) - self.questions.keys()
+        self.beside = [*self.questions]
+        if self.is_named and not self.beside:
+            self.text, self.is_named = self.written, False
+        self.open = {goal: line for goal, line in self.open.items() if goal not in self.proved}
+        return self.asks()
 
-    def has_searched(self, lines):
-        """Takes what a check said of the goal that `search` was asked for alone, and goes on with the next one. If all of
-        them hold, all is checked without their answers."""
-        goal, *self.asked = self.asked
-        self.searched.add(goal)
-        about = [it for it in lines if goal in named_in(it)]
-        self.open.pop(goal, None)
-        if about:
-            self.open[goal], self.has_open = about[0], True
-        if self.refuses():
+    def confirms(self, is_proved):
+        """Takes whether the question that the body leaves open proves the right body's goal. If so, it refuses the body, and
+        else its terms do not fit. Answers whether another check has to be asked."""
+        goal, line, _ = self.asserted
+        self.asserted, self.beside = None, []
+        if is_proved:
+            self.refused, self.by = line, goal
             return False
-        return self.asks() if self.asked or not self.has_open else self.chooses()
+        self.unfit.add(goal)
+        return self.asks()
+
+    def at_limit(self):
+        """The open goals about the result at which `search` stopped at a limit, and that are not asked for yet."""
+        known = self.proved | self.unfit
+        return [it for it in self.open if is_of_contract(it) and is_at_limit(self.open[it]) and it not in known]
 
     def has_way(self, lines):
         """Whether the way that was tried holds, as a check said."""
@@ -462,7 +551,20 @@ class Suspect:
         order = sorted((it for it in left if left[it]), key=lambda it: (not self.counts(it), len(left[it])))
         if order:
             self.goal, self.ways = order[0], left[order[0]]
-        return bool(order) and self.asks()
+            return self.asks()
+        return self.asks_beside()
+
+    def asks_beside(self):
+        """Asks for the goals of the right body at which `search` stopped at a limit, with the right body's answers at hand,
+        and answers whether there are any."""
+        at_limit = self.at_limit()
+        unknown = [it for it in at_limit if not self.is_of_right(it)]
+        if unknown and self.right is None:
+            # (which goals the right body has is asked for all such functions of the crate together)
+            self.goal = unknown[0]
+            return self.asks()
+        self.beside = [it for it in at_limit if it not in unknown]
+        return bool(self.beside) and self.asks()
 
     def asks(self):
         """Asks for another check."""
@@ -476,34 +578,36 @@ class Suspect:
 
     def counts(self, goal):
         """Whether an open goal can refuse the body."""
-        return is_of_contract(goal) and not is_at_limit(self.open[goal])
+        return is_of_contract(goal) and not is_at_limit(self.open[goal]) and goal not in self.unfit
 
     def refuses(self):
         """Whether an open goal refuses the body, as far as is known."""
         for goal, line in self.open.items():
             is_known = goal in self.tried or self.is_of_right(goal) or not self.ways_to(goal)
             if self.counts(goal) and is_known:
-                self.refused, self.by = line, goal if goal in self.searched else None
+                self.refused = line
                 return True
         return False
 
     def waits(self):
-        """Whether it has to be known which goals the right body has before the next way is tried."""
-        return self.goal is not None and self.right is None
+        """Whether it has to be known which goals the right body has, or what proves one, before the next way is tried."""
+        return bool(self.asserted) or self.goal is not None and self.right is None
 
     def answers(self):
         """The text of the answers with the next way, or None where none is left."""
-        if self.asked:
-            return asked_alone(self.text, self.asked[0], self.absent, self.is_named)
+        if self.beside:
+            return asked_beside(self.text, self.beside, self.absent, self.binders, self.questions)
         ways = [*self.held, *self.ways[:1]]
         is_left = ways or not self.gone >= answers_of(self.text)[1].keys()
         return with_answers(self.text, ways, self.gone) if is_left else None
 
     def fault(self):
         """Why a body that is not proved is not refused."""
-        of_contract = [it for it in self.open if is_of_contract(it)]
-        if of_contract:
-            return f"{LIMIT} (`{of_contract[0]}`)"
+        at_limit, unfit = self.at_limit(), sorted(it for it in self.unfit if it in self.open or it in self.gone)
+        if at_limit or unfit:
+            return f"{LIMIT} (`{at_limit[0]}`)" if at_limit else f"{UNFIT} (`{unfit[0]}`)"
+        if self.proved:
+            return f"{AT_HAND} (`{min(self.proved)}`)"
         return f"{SAFETY} (`{[*self.open][0]}`)" if self.open else LITTLE
 
 

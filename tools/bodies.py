@@ -51,6 +51,28 @@ def faults_in(lines):
     return [(it[1], int(it[2])) for it in map(FAULT.match, lines) if it]
 
 
+def parts_by(faults, edits, laid, twins):
+    """The parts of edits that are tried next, where together they do not compile: each at which the front end found a
+    fault alone, and the others together; or two halves, where the faults do not tell."""
+    is_at_fault = [has_fault(it, twin, faults) for it, twin in zip(laid, twins)]
+    alone = [[edit] for edit, it in zip(edits, is_at_fault) if it]
+    others = [edit for edit, it in zip(edits, is_at_fault) if not it]
+    half = len(edits) // 2
+    return [others, *alone] if alone and others else [edits[:half], edits[half:]]
+
+
+def has_fault(edit, twin, faults):
+    """Whether one of the faults lies in what an edit wrote, or in a function that it makes wrong.
+
+    >>> edit = Edit("a", {("src/lib.rt", 9): "    x"}, {Function("src/lib.rt", 4, 6, (), "f", "")}, False)
+    >>> [has_fault(edit, None, [("src/lib.rt", it)]) for it in (3, 4, 6, 7, 9)]
+    [False, True, True, False, True]
+    """
+    wrote = () if twin else edit.lines
+    spans = [(it.path, range(it.first, it.last + 1)) for it in edit.functions]
+    return any(it in wrote or any(it[0] == path and it[1] in span for path, span in spans) for it in faults)
+
+
 def types_of(header):
     """What a check may name the type of an `impl` or of a trait: with the trait's name behind it, and its arguments.
 
@@ -100,6 +122,21 @@ def is_for_all(header):
     parameters = header[: len(header) - len(without_parameters(header)) + len("impl")]
     named = [it.strip() for it in (of[1] or "").split(",") if it.strip()] if of else []
     return bool(of) and all(re.search(rf"[<,]\s*{re.escape(it)}\s*[:,>]", parameters) for it in named)
+
+
+def is_generic(function, text):
+    """Whether a function, or the `impl` or trait that it stands in, has parameters beside lifetimes.
+
+    >>> is_generic(Function("", 1, 1, (), "f", ""), "fn f<'a, T: Drop>(x: &'a T) {}")
+    True
+    >>> is_generic(Function("", 1, 1, (), "f", ""), "fn f<'a>(x: &'a u8) {}")
+    False
+    >>> is_generic(Function("", 1, 1, (), "f", "impl<T> A<T> {\\n"), "    fn f() {}")
+    True
+    """
+    own = "\n".join(text.split("\n")[function.first - 1 : function.last]).split("{")[0]
+    of_type = rf"(?:\bfn {function.name}|^impl)<(?:\s*'\w+,)*\s*[A-Za-z]"
+    return any(re.search(of_type, it) for it in (own, function.header)) or bool(re.search(r": &?(?:mut )?impl\b", own))
 
 
 def module_of(path):

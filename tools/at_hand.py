@@ -1,0 +1,207 @@
+"""Puts the terms of a written answer at hand of a `search` at the same goal, so that it need only find what differs."""
+
+import re
+
+# What opens and closes, and the words between which a term names others.
+OPENS, CLOSES = "([{", ")]}"
+WORD = re.compile(r"[\w.-]+|\S")
+# A term that is a call of a tactic, whose goal is known only where it stands, and one that rewrites its goal first.
+TACTIC = re.compile(r"(?:search|grind|omega|cc|assumption|first_of|hlevel)(?![\w.-])")
+REWRITES = re.compile(r"(?:rw|simp)(?![\w.-])")
+# A term that stays as it is: one that holds at any goal, and a value whose type is known only where it stands.
+AS_IT_IS = re.compile(r"(?:absurd|elim)(?![\w.-])|\d+$|\[\]$|_$")
+# A term by which a goal holds whose sides compute to the same, and a name.
+COMPUTES = re.compile(r"refl|\?")
+NAME = re.compile(r"[\w+-]+")
+# What a goal is asked of, and where such a question stands: on a line of its own, so that its place tells it from others.
+SEARCH = "search rules"
+LINE = "\n        "
+ASKED = re.compile(r" +(?:Prim\.first_of \()?")
+# (a lemma may have this name)
+FIRST = "Prim.first_of"
+FAILED = re.compile(r"\.antt:(\d+):(\d+): error: `([^`]+)`: (`(?:search|grind|omega|cc)`)?")
+# The words with which a term is refused whose type is not the one that is wanted where it stands.
+MISMATCH = "but this has type"
+
+
+def words_of(term):
+    """The words and signs of a term, each with the place where it begins and its depth in brackets."""
+    depth = 0
+    for it in WORD.finditer(term):
+        depth -= it[0] in CLOSES
+        yield it[0], it.start(), depth
+        depth += it[0] in OPENS
+
+
+def split_at(term, sign):
+    """The parts of a term between such signs outside of brackets.
+
+    >>> split_at("f (a, b), c", ",")
+    ['f (a, b)', 'c']
+    """
+    places = [-1, *(at for word, at, depth in words_of(term) if word == sign and not depth), len(term)]
+    return [it for it in (term[one + 1 : other].strip() for one, other in zip(places, places[1:])) if it]
+
+
+def let_of(term):
+    """The `let` that a term begins with, up to its `in`, and the term behind it; None if it begins with none.
+
+    >>> let_of("let a = let b = c in d in f a")
+    ('let a = let b = c in d in', 'f a')
+    >>> let_of("f a")
+    """
+    open_ones = 0
+    for word, at, depth in words_of(term):
+        if not depth and word in ("let", "in"):
+            open_ones += 1 if word == "let" else -1
+        if not open_ones:
+            return (term[: at + 2], term[at + 2 :].strip()) if at else None
+    return None
+
+
+def binders_of(term):
+    """The variables that a term binds, with their λ, and the term behind them; None if it binds none.
+
+    >>> binders_of("λ (h : T a.b) was. f h")
+    ('λ (h : T a.b) was.', 'f h')
+    """
+    if not term.startswith("λ"):
+        return None
+    ends = next((at for at, it in dots_of(term)), None)
+    return (term[: ends + 1], term[ends + 1 :].strip()) if ends else None
+
+
+def dots_of(term):
+    """The dots outside of brackets that end a row of variables."""
+    depth = 0
+    for at, it in enumerate(term):
+        depth += (it in OPENS) - (it in CLOSES)
+        if it == "." and not depth and term[at + 1 : at + 2].isspace():
+            yield at, it
+
+
+def is_closed(term, opens):
+    """Whether the bracket at this place of a term is closed at the term's end.
+
+    >>> is_closed("(a, b)", 0), is_closed("(a) (b)", 0)
+    (True, False)
+    """
+    depth = 0
+    for at in range(opens, len(term)):
+        depth += (term[at] in OPENS) - (term[at] in CLOSES)
+        if not depth:
+            return at == len(term) - 1
+    return False
+
+
+def beside(term, bound=frozenset()):
+    """A term with these variables bound as a `search` that has it at hand: as `right`, where its type is known by itself. Its parts get one each.
+
+    >>> shown = lambda term: " ".join(beside(term).split())
+    >>> shown("let a = b in f a c.x")
+    'let a = b in let right = f a c.x in search rules'
+    >>> shown("λ h. (f h, omega (arith, h))")
+    'λ h. ((let right = f h in search rules), ( Prim.first_of (search rules, omega (arith, h))))'
+    >>> shown("record { a = f c.x; b = rw e refl; }")
+    'record { a = (let right = f c.x in search rules); b = (rw e ( search rules)) }'
+    >>> shown("rw e at t")
+    'let right = rw e at t in search rules'
+    >>> shown("let a = b in (a, meets, [])")
+    'let a = b in ((let right = a in search rules), ( search (rules, meets)), ([]))'
+    """
+    term = " ".join(term.split())
+    in_front = let_of(term) or binders_of(term)
+    if in_front:
+        return f"{in_front[0]} {beside(in_front[1], bound | {*NAME.findall(in_front[0])})}"
+    if term.startswith("(") and is_closed(term, 0):
+        return f"({', '.join(f'({beside(it, bound)})' for it in split_at(term[1:-1], ','))})"
+    if re.match(r"record *\{", term) and is_closed(term, term.index("{")):
+        fields = [it.partition("=") for it in split_at(term[term.index("{") + 1 : -1], ";")]
+        return f"record {{ {'; '.join(f'{name.strip()} = ({beside(it, bound)})' for name, _, it in fields)} }}"
+    return leaf(term, bound)
+
+
+def leaf(term, bound):
+    """A term that has no parts as a `search` that has it at hand. A name that is not bound is one of its lemmas, whose
+    arguments need not be known."""
+    if AS_IT_IS.match(term):
+        return term
+    if TACTIC.match(term):
+        return LINE + (SEARCH if term == SEARCH else f"{FIRST} ({SEARCH}, {term})")
+    if REWRITES.match(term) and not any(word == "at" and not depth for word, _, depth in words_of(term)):
+        tactic, by, rest = parts_of_rewriting(term)
+        return f"{tactic} {by} ({beside(rest, bound)})"
+    if NAME.fullmatch(term) and not COMPUTES.fullmatch(term) and term not in bound:
+        return f"{LINE}search (rules, {term})"
+    return LINE + SEARCH if COMPUTES.fullmatch(term) else f"let right = {term} in{LINE}{SEARCH}"
+
+
+def parts_of_rewriting(term):
+    """The tactic of a term that rewrites its goal, its list, and the term that proves what is left.
+
+    >>> parts_of_rewriting("rw (e, ← f) (g a b)")
+    ('rw', '(e, ← f)', '(g a b)')
+    >>> parts_of_rewriting("rw zero-add")
+    ('rw', 'zero-add', 'refl')
+    """
+    tactic, _, rest = term.partition(" ")
+    if rest.startswith("("):
+        ends = next(at for at in range(1, len(rest) + 1) if is_closed(rest[:at], 0))
+    else:
+        ends = rest.find(" ") if " " in rest else len(rest)
+    return tactic, rest[:ends], rest[ends:].strip() or "refl"
+
+
+def left_open(lines, text):
+    """The goals that a question in this text leaves open, as these lines of a check say, each with its line.
+
+    >>> text = "f c = let a : b = search rules in let right = d a in\\n        search rules\\n"
+    >>> lines = [f"p/Answers.antt:{at}: error: `f`: `search`: no proof of `x` was found." for at in ("1:19", "2:9")]
+    >>> left_open(lines[:1], text), len(left_open(lines, text))
+    ({}, 1)
+    """
+    places = text.split("\n")
+    found = {}
+    for line in lines:
+        it = FAILED.search(line)
+        if it and it[4] and ASKED.fullmatch(places[int(it[1]) - 1][: int(it[2]) - 1]):
+            found.setdefault(it[3], line)
+    return found
+
+
+def end_of(row, at):
+    """Where the term ends that begins at this place of a line: a whole one behind what opens a term, and else an argument.
+
+    >>> row = "let a = f (g b) c.x, h"
+    >>> [row[at : end_of(row, at)] for at in (8, 10, 16)]
+    ['f (g b) c.x', '(g b)', 'c.x']
+    """
+    before = row[:at].rstrip()
+    is_whole = not before or before[-1] in "(,=;∙" or re.search(r"(?<![\w.-])in$", before)
+    ends = (",", ";", "in", "∙") if is_whole else ()
+    for word, place, depth in words_of(row[at:]):
+        if depth < 0 or not depth and word in ends:
+            return at + len(row[at : at + place].rstrip())
+        if not is_whole and not depth and (word not in OPENS):
+            return at + place + len(word)
+    return len(row.rstrip())
+
+
+def refined(text, line):
+    """A text of answers in which the term that this line of a check refuses is at hand of a `search` where it stands, and
+    None where the line refuses none for its type, or for what a tactic in it did not prove.
+
+    >>> line = "./proofs/f/Answers.antt:1:19: error: `f`: the two types differ .. expected type `a` but this has type `b`"
+    >>> refined("f c = let a = h b d.x in a", line)
+    'f c = let a = h b (let right = d.x in\\n        search rules) in a'
+    """
+    it = FAILED.search(line)
+    if not it or not it[4] and MISMATCH not in line:
+        return None
+    rows = text.split("\n")
+    row, at = rows[int(it[1]) - 1], int(it[2]) - 1
+    term = row[at : end_of(row, at)]
+    if not term or bool(it[4]) != bool(TACTIC.match(term)):
+        return None
+    rows[int(it[1]) - 1] = f"{row[:at]}({beside(term, {*NAME.findall(row[:at])})}){row[at + len(term) :]}"
+    return "\n".join(rows)
