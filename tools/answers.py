@@ -221,6 +221,18 @@ def asked_of(goal, answers, binders=""):
     return f"pub {goal} : goal.{goal}\n{opened}{goal}{binders_of(goal, answers, binders)} ={question}\n"
 
 
+def with_terms(question, terms):
+    """A question with these terms at hand where they stand, as far as it has them.
+
+    >>> with_terms("f c = let right = h d.x in\\n        search rules\\n", ["d.x", "e"])
+    'f c = let right = h (let right = d.x in\\n        search rules) in\\n        search rules\\n'
+    """
+    for term in terms:
+        place = at_hand.place_of(question, term)
+        question = at_hand.finer(question, place) if place else question
+    return question
+
+
 def binders_of(goal, answers, otherwise=""):
     """The variables of an answer to a goal, as its own answer or another one has them.
 
@@ -433,7 +445,7 @@ class Suspect:
     the right body's, or none of the right body's answers holds under its name; and if `search` stopped at a limit, a
     longer one did not prove it either."""
 
-    def __init__(self, folder, text, keeps, calls, named=None, binders=""):
+    def __init__(self, folder, text, keeps, calls, named=None, terms=(), binders=""):
         # The folder of the function's proof, the text of its answers, with the variables of each, whether the edit leaves
         # the paths as they are, and the functions that it calls in place of others, as pairs.
         self.binders, self.folder, self.text, self.keeps, self.calls = binders, folder, text, keeps, calls
@@ -444,11 +456,15 @@ class Suspect:
         # The goals that are asked for with the right body's answers at hand, the texts of the questions that are not the
         # first, and of these goals those that were proved, and those at which the right body's terms do not fit.
         self.beside, self.questions, self.proved, self.unfit = [named] if named else [], {}, set(), set()
+        # The terms of these answers that do not fit, and are at hand where they stand.
+        self.terms = []
         # Whether the goal is asked for that the edit names, whether the answers have other functions' names, and how they
         # were before.
         self.is_named, self.is_renamed, self.written, self.back = bool(named), False, text, [(new, old) for old, new in calls]
         if named and calls:
             self.text = with_calls(text, calls)
+        if terms:
+            self.questions = {named: with_terms(asked_of(named, answers_of(self.text)[1], binders), terms)}
         # The goals that are open, each with the line that says so, and the paths of the right body's, once these are
         # known.
         self.open, self.right = {}, None
@@ -498,8 +514,14 @@ class Suspect:
                 # (that the question proves the right body's goal was shown when the edit got the goal's name)
                 return self.confirms(True) if self.is_named else self.asks()
         # (a term of the right body's that does not fit is at hand in its turn)
-        finer = {goal: at_hand.refined(text, about[goal]) for goal in asked if goal in about}
-        self.questions = {goal: answers_of(it)[1][goal] for goal, it in finer.items() if it and self.tries < MOST_TRIES}
+        places = {goal: at_hand.refused_in(text, about[goal]) for goal in asked if goal in about and self.tries < MOST_TRIES}
+        self.questions = {}
+        for goal, place in places.items():
+            if place:
+                self.terms.append(text.split("\n")[place[0]][place[1] : place[2]])
+                self.questions[goal] = answers_of(at_hand.finer(text, place))[1][goal]
+                # (it is not known yet whether this one proves the right body's goal)
+                self.is_named = False
         self.proved |= {goal for goal in asked if goal not in about}
         self.unfit |= about.keys() & set(asked) - self.questions.keys()
         self.beside = [*self.questions]

@@ -187,21 +187,44 @@ def end_of(row, at):
     return len(row.rstrip())
 
 
-def refined(text, line):
-    """A text of answers in which the term that this line of a check refuses is at hand of a `search` where it stands, and
-    None where the line refuses none for its type, or for what a tactic in it did not prove.
+def refused_in(text, line):
+    """The place of the term in a text of answers that a line of a check refuses for its type, or for what a tactic in it
+    did not prove: its row, where it begins and where it ends. None where the line refuses no such term.
 
     >>> line = "./proofs/f/Answers.antt:1:19: error: `f`: the two types differ .. expected type `a` but this has type `b`"
-    >>> refined("f c = let a = h b d.x in a", line)
-    'f c = let a = h b (let right = d.x in\\n        search rules) in a'
+    >>> refused_in("f c = let a = h b d.x in a", line)
+    (0, 18, 21)
     """
     it = FAILED.search(line)
     if not it or not it[4] and MISMATCH not in line:
         return None
+    number, at = int(it[1]) - 1, int(it[2]) - 1
+    row = text.split("\n")[number]
+    end = end_of(row, at)
+    return (number, at, end) if end > at and bool(it[4]) == bool(TACTIC.match(row[at:end])) else None
+
+
+def finer(text, place):
+    """A text of answers with the term at a place at hand of a `search` there.
+
+    >>> finer("f c = let a = h b d.x in a", (0, 18, 21))
+    'f c = let a = h b (let right = d.x in\\n        search rules) in a'
+    """
     rows = text.split("\n")
-    row, at = rows[int(it[1]) - 1], int(it[2]) - 1
-    term = row[at : end_of(row, at)]
-    if not term or bool(it[4]) != bool(TACTIC.match(term)):
-        return None
-    rows[int(it[1]) - 1] = f"{row[:at]}({beside(term, {*NAME.findall(row[:at])})}){row[at + len(term) :]}"
+    number, at, end = place
+    row = rows[number]
+    rows[number] = f"{row[:at]}({beside(row[at:end], {*NAME.findall(row[:at])})}){row[end:]}"
     return "\n".join(rows)
+
+
+def place_of(text, term):
+    """The last place in a text of answers at which a term stands, or None.
+
+    >>> place_of("f c = let a = d.x in let right = h d.x in\\n        search rules", "d.x")
+    (0, 35, 38)
+    """
+    for number, row in reversed([*enumerate(text.split("\n"))]):
+        found = [*re.finditer(rf"(?<![\w.-]){re.escape(term)}(?![\w.-])", row)]
+        if found:
+            return (number, *found[-1].span())
+    return None

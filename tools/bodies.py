@@ -11,15 +11,15 @@ from common import text_of
 Function = namedtuple("Function", "path first last types name header")
 
 # A wrong body: its name, the lines that it changes, by file and number, the functions that these lie in, whether it is
-# tried alone, and the goal that it names.
-Edit = namedtuple("Edit", "name lines functions is_alone goal", defaults=[None])
+# tried alone, the goal that it names, and the terms of the right body's answer that are at hand there.
+Edit = namedtuple("Edit", "name lines functions is_alone goal terms", defaults=[None, ()])
 BEGINS = re.compile(r"^( *)(?:pub(?:\([a-z]+\))? )?(?:const |unsafe )*fn (\w+)", re.M)
 # A line with which the front end refuses a crate.
 FAULT = re.compile(r"(?:\./)?(src/\S+?\.rt):(\d+):\d+: error\b")
 # A body for a function of any type, where its proof is left open.
 ENDLESS = "loop {}"
-# The line of an edit that names a goal.
-GOAL = re.compile(r"^# goal: .*\n", re.M)
+# The lines of an edit that name a goal, and terms that are at hand there.
+GOAL = re.compile(r"^# (?:goal|at hand): .*\n", re.M)
 OF_TYPE = re.compile(r"^(?:unsafe )?(?:impl\b.*|(?:pub(?:\([a-z]+\))? )?trait .*)$", re.M)
 
 
@@ -187,7 +187,7 @@ def without_bodies(path, text):
 
 def read_edit(crate, name):
     """A wrong body as its file says, or why it cannot be applied."""
-    path, old, named, goal, texts, was = None, None, None, None, {}, {}
+    path, old, named, goal, terms, texts, was = None, None, None, None, [], {}, {}
     for line in text_of(f"{crate.folder}/wrong_bodies/{name}").split("\n"):
         word, _, said = line.partition(": ") if not line.startswith("new:") else ("new", "", line[4:].removeprefix(" "))
         if word == "file":
@@ -198,6 +198,8 @@ def read_edit(crate, name):
             named = said
         elif word == "# goal":
             goal = said
+        elif word == "# at hand":
+            terms.append(said)
         elif word == "old" and path:
             old = said
         elif word == "new" and old:
@@ -216,4 +218,4 @@ def read_edit(crate, name):
         functions = [it for it in known if any(it.path == at and it.first <= n <= it.last for at, n in lines)]
     if not lines or not functions:
         return None, "it changes nothing, or changes no function and names none"
-    return Edit(name.removesuffix(".edit"), lines, frozenset(functions), bool(named), goal), None
+    return Edit(name.removesuffix(".edit"), lines, frozenset(functions), bool(named), goal, terms), None
