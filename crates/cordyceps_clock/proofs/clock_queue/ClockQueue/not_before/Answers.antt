@@ -12,7 +12,7 @@ returns-clause-none_before g c of has =
     let list = c.self.inside.list in let now = c.self.inside.clock in let t = c.least_of_bucket.result in
     let nodes = ap (λ (s : Clocked g.row.T.Denot g.row.O.Denot). s.nodes) c.self.view_is in
     let own = subst (λ (s : S). g.O.Times.computes_by s.time of) (sym c.self.view_is) has in
-    let (x, after, is) = c.in_ok-at.ensures in let (v, holds, tells) = c.time_at-due.ensures in
+    let (x, after, is) = c.in_ok-at.ensures.first in let (v, holds, tells) = c.time_at-due.ensures in
     let value = value_is of now 0 list [] after c.in_ok-at.at x v c.spots_are_distinct.ensures is holds in
     let same : t ≡ rounded now (of x.value) = c.least_of_bucket.ensures ∙ ap (rounded now) (tells of own ∙ ap of value) in
     let small : now < 2 ^ 64 = search rules in
@@ -27,7 +27,7 @@ returns-clause-near g c of has =
     let nodes = ap (λ (s : Clocked g.row.T.Denot g.row.O.Denot). s.nodes) c.self.view_is in
     let clock = ap (λ (s : Clocked g.row.T.Denot g.row.O.Denot). s.clock) c.self.view_is in
     let own = subst (λ (s : S). g.O.Times.computes_by s.time of) (sym c.self.view_is) has in
-    let (x, after, is) = c.in_ok-at.ensures in let (v, holds, tells) = c.time_at-due.ensures in
+    let (x, after, is) = c.in_ok-at.ensures.first in let (v, holds, tells) = c.time_at-due.ensures in
     let value = value_is of now 0 list [] after c.in_ok-at.at x v c.spots_are_distinct.ensures is holds in
     let same : t ≡ rounded now (of x.value) = c.least_of_bucket.ensures ∙ ap (rounded now) (tells of own ∙ ap of value) in
     let small : now < 2 ^ 64 = search rules in

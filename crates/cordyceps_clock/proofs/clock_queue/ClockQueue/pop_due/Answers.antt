@@ -76,7 +76,7 @@ returns-clause-due g c =
 
 pub returns-in_err-next-clause-kept : goal.returns-in_err-next-clause-kept
 returns-in_err-next-clause-kept g c =
-    absurd (some_stay c.self.inside.list c.advance-self-inside.new.list c.in-Some.at c.in-Some.ensures c.advance-self-inside.ensures.kept c.in_err-next.ensures)
+    absurd (some_stay c.self.inside.list c.advance-self-inside.new.list c.in-Some.at c.in-Some.ensures.first c.advance-self-inside.ensures.kept c.in_err-next.ensures.first)
 
 pub returns-then-due-now-clause-kept : goal.returns-then-due-now-clause-kept
 returns-then-due-now-clause-kept g c p has =

@@ -33,7 +33,7 @@ returns-clause-taken g c =
 
 pub returns-in_err-first-clause-kept : goal.returns-in_err-first-clause-kept
 returns-in_err-first-clause-kept g c =
-    absurd (some_stay c.self.inside.list c.advance-self-inside.new.list c.in_ok-at.at c.in_ok-at.ensures c.advance-self-inside.ensures.kept c.in_err-first.ensures)
+    absurd (some_stay c.self.inside.list c.advance-self-inside.new.list c.in_ok-at.at c.in_ok-at.ensures.first c.advance-self-inside.ensures.kept c.in_err-first.ensures.first)
 
 pub returns-clause-kept : goal.returns-clause-kept
 returns-clause-kept g c p has =
