@@ -22,15 +22,12 @@ module _ {X : Type 0} where
   has_at : (c : Nodes X) (p : Ptr) → HasSpot c p → (e : Element X) × HasElementAt c p e
   has_at c p on = let (k, at) = on in has_split c k p at
 
-  lies_valid : (c : Nodes X) (p : Ptr) (e : Element X) → HasElementAt c p e → HasSpot c p
-  lies_valid c p e lies = spot_is_at c p e lies
-
   -- c is d with the element e at p: the spots of d are those of c except p
   pub put_keeps : (c d : Nodes X) (p : Ptr) (e : Element X) → IsTaken c p e d → (q : Ptr) → HasSpot d q → HasSpot c q
-  put_keeps c d p e taken q on = let (o, lies) = has_at d q on in lies_valid c q o (left_is_at c d p q e o taken lies)
+  put_keeps c d p e taken q on = let (o, lies) = has_at d q on in spot_is_at c q o (left_is_at c d p q e o taken lies)
 
-  pub put_apart : (c d : Nodes X) (p : Ptr) (e : Element X) → AreDistinct (spots c) → IsTaken c p e d → (q : Ptr) → HasSpot d q → q ≢ p
-  put_apart c d p e distinct taken q on same = taken_gone c d p e distinct taken (subst (λ r. HasSpot d r) same on)
+  pub put_apart : (c d : Nodes X) (p : Ptr) (e : Element X) → AreDistinct (spots c) → IsTaken c p e d → HasSpot d p → ⊥
+  put_apart c d p e distinct taken on = taken_gone c d p e distinct taken on
 
   pub taken_keeps : (c d : Nodes X) (p : Ptr) (e : Element X) → IsTaken c p e d → (q : Ptr) → HasSpot c q → q ≢ p → HasSpot d q
   taken_keeps c d p e taken q on other = others_stay c d p q e taken on (λ same. other (sym same))
@@ -46,16 +43,17 @@ module _ {X : Type 0} where
   pub replaced_keeps : (c d : Nodes X) (p q : Ptr) (o e : Element X) → IsReplaced c p o q e d → (r : Ptr) → HasSpot c r → r ≢ p → HasSpot d r
   replaced_keeps c d p q o e (b, a, was, is) r on other = put_keeps d (b ++ a) q e (b, a, is, refl) r (taken_keeps c (b ++ a) p o (b, a, was, refl) r on other)
 
-  pub replaced_apart : (c d : Nodes X) (p q : Ptr) (o e : Element X) → AreDistinct (spots d) → IsReplaced c p o q e d → (r : Ptr) → HasSpot c r → r ≢ p → r ≢ q
-  replaced_apart c d p q o e distinct (b, a, was, is) r on other same =
-      let rest : Nodes X = b ++ a in
-      put_apart d rest q e distinct (b, a, is, refl) r (taken_keeps c rest p o (b, a, was, refl) r on other) same
+  pub replaced_apart : (c d : Nodes X) (p q : Ptr) (o e : Element X) → AreDistinct (spots d) → IsReplaced c p o q e d → HasSpot c q → q ≡ p
+  replaced_apart c d p q o e distinct (b, a, was, is) on = let (x, lies) = has_at c q on in elim (taken_or_left c (b ++ a) p q o x (b, a, was, refl) lies) as (λ _. q ≡ p) [
+    | inl same ↦ same.0
+    | inr there ↦ absurd (taken_gone d (b ++ a) q e distinct (b, a, is, refl) (spot_is_at (b ++ a) q x there))
+  ]
 
   -- one was moved, also with another value
   pub moved_keeps : (c d rest : Nodes X) (p : Ptr) (e o : Element X) → IsTaken c p e rest → IsTaken d p o rest → (q : Ptr) → HasSpot c q → HasSpot d q
   moved_keeps c d rest p e o was is q on = let (x, lies) = has_at c q on in elim (taken_or_left c rest p q e x was lies) as (λ _. HasSpot d q) [
     | inl same ↦ subst (λ r. HasSpot d r) (sym same.0) (taken_has d rest p o is)
-    | inr on ↦ lies_valid d q x (left_is_at d rest p q o x is on)
+    | inr on ↦ spot_is_at d q x (left_is_at d rest p q o x is on)
   ]
 
   pub moved_front_keeps : (c d : Nodes X) (p : Ptr) → IsMovedFront c p d → (q : Ptr) → HasSpot c q → HasSpot d q
@@ -75,25 +73,24 @@ module _ {X : Type 0} where
 
   -- a value was written
   pub written_keeps : (c : Nodes X) (k : ℕ) (w : X) (q : Ptr) → HasSpot c q → HasSpot (with_item c k w) q
-  written_keeps c k w q on = let (e, lies) = has_at c q on in let (o, _, on) = written_lies c k w q e lies in lies_valid (with_item c k w) q o on
+  written_keeps c k w q on = let (e, lies) = has_at c q on in let (o, _, on) = written_lies c k w q e lies in spot_is_at (with_item c k w) q o on
 
   -- two lists were joined
   back_is_at : (c d : Nodes X) (q : Ptr) (o : Element X) → HasElementAt d q o → HasElementAt (c ++ d) q o
   back_is_at c d q o (b, a, is) = (c ++ b, a, ap (λ s. c ++ s) is ∙ sym (append_assoc c b ((q, o) ∷ a)))
 
   pub front_keeps : (c d n : Nodes X) → n ≡ c ++ d → (q : Ptr) → HasSpot c q → HasSpot n q
-  front_keeps c d n joined q on = let (o, lies) = has_at c q on in subst (λ s. HasSpot s q) (sym joined) (lies_valid (c ++ d) q o (front_is_at c d q o lies))
+  front_keeps c d n joined q on = let (o, lies) = has_at c q on in subst (λ s. HasSpot s q) (sym joined) (spot_is_at (c ++ d) q o (front_is_at c d q o lies))
 
   pub back_keeps : (c d n : Nodes X) → n ≡ c ++ d → (q : Ptr) → HasSpot d q → HasSpot n q
-  back_keeps c d n joined q on = let (o, lies) = has_at d q on in subst (λ s. HasSpot s q) (sym joined) (lies_valid (c ++ d) q o (back_is_at c d q o lies))
+  back_keeps c d n joined q on = let (o, lies) = has_at d q on in subst (λ s. HasSpot s q) (sym joined) (spot_is_at (c ++ d) q o (back_is_at c d q o lies))
 
-  pub parts_apart : (c d n : Nodes X) → n ≡ c ++ d → AreDistinct (spots n) → (p q : Ptr) → HasSpot c p → HasSpot d q → p ≢ q
-  parts_apart c d n joined distinct p q on other same =
-      let (e, (b, a, is)) = has_at c p on in
+  pub parts_apart : (c d n : Nodes X) → n ≡ c ++ d → AreDistinct (spots n) → (q : Ptr) → HasSpot c q → HasSpot d q → ⊥
+  parts_apart c d n joined distinct q on other =
+      let (e, (b, a, is)) = has_at c q on in
       let left : Nodes X = b ++ (a ++ d) in
-      let out : IsTaken n p e left = (b, a ++ d, joined ∙ ap (λ s. s ++ d) is ∙ append_assoc b ((p, e) ∷ a) d, refl) in
-      let on : HasSpot left q = back_keeps b (a ++ d) left refl q (back_keeps a d (a ++ d) refl q other) in
-      taken_gone n left p e distinct out (subst (λ r. HasSpot left r) (sym same) on)
+      let out : IsTaken n q e left = (b, a ++ d, joined ∙ ap (λ s. s ++ d) is ∙ append_assoc b ((q, e) ∷ a) d, refl) in
+      taken_gone n left q e distinct out (back_keeps b (a ++ d) left refl q (back_keeps a d (a ++ d) refl q other))
 
   -- what `next` and `prev` answer is another spot
   following : (c : Nodes X) (p q : Ptr) → AreDistinct (spots c) → AreNext c p q → p ≡ q → ⊥
@@ -124,7 +121,7 @@ module _ {X : Type 0} where
       contained_at d (q, o) (Contains-permutation c d (q, o) p (subst (λ s. Contains s (q, o)) (sym is) (contains_at b a (q, o))))
 
   pub permuted_keeps : (c d : Nodes X) → IsPermutation c d → (q : Ptr) → HasSpot c q → HasSpot d q
-  permuted_keeps c d p q on = let (o, lies) = has_at c q on in lies_valid d q o (permuted_is_at c d q o p lies)
+  permuted_keeps c d p q on = let (o, lies) = has_at c q on in spot_is_at d q o (permuted_is_at c d q o p lies)
 
   pub joined_keeps : (c d n : Nodes X) → IsPermutation (c ++ d) n → (q : Ptr) → HasSpot c q → HasSpot n q
   joined_keeps c d n kept q on = permuted_keeps (c ++ d) n kept q (front_keeps c d (c ++ d) refl q on)

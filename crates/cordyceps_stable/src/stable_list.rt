@@ -214,18 +214,6 @@ impl<T: Linked<Links<T>>> StableList<T> {
         let _chain = &self.chain;
     }
 
-    /// Does nothing when the program runs. Its contract states what it requires: that the spot is valid. A check that
-    /// does not find in one step that several calls kept a spot finds it in two, with a call of this between them.
-    ///
-    /// # Complexity
-    /// O(1).
-    pub fn spot_is_valid(&self, at: Spot)
-        requires { HasSpot self.now at }
-        ensures { HasSpot self.now at }
-    {
-        let _chain = &self.chain;
-    }
-
     /// Prepends an element to the list and returns its spot. Requires a length below `usize::MAX`.
     ///
     /// # Complexity
@@ -235,7 +223,7 @@ impl<T: Linked<Links<T>>> StableList<T> {
         ensures holds { self.new ≡ (result, T.element handle) ∷ self.old }
         ensures there { HasSpot self.new result }
         ensures kept { (p : Ptr) → HasSpot self.old p → HasSpot self.new p }
-        ensures apart { (p : Ptr) → HasSpot self.old p → p ≢ result }
+        ensures apart { HasSpot self.old result → ⊥ }
         ensures distinct { AreDistinct (spots self.new) }
     {
         let address = self.chain.link_front(T::into_ptr(handle));
@@ -251,7 +239,7 @@ impl<T: Linked<Links<T>>> StableList<T> {
         ensures holds { self.new ≡ self.old ++ (result, T.element handle) ∷ [] }
         ensures there { HasSpot self.new result }
         ensures kept { (p : Ptr) → HasSpot self.old p → HasSpot self.new p }
-        ensures apart { (p : Ptr) → HasSpot self.old p → p ≢ result }
+        ensures apart { HasSpot self.old result → ⊥ }
         ensures distinct { AreDistinct (spots self.new) }
     {
         let address = self.chain.link_back(T::into_ptr(handle));
@@ -272,7 +260,7 @@ impl<T: Linked<Links<T>>> StableList<T> {
             (λ back. (length self.old ≡ usize.MAX) × (back ≡ handle) × (self.new ≡ self.old)) }
         ensures there { IfOk result (λ spot. HasSpot self.new spot) }
         ensures kept { (p : Ptr) → HasSpot self.old p → HasSpot self.new p }
-        ensures apart { IfOk result (λ spot. (p : Ptr) → HasSpot self.old p → p ≢ spot) }
+        ensures apart { IfOk result (λ spot. HasSpot self.old spot → ⊥) }
     {
         if self.len() == usize::MAX {
             return Err(handle);
@@ -294,7 +282,7 @@ impl<T: Linked<Links<T>>> StableList<T> {
             (λ back. (length self.old ≡ usize.MAX) × (back ≡ handle) × (self.new ≡ self.old)) }
         ensures there { IfOk result (λ spot. HasSpot self.new spot) }
         ensures kept { (p : Ptr) → HasSpot self.old p → HasSpot self.new p }
-        ensures apart { IfOk result (λ spot. (p : Ptr) → HasSpot self.old p → p ≢ spot) }
+        ensures apart { IfOk result (λ spot. HasSpot self.old spot → ⊥) }
     {
         if self.len() == usize::MAX {
             return Err(handle);
@@ -313,7 +301,7 @@ impl<T: Linked<Links<T>>> StableList<T> {
         ensures holds { IsPutBefore self.old at result (T.element handle) self.new }
         ensures there { HasSpot self.new result }
         ensures kept { (p : Ptr) → HasSpot self.old p → HasSpot self.new p }
-        ensures apart { (p : Ptr) → HasSpot self.old p → p ≢ result }
+        ensures apart { HasSpot self.old result → ⊥ }
         ensures distinct { AreDistinct (spots self.new) }
     {
         let address = self.chain.link_before(at.address, T::into_ptr(handle));
@@ -331,7 +319,7 @@ impl<T: Linked<Links<T>>> StableList<T> {
         ensures holds { IsPutAfter self.old at result (T.element handle) self.new }
         ensures there { HasSpot self.new result }
         ensures kept { (p : Ptr) → HasSpot self.old p → HasSpot self.new p }
-        ensures apart { (p : Ptr) → HasSpot self.old p → p ≢ result }
+        ensures apart { HasSpot self.old result → ⊥ }
         ensures distinct { AreDistinct (spots self.new) }
     {
         let address = self.chain.link_after(at.address, T::into_ptr(handle));
@@ -363,7 +351,7 @@ impl<T: Linked<Links<T>>> StableList<T> {
         ensures replaced { IsReplaced self.old at (T.element result.0) result.1 (T.element handle) self.new }
         ensures there { HasSpot self.new result.1 }
         ensures kept { (p : Ptr) → HasSpot self.old p → p ≢ at → HasSpot self.new p }
-        ensures apart { (p : Ptr) → HasSpot self.old p → p ≢ at → p ≢ result.1 }
+        ensures apart { HasSpot self.old result.1 → result.1 ≡ at }
         ensures distinct { AreDistinct (spots self.new) }
     {
         // both for the proof: no other element is at this spot, and there is room once one is out
@@ -570,7 +558,7 @@ impl<T: Linked<Links<T>>> StableList<T> {
         ensures emptied { other.new ≡ [] }
         ensures kept { (p : Ptr) → HasSpot self.old p → HasSpot self.new p }
         ensures taken_over { (p : Ptr) → HasSpot other.old p → HasSpot self.new p }
-        ensures apart { (p q : Ptr) → HasSpot self.old p → HasSpot other.old q → p ≢ q }
+        ensures apart { (p : Ptr) → HasSpot self.old p → HasSpot other.old p → ⊥ }
         ensures distinct { AreDistinct (spots self.new) }
     {
         let more = other.chain.take();

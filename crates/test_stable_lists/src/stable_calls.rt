@@ -92,9 +92,7 @@ fn move_after_new(list: &mut StableList<Key>, spot: Spot, handle: Handle)
     requires fits { length list.old < usize.MAX }
     ensures { HasSpot list.new spot }
 {
-    list.spot_is_valid(spot);
     let first = list.push_front(handle);
-    list.spot_is_valid(spot);
     list.move_after(spot, first);
 }
 
@@ -114,9 +112,7 @@ fn by_spot(
         BySpot::InsertBefore(pair) => list.insert_before(spot, make(rt, alloc, *pair)),
         BySpot::InsertAfter(pair) => list.insert_after(spot, make(rt, alloc, *pair)),
         BySpot::Write(key) => {
-            list.spot_is_valid(spot);
             list.get_mut(spot).value = *key;
-            list.spot_is_valid(spot);
             spot
         }
         BySpot::MoveToFront => {
