@@ -8,13 +8,17 @@ import toolchain
 from common import text_of, write
 
 # A stand-in for the prover, which writes what it is called for to a log. It knows one function of each crate, and
-# refuses the crate BAD.
+# refuses the crate BAD. Like the prover, it refuses a build that is asked for its progress.
 RATTLE = """#!/bin/sh
 [ "$2" = --crate-name ] || exit 0
-name=$3
-echo "$1 $name" >> "$STAND_IN_LOG"
+verb=$1 name=$3
+echo "$verb $name" >> "$STAND_IN_LOG"
 while [ $# -gt 0 ]; do
   [ "$1" != -o ] || { mkdir -p "$2" && touch "$2/format"; }
+  if [ "$verb $1" = "build --progress" ]; then
+    echo "error: unexpected argument '--progress' found"
+    exit 2
+  fi
   if [ "$1" = --only ] && [ "$2" != known ]; then
     echo "rattle: error: \\`$name\\` has no function \\`$2\\`: help: write another"
     exit 2
