@@ -1,0 +1,9 @@
+mod Answering
+mod Arranging
+mod Due
+mod Held
+mod InboxHandles
+mod InboxSent
+mod TimersHandles
+mod TimersSent
+mod Values

@@ -1,0 +1,4 @@
+pub mod Held
+pub mod Inboxes
+pub mod Rows
+pub mod Timers
