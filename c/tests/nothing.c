@@ -1,0 +1,63 @@
+/* Each call on the handle of nothing answers, and changes nothing; so does each one that would fill a handle twice. */
+#include "checked.h"
+
+static void timers_of_nothing(void) {
+  cordyceps_timers timers = {0};
+  cordyceps_fired fired = {7, 8};
+  CHECK(!cordyceps_timers_start(&timers, 1, 2));
+  CHECK(!cordyceps_timers_pop_due(&timers, UINT64_MAX, &fired));
+  CHECK(fired.deadline == 7 && fired.payload == 8);
+  CHECK(cordyceps_timers_len(&timers) == 0);
+  CHECK(!cordyceps_timers_free(&timers));
+  CHECK(!timers.at);
+}
+
+static void timers_made_twice(void) {
+  cordyceps_timers timers = {0};
+  CHECK(cordyceps_timers_new(&timers));
+  CHECK(cordyceps_timers_start(&timers, 1, 2));
+  void *at = timers.at;
+  CHECK(!cordyceps_timers_new(&timers));
+  CHECK(timers.at == at && cordyceps_timers_len(&timers) == 1);
+  CHECK(cordyceps_timers_free(&timers));
+  CHECK(!timers.at);
+  CHECK(!cordyceps_timers_free(&timers));
+}
+
+static void inbox_of_nothing(void) {
+  cordyceps_inbox inbox = {0}, other = {0};
+  uint64_t payload = 7;
+  CHECK(!cordyceps_inbox_split(&inbox, &other));
+  CHECK(cordyceps_inbox_send(&inbox, 1) == CORDYCEPS_NO_INBOX);
+  CHECK(cordyceps_inbox_receive(&inbox, &payload) == CORDYCEPS_NO_INBOX);
+  CHECK(payload == 7);
+  CHECK(!cordyceps_inbox_absorb(&inbox, &other));
+  CHECK(!cordyceps_inbox_give_back(&inbox));
+  CHECK(!cordyceps_inbox_free(&inbox));
+  CHECK(!inbox.at && !other.at);
+}
+
+static void inbox_made_twice(void) {
+  cordyceps_inbox inbox = {0}, other = {0}, nothing = {0};
+  uint64_t payload = 7;
+  CHECK(cordyceps_inbox_new(1, &inbox));
+  CHECK(cordyceps_inbox_new(1, &other));
+  void *at = inbox.at;
+  CHECK(!cordyceps_inbox_new(1, &inbox));
+  CHECK(!cordyceps_inbox_split(&other, &inbox));
+  CHECK(!cordyceps_inbox_absorb(&inbox, &nothing));
+  CHECK(!cordyceps_inbox_absorb(&nothing, &inbox));
+  CHECK(inbox.at == at && other.at && !nothing.at);
+  CHECK(cordyceps_inbox_send(&inbox, 5) == CORDYCEPS_DONE);
+  CHECK(cordyceps_inbox_receive(&other, &payload) == CORDYCEPS_EMPTY);
+  CHECK(cordyceps_inbox_free(&inbox) && cordyceps_inbox_free(&other));
+  CHECK(!inbox.at && !other.at);
+}
+
+int main(void) {
+  timers_of_nothing();
+  timers_made_twice();
+  inbox_of_nothing();
+  inbox_made_twice();
+  return 0;
+}

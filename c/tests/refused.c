@@ -1,0 +1,79 @@
+/* Memory is refused at each request in turn: each call answers so, and nothing is lost. */
+#include "checked.h"
+
+void *__real_malloc(size_t size);
+void *__wrap_malloc(size_t size);
+
+/* How many requests are granted before one is refused; a negative number is for all. */
+static long granted = -1;
+
+void *__wrap_malloc(size_t size) {
+  if (granted == 0) {
+    granted = -1;
+    return NULL;
+  }
+  granted -= granted > 0;
+  return __real_malloc(size);
+}
+
+/* Refuses the n-th request of what follows, and grants the others. */
+static void refuse(long n) { granted = n; }
+
+/* Whether nothing was refused meanwhile; grants all from now on. */
+static bool was_granted(void) {
+  bool is = granted >= 0;
+  granted = -1;
+  return is;
+}
+
+static void timers_refused(void) {
+  cordyceps_timers timers = {0};
+  cordyceps_fired fired;
+  refuse(0);
+  CHECK(!cordyceps_timers_new(&timers) && !timers.at && !was_granted());
+  CHECK(cordyceps_timers_new(&timers));
+  refuse(0);
+  CHECK(!cordyceps_timers_start(&timers, 1, 2) && !was_granted());
+  CHECK(cordyceps_timers_len(&timers) == 0);
+  refuse(1);
+  CHECK(cordyceps_timers_start(&timers, 1, 2) && was_granted());
+  CHECK(cordyceps_timers_len(&timers) == 1);
+  refuse(0);
+  CHECK(cordyceps_timers_pop_due(&timers, 1, &fired) && fired.payload == 2);
+  CHECK(cordyceps_timers_free(&timers) && was_granted());
+}
+
+static void inbox_refused(void) {
+  cordyceps_inbox inbox = {0}, other = {0};
+  uint64_t payload = 0;
+  long requests = 0;
+  for (;; requests++) {
+    refuse(requests);
+    bool is_made = cordyceps_inbox_new(3, &inbox);
+    if (was_granted() && is_made)
+      break;
+    CHECK(!is_made && !inbox.at);
+  }
+  CHECK(requests == 6);
+  refuse(0);
+  CHECK(!cordyceps_inbox_split(&inbox, &other) && !other.at && !was_granted());
+  refuse(0);
+  CHECK(cordyceps_inbox_send(&inbox, 1) == CORDYCEPS_NO_MEMORY && !was_granted());
+  CHECK(cordyceps_inbox_receive(&inbox, &payload) == CORDYCEPS_EMPTY && payload == 0);
+  /* no room was lost */
+  for (uint64_t i = 0; i < 3; i++)
+    CHECK(cordyceps_inbox_send(&inbox, i) == CORDYCEPS_DONE);
+  CHECK(cordyceps_inbox_send(&inbox, 3) == CORDYCEPS_FULL);
+  CHECK(cordyceps_inbox_split(&inbox, &other));
+  refuse(0);
+  CHECK(cordyceps_inbox_receive(&other, &payload) == CORDYCEPS_DONE && payload == 0);
+  CHECK(cordyceps_inbox_give_back(&other));
+  CHECK(cordyceps_inbox_absorb(&inbox, &other));
+  CHECK(cordyceps_inbox_free(&inbox) && was_granted());
+}
+
+int main(void) {
+  timers_refused();
+  inbox_refused();
+  return 0;
+}
