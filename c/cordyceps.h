@@ -1,9 +1,9 @@
 /* Timers, and inboxes that threads share. C99, C++17.
  *
- * Each collection is behind a handle, whose memory is the caller's: on the stack, in a struct, or static. A handle is of
- * one collection, or of nothing, and then it is zero. A call on the handle of nothing answers `false` or
- * CORDYCEPS_NO_INBOX, and changes nothing; so does a `new` on a handle that is of something. Nothing is global, no call
- * waits, and none calls back.
+ * Each collection is behind a handle, whose memory is the caller's: on the stack, in a struct, or static. A handle
+ * is of one collection, or of nothing, and then it is zero. A call on the handle of nothing answers `false` or
+ * CORDYCEPS_NO_INBOX, and changes nothing; so does a `new` on a handle that is of something. Nothing is global, no
+ * call waits, and none calls back.
  *
  *     cordyceps_timers timers = {0};
  *     cordyceps_fired fired;
@@ -19,13 +19,14 @@
  * - A handle is zero before its first call. From then on only these calls write it. A copy is not used beside it: to
  *   move a handle, copy it and set the first one to zero.
  * - No pointer is null, and two pointers of a call lead to different memory.
- * - One call at a time is made on a handle. Another thread may make the next one, if a lock, the start or the join of a
- *   thread, or a sequentially consistent atomic lies between the two. Calls on different handles may run at the same
- *   time, also where these are of one inbox.
+ * - One call at a time is made on a handle. Another thread may make the next one, if a lock, the start or the join
+ *   of a thread, or a sequentially consistent atomic lies between the two. Calls on different handles may run at the
+ *   same time, also where these are of one inbox.
  * - No call is made from a signal handler, or in the child of a fork of a process with threads.
- * - malloc, realloc and free are of one allocator. malloc and realloc align a block to each power of two up to 16 that
- *   divides its size.
- * - A payload is a number to these calls: what it points to is the caller's, also where a collection is freed with it.
+ * - malloc, realloc and free are of one allocator. malloc and realloc align a block to each power of two up to 16
+ *   that divides its size.
+ * - A payload is a number to these calls: what it points to is the caller's, also where a collection is freed with
+ *   it.
  */
 #ifndef CORDYCEPS_H
 #define CORDYCEPS_H
@@ -51,30 +52,32 @@ typedef struct {
   uint64_t payload;
 } cordyceps_fired;
 
-/* Makes timers of which none runs, at the time 0, in a handle of nothing. false: memory was refused, or the handle is
- * not of nothing; nothing has changed. O(1), one malloc. */
+/* Makes timers of which none runs, at the time 0, in a handle of nothing. false: memory was refused, or the handle
+ * is not of nothing; nothing has changed. O(1), one malloc. */
 bool cordyceps_timers_new(cordyceps_timers *out);
 
-/* Starts a timer, which fires at its deadline, or at the clock if the deadline has passed, after all that do not fire
- * later. false: memory was refused, SIZE_MAX timers run, or the handle is of nothing; nothing has changed. O(1), one
- * malloc. */
+/* Starts a timer, which fires at its deadline, or at the clock if the deadline has passed, after all that do not
+ * fire later. false: memory was refused, SIZE_MAX timers run, or the handle is of nothing; nothing has changed.
+ * O(1), one malloc. */
 bool cordyceps_timers_start(cordyceps_timers *timers, uint64_t deadline, uint64_t payload);
 
-/* Removes the first timer into *out, if it fires at the time `now` or before. The clock is then the time at which it
- * fired. false: none fires by then, and the clock is `now`, unless it is later; or the handle is of nothing. *out is
- * unchanged then. O(1) amortized: a timer is moved at most 64 times before it comes out. One free. */
+/* Removes the first timer into *out, if it fires at the time `now` or before. The clock is then the time at which
+ * it fired. false: none fires by then, and the clock is `now`, unless it is later; or the handle is of nothing.
+ * *out is unchanged then. O(1) amortized: a timer is moved at most 64 times before it comes out. One free. */
 bool cordyceps_timers_pop_due(cordyceps_timers *timers, uint64_t now, cordyceps_fired *out);
 
 /* How many timers run; 0 for the handle of nothing. O(1). */
 size_t cordyceps_timers_len(cordyceps_timers *timers);
 
-/* Frees the timers, with those that run. The handle is of nothing then. false: it was of nothing. O(n), for n timers. */
+/* Frees the timers, with those that run. The handle is of nothing then. false: it was of nothing. O(n), for n
+ * timers. */
 bool cordyceps_timers_free(cordyceps_timers *timers);
 
 /* ---- Inboxes: many threads send, and one at a time receives */
 
 /* A handle of an inbox, or of nothing: {0}. Each thread has one of its own. A room is a permit to send one payload:
- * sending takes one of the handle, or those of the inbox's pool, and receiving gives one to the handle that receives. */
+ * sending takes one of the handle, or those of the inbox's pool, and receiving gives one to the handle that
+ * receives. */
 typedef struct {
   void *at;
 } cordyceps_inbox;
@@ -94,8 +97,8 @@ enum {
  * more, memory was refused, or the handle is not of nothing; nothing has changed. O(rooms), six mallocs. */
 bool cordyceps_inbox_new(size_t rooms, cordyceps_inbox *out);
 
-/* Makes a further handle of the same inbox, without rooms, in a handle of nothing. false: memory was refused, `inbox` is
- * of nothing, or *out is not; no room and no payload has changed its place. O(1), one malloc. */
+/* Makes a further handle of the same inbox, without rooms, in a handle of nothing. false: memory was refused,
+ * `inbox` is of nothing, or *out is not; no room and no payload has changed its place. O(1), one malloc. */
 bool cordyceps_inbox_split(cordyceps_inbox *inbox, cordyceps_inbox *out);
 
 /* Sends a payload: CORDYCEPS_DONE. Payloads of one handle come out in the order in which it sent them.
@@ -103,23 +106,23 @@ bool cordyceps_inbox_split(cordyceps_inbox *inbox, cordyceps_inbox *out);
 uint32_t cordyceps_inbox_send(cordyceps_inbox *inbox, uint64_t payload);
 
 /* Receives the next payload into *out: CORDYCEPS_DONE. CORDYCEPS_EMPTY, CORDYCEPS_UNLINKED, CORDYCEPS_BUSY,
- * CORDYCEPS_NO_INBOX: *out is unchanged. Once all other handles of the inbox were absorbed, it is DONE or EMPTY. O(1),
- * one free. */
+ * CORDYCEPS_NO_INBOX: *out is unchanged. Once all other handles of the inbox were absorbed, it is DONE or EMPTY.
+ * O(1), one free. */
 uint32_t cordyceps_inbox_receive(cordyceps_inbox *inbox, uint64_t *out);
 
-/* Takes over the rooms of *other, which is of the same inbox, and frees that handle, which is of nothing then. false:
- * one of them is of nothing; nothing has changed. O(1), one free.
- * The caller keeps that the two are of one inbox. */
+/* Takes over the rooms of *other, which is of the same inbox, and frees that handle, which is of nothing then.
+ * false: one of them is of nothing; nothing has changed. O(1), one free. The caller keeps that the two are of one
+ * inbox. */
 bool cordyceps_inbox_absorb(cordyceps_inbox *inbox, cordyceps_inbox *other);
 
-/* Gives all rooms of the handle to the pool, from which each handle may take them. false: the handle is of nothing; or
- * at each of 64 tries another handle gave rooms to the pool in between, and this handle has rooms still: try again.
- * O(1). */
+/* Gives all rooms of the handle to the pool, from which each handle may take them. false: the handle is of nothing;
+ * or at each of 64 tries another handle gave rooms to the pool in between, and this handle has rooms still: try
+ * again. O(1). */
 bool cordyceps_inbox_give_back(cordyceps_inbox *inbox);
 
-/* Gives all rooms of the handle to the pool, and frees the handle, which is of nothing then. The last handle of an inbox
- * frees it, with the payloads in it. false: as cordyceps_inbox_give_back; the handle is not freed. O(1), and for the
- * last handle O(rooms). */
+/* Gives all rooms of the handle to the pool, and frees the handle, which is of nothing then. The last handle of an
+ * inbox frees it, with the payloads in it. false: as cordyceps_inbox_give_back; the handle is not freed. O(1), and
+ * for the last handle O(rooms). */
 bool cordyceps_inbox_free(cordyceps_inbox *inbox);
 
 #ifdef __cplusplus

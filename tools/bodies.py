@@ -13,7 +13,7 @@ Function = namedtuple("Function", "path first last types name header")
 # A wrong body: its name, the lines that it changes, by file and number, the functions that these lie in, whether it is
 # tried alone, the goal that it names, and the terms of the right body's answer that are at hand there.
 Edit = namedtuple("Edit", "name lines functions is_alone goal terms", defaults=[None, ()])
-BEGINS = re.compile(r"^( *)(?:pub(?:\([a-z]+\))? )?(?:const |unsafe )*fn (\w+)", re.M)
+BEGINS = re.compile(r'^( *)(?:pub(?:\([a-z]+\))? )?(?:const |unsafe |extern "C" )*fn (\w+)', re.M)
 # A line with which the front end refuses a crate.
 FAULT = re.compile(r"(?:\./)?(src/\S+?\.rt):(\d+):\d+: error\b")
 # A body for a function of any type, where its proof is left open.

@@ -23,8 +23,8 @@ Clause = namedtuple("Clause", "kind name lines")
 CONTINUES = re.compile(r"[{})\]]|where\b")
 ATTRIBUTE = re.compile(r"#!?\[")
 HEAD = re.compile(
-    r"(?:pub(?:\(\w+\))? )?(?P<kind>(?:const |unsafe )*fn|struct|enum|trait|type|mod|use|unsafe impl|impl|const"
-    r"|static|ghost use|ghost)\b ?(?P<name>\w+)?"
+    r'(?:pub(?:\(\w+\))? )?(?P<kind>(?:const |unsafe |extern "C" )*fn|struct|enum|trait|type|mod|use|unsafe impl|impl'
+    r"|const|static|ghost use|ghost)\b ?(?P<name>\w+)?"
 )
 CLAUSE = re.compile(r"(requires|ensures\*?) ?(\w*)")
 

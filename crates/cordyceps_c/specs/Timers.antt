@@ -41,13 +41,17 @@ arranged c = started_all [] c
 -- a timer was started, or all is as it was
 abbrev pub Starts : (deadline payload : ℕ) → Bool → Running → Running → Type 0
 Starts d p is_started t u =
-    MatchBool is_started ((u.clock ≡ t.clock) × ((spot : Ptr) × (u.nodes ≡ started spot (new_timer t.clock d p) t.nodes))) (u ≡ t)
+    MatchBool is_started
+    ((u.clock ≡ t.clock) × ((spot : Ptr) × (u.nodes ≡ started spot (new_timer t.clock d p) t.nodes)))
+    (u ≡ t)
 
 -- this was the first timer, fired at the time `now` or before, and came out; its time is the clock
 abbrev pub Fires : (now : ℕ) → Fired → Running → Running → Type 0
 Fires now f t u =
-    (spot : Ptr) × ((t.nodes ≡ (spot, record { id = f.deadline; value = record { due = u.clock; payload = f.payload } }) ∷ u.nodes) × (u.clock ≤ now))
+    let timer : Element Timer = record { id = f.deadline; value = record { due = u.clock; payload = f.payload } } in
+    (spot : Ptr) × ((t.nodes ≡ (spot, timer) ∷ u.nodes) × (u.clock ≤ now))
 
 -- no timer fires at the time `now` or before; all stay, and the clock is not before `now`
 abbrev pub NoneFires : (now : ℕ) → Running → Running → Type 0
-NoneFires now t u = AllByRecursion (λ n. now < time_of n.1) t.nodes × ((u.nodes ≡ t.nodes) × (u.clock ≡ max t.clock now))
+NoneFires now t u =
+    AllByRecursion (λ n. now < time_of n.1) t.nodes × ((u.nodes ≡ t.nodes) × (u.clock ≡ max t.clock now))

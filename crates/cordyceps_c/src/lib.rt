@@ -20,12 +20,12 @@ ghost use Rattle.cordyceps_c.specs.declared.inbox.Inbox.{Inbox};
 ghost use Rattle.cordyceps_c.specs.declared.inbox.Message.{Message};
 ghost use Rattle.cordyceps_c.specs.declared.inbox.Sent.{Sent};
 
-pub mod answers;
-pub mod inbox;
-pub mod inbox_calls;
+mod answers;
+mod inbox;
+mod inbox_calls;
 mod inbox_handle;
 mod raw;
-pub mod timers;
+mod timers;
 mod timers_handle;
 
 use crate::answers::{DONE, NO_INBOX, number_of};
