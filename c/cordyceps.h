@@ -76,8 +76,8 @@ bool cordyceps_timers_free(cordyceps_timers *timers);
 /* ---- Inboxes: many threads send, and one at a time receives */
 
 /* A handle of an inbox, or of nothing: {0}. Each thread has one of its own. A room is a permit to send one payload:
- * sending takes one of the handle, or those of the inbox's pool, and receiving gives one to the handle that
- * receives. */
+ * sending takes one of the handle, which first takes some of the inbox's pool if it has none, and receiving gives one
+ * to the handle that receives. */
 typedef struct {
   void *at;
 } cordyceps_inbox;
