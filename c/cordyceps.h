@@ -117,7 +117,7 @@ bool cordyceps_inbox_absorb(cordyceps_inbox *inbox, cordyceps_inbox *other);
 
 /* Gives all rooms of the handle to the pool, from which each handle may take them. false: the handle is of nothing;
  * or at each of 64 tries another handle gave rooms to the pool in between, and this handle has rooms still: try
- * again. O(1). */
+ * again. Once all other handles of the inbox were absorbed, it is true. O(1). */
 bool cordyceps_inbox_give_back(cordyceps_inbox *inbox);
 
 /* Gives all rooms of the handle to the pool, and frees the handle, which is of nothing then. The last handle of an

@@ -30,8 +30,8 @@ SplitsOff i j k =
     (j.queue ≡ i.queue) × (arc_value k.queue ≡ arc_value i.queue) × (j.party ≡ keeping 0 i.party)
     × (k.party ≡ giving 0 i.party)
 
-abbrev pub Splits : Inbox → Inbox → Option Inbox → Type 0
-Splits i j made = MatchOption made (j ≡ i) (SplitsOff i j)
+abbrev pub TriesToSplit : Inbox → Inbox → Option Inbox → Type 0
+TriesToSplit i j made = MatchOption made (j ≡ i) (SplitsOff i j)
 
 -- it took over the rooms and the history of the handle k
 abbrev pub TakesOver : Inbox → Inbox → Inbox → Type 0
@@ -47,13 +47,14 @@ Ends p Done i j = EnqueuesRefilled (letter_of p) i.party j.party
 Ends p Full i j = FindsFull i.party j.party × (i.party.share ≡ whole → HasAllRooms j.party)
 Ends p NoMemory i j = j.party ≡ i.party
 
-abbrev pub Sends : ℕ → Sent → Inbox → Inbox → Type 0
-Sends p sent i j = (j.queue ≡ i.queue) × Ends p sent i j
+abbrev pub TriesToSend : ℕ → Sent → Inbox → Inbox → Type 0
+TriesToSend p sent i j = (j.queue ≡ i.queue) × Ends p sent i j
 
--- it sent and received nothing; with true, it has no room left
+-- it sent and received nothing; with true, it has no room left, and it is true where the party is whole
 abbrev pub GivesRooms : Bool → Inbox → Inbox → Type 0
 GivesRooms given i j =
     (j.queue ≡ i.queue) × Moves payload_of [] [] i.party j.party × (given ≡ true → j.party.rooms ≡ 0)
+    × (i.party.share ≡ whole → given ≡ true)
 
 -- the numbers that C gets
 abbrev pub number_of_sent : Sent → ℕ

@@ -3,7 +3,7 @@ ghost use Rattle.std.specs.Prelude.{◌≡◌, ◌≤◌, [], true, IfSome};
 ghost use Rattle.cordyceps.specs.Queues.Calls.{Dequeues, IsCertain};
 ghost use Rattle.cordyceps.specs.Queues.Moves.{Moves};
 ghost use Rattle.cordyceps.specs.Parties.Shares.{whole};
-ghost use Rattle.cordyceps_c.specs.Inboxes.{GivesRooms, IsNew, Sends, Splits, TakesOver, payload_of};
+ghost use Rattle.cordyceps_c.specs.Inboxes.{GivesRooms, IsNew, TriesToSend, TriesToSplit, TakesOver, payload_of};
 
 use crate::inbox::{Inbox, Letter, Message, Sent};
 use cordyceps::mpsc_queue::{MAX_ROOMS, Party, TryDequeueError};
@@ -15,11 +15,12 @@ use std::sync::Arc;
 const TRIES: usize = 64;
 
 /// Gives all rooms of a party to the pool, with those that were in it, and returns `true`. Returns `false` if other
-/// parties gave rooms back between the two steps of each of `TRIES` tries.
+/// parties gave rooms back between the two steps of each of `TRIES` tries. A whole party always gets `true`.
 fn give_all_back(queue: &MpscQueue<Message>, party: &mut Party<Message>) -> bool
     requires { party.old.table ≡ queue.now.table }
     ensures moves { Moves payload_of [] [] party.old party.new }
     ensures given { result ≡ true → party.new.rooms ≡ 0 }
+    ensures whole { party.old.share ≡ whole → result ≡ true }
 {
     for _ in 0..TRIES {
         queue.refill(party);
@@ -49,7 +50,7 @@ impl Inbox {
     /// Makes a further handle of the same inbox, without rooms. Returns `None` if there are too many, and changes
     /// nothing then.
     pub fn split(&mut self) -> Option<Inbox>
-        ensures { Splits self.old self.new result }
+        ensures { TriesToSplit self.old self.new result }
     {
         match Arc::try_clone(&self.queue) {
             Ok(queue) => {
@@ -62,7 +63,7 @@ impl Inbox {
 
     /// Sends a payload, and says how that ended. Only `Done` changes what is in the queue.
     pub fn send(&mut self, alloc: Global, payload: u64) -> Sent
-        ensures { Sends payload result self.old self.new }
+        ensures { TriesToSend payload result self.old self.new }
     {
         let letter: Letter = match Node::new(alloc, 0, Message { payload }) {
             Ok(letter) => letter,

@@ -13,7 +13,7 @@ ghost use Rattle.cordyceps.specs.Elements.Element.{Element};
 ghost use Rattle.cordyceps.specs.Parties.Shares.{whole};
 ghost use Rattle.cordyceps.specs.QueueCores.{TryDequeueError};
 ghost use Rattle.cordyceps.specs.Queues.Calls.{Dequeues, IsCertain};
-ghost use Rattle.cordyceps_c.specs.Inboxes.{IsNew, SplitsOff, TakesOver, KeepsOrRejoins, Sends, GivesRooms};
+ghost use Rattle.cordyceps_c.specs.Inboxes.{IsNew, SplitsOff, TakesOver, KeepsOrRejoins, TriesToSend, GivesRooms};
 ghost use Rattle.cordyceps_c.specs.Inboxes.{number_of_sent, number_of_try, payload_after};
 ghost use Rattle.cordyceps_c.specs.Timers.{Running, Starts, Fires, NoneFires};
 ghost use Rattle.cordyceps_c.specs.declared.inbox.Inbox.{Inbox};
@@ -227,7 +227,7 @@ pub extern "C" fn cordyceps_inbox_send(alloc: Global, inbox: &mut InboxHandle, p
     ensures { MatchOption inbox.old.held
         ((result ≡ NO_INBOX) × (inbox.new.held ≡ None))
         (λ i. (j : Inbox) × (sent : Sent) × (inbox.new.held ≡ Some j) × (result ≡ number_of_sent sent)
-        × Sends payload sent i j) }
+        × TriesToSend payload sent i j) }
 {
     let Some(mut held) = inbox.take(alloc) else {
         return NO_INBOX;
