@@ -20,8 +20,11 @@ SEARCH = "search rules"
 IMPORTS = {"rules": "std.proofs.Common", "arith": "std.proofs.Common", "common_steps": "std.proofs.lemmas.Grind"}
 # What a goal is asked of there that the right body's proof has no answer to.
 LONGER = f"{at_hand.FIRST} ({SEARCH}, {SEARCH} depth 7 fits 3000, grind (arith, common_steps))"
-# How many checks are asked for at most before terms that do not fit are given up.
+# How many checks are asked for at most before terms that do not fit are given up, and what is at hand then.
 MOST_TRIES = 5
+NOTHING = ["nothing"]
+# The words with which an answer is refused that names what is not there.
+NO_NAME = "has no field"
 # The words with which a `search` in an answer says that it tried all that it could, or that what it asked last did.
 EVERY_WAY = "Every way was tried"
 ENDED = re.compile(r"`grind` found no proof|the goal does not follow")
@@ -299,6 +302,20 @@ def calls_changed(old, new):
     return [it for it in zip(*both) if it[0] != it[1]] if len(both[0]) == len(both[1]) else []
 
 
+def drops_calls(old, new):
+    """Whether a text leaves out calls of another one, and has no new ones but those without arguments, and no new paths.
+
+    >>> drops_calls("    let at = take(words); hand_out(at)", "    Stack::new()")
+    True
+    >>> drops_calls("    one(x)", "    two(x)"), drops_calls("    f(x)", "    if y { f(x) }"), drops_calls("    x", "    y")
+    (False, False, False)
+    """
+    both = [TOKEN.findall(re.sub(r"\w+\(\)", "", it)) for it in (old, new)]
+    was, now = [sorted(calls_in(it)) for it in both]
+    steers = [sum(bool(STEERS.fullmatch(it)) for it in line) for line in both]
+    return {*now} < {*was} and len(now) < len(was) and steers[1] <= steers[0]
+
+
 def is_of_contract(goal):
     """Whether a goal is about what the function promises: what it ensures, the invariant of a type, or that of a loop.
     Others ask that a step is safe: that an index or a number is in range, that a place is never reached, that what a
@@ -445,10 +462,10 @@ class Suspect:
     the right body's, or none of the right body's answers holds under its name; and if `search` stopped at a limit, a
     longer one did not prove it either."""
 
-    def __init__(self, folder, text, keeps, calls, named=None, terms=(), binders=""):
+    def __init__(self, folder, text, keeps, calls, named=None, terms=(), binders="", drops=False):
         # The folder of the function's proof, the text of its answers, with the variables of each, whether the edit leaves
-        # the paths as they are, and the functions that it calls in place of others, as pairs.
-        self.binders, self.folder, self.text, self.keeps, self.calls = binders, folder, text, keeps, calls
+        # the paths as they are, the functions that it calls in place of others, as pairs, and whether it leaves calls out.
+        self.binders, self.folder, self.text, self.keeps, self.calls, self.drops = binders, folder, text, keeps, calls, drops
         # The answers that are taken away, those of these whose goals are not there, the ways that were found to hold, the
         # goals at which none did, the one goal that is looked at, with the ways to answer it that are left, and how many
         # checks were asked for.
@@ -456,14 +473,16 @@ class Suspect:
         # The goals that are asked for with the right body's answers at hand, the texts of the questions that are not the
         # first, and of these goals those that were proved, and those at which the right body's terms do not fit.
         self.beside, self.questions, self.proved, self.unfit = [named] if named else [], {}, set(), set()
-        # The terms of these answers that do not fit, and are at hand where they stand.
-        self.terms = []
+        # For each goal the terms of its answer that do not fit, and are at hand where they stand.
+        self.terms = {named: [*terms]} if terms else {}
         # Whether the goal is asked for that the edit names, whether the answers have other functions' names, and how they
         # were before.
         self.is_named, self.is_renamed, self.written, self.back = bool(named), False, text, [(new, old) for old, new in calls]
         if named and calls:
             self.text = with_calls(text, calls)
-        if terms:
+        if terms == NOTHING:
+            self.questions = {named: self.bare(named)}
+        elif terms:
             self.questions = {named: with_terms(asked_of(named, answers_of(self.text)[1], binders), terms)}
         # The goals that are open, each with the line that says so, and the paths of the right body's, once these are
         # known.
@@ -508,37 +527,49 @@ class Suspect:
         found = at_hand.left_open(lines, text)
         about = {goal: line for line in lines for goal in named_in(line) or asked if " error: " in line}
         for goal in asked:
-            if goal in found:
+            if goal in found and (self.terms.get(goal) != NOTHING or has_ended(found[goal])):
                 question = answers_of(text)[1][goal]
                 self.asserted = goal, found[goal], with_calls(question, self.back) if self.is_renamed else question
                 # (that the question proves the right body's goal was shown when the edit got the goal's name)
-                return self.confirms(True) if self.is_named else self.asks()
-        # (a term of the right body's that does not fit is at hand in its turn)
-        places = {goal: at_hand.refused_in(text, about[goal]) for goal in asked if goal in about and self.tries < MOST_TRIES}
-        self.questions = {}
-        for goal, place in places.items():
-            if place:
-                self.terms.append(text.split("\n")[place[0]][place[1] : place[2]])
-                self.questions[goal] = answers_of(at_hand.finer(text, place))[1][goal]
-                # (it is not known yet whether this one proves the right body's goal)
-                self.is_named = False
+                return self.confirms(True) if self.is_named or self.terms.get(goal) == NOTHING else self.asks()
         self.proved |= {goal for goal in asked if goal not in about}
-        self.unfit |= about.keys() & set(asked) - self.questions.keys()
+        left = [it for it in asked if it in about]
+        self.questions = {it: question for it in left for question in [self.finer(it, text, about[it])] if question}
+        self.unfit |= {*left} - self.questions.keys()
         self.beside = [*self.questions]
         if self.is_named and not self.beside:
-            self.text, self.is_named = self.written, False
+            self.text = self.written
+        # (it is not known yet whether another question proves the right body's goal)
+        self.is_named = False
         self.open = {goal: line for goal, line in self.open.items() if goal not in self.proved}
         return self.asks()
 
+    def finer(self, goal, text, line):
+        """The next question for a goal, after one in a text in which a line refuses a term: with this term at hand where it
+        stands, or else with none; and None after that."""
+        place = at_hand.refused_in(text, line) if self.tries < MOST_TRIES else None
+        # (what has another name is no evidence, but what the edit left out is)
+        if self.terms.get(goal) == NOTHING or not place and NO_NAME in line and not self.drops:
+            return None
+        if not place:
+            self.terms[goal] = NOTHING
+            return self.bare(goal)
+        self.terms[goal] = [*self.terms.get(goal, ()), text.split("\n")[place[0]][place[1] : place[2]]]
+        return answers_of(at_hand.finer(text, place))[1][goal]
+
+    def bare(self, goal):
+        """A question for a goal with nothing at hand."""
+        return asked_of(goal, {goal: f"{goal}{binders_of(goal, answers_of(self.text)[1], self.binders)} = {SEARCH}\n"})
+
     def confirms(self, is_proved):
         """Takes whether the question that the body leaves open proves the right body's goal. If so, it refuses the body, and
-        else its terms do not fit. Answers whether another check has to be asked."""
+        else nothing is at hand. Answers whether another check has to be asked."""
         goal, line, _ = self.asserted
         self.asserted, self.beside = None, []
         if is_proved:
             self.refused, self.by = line, goal
             return False
-        self.unfit.add(goal)
+        self.terms[goal], self.questions, self.beside = NOTHING, {goal: self.bare(goal)}, [goal]
         return self.asks()
 
     def at_limit(self):

@@ -9,7 +9,7 @@ WORD = re.compile(r"[\w.-]+|\S")
 TACTIC = re.compile(r"(?:search|grind|omega|cc|assumption|first_of|hlevel)(?![\w.-])")
 REWRITES = re.compile(r"(?:rw|simp)(?![\w.-])")
 # A term that stays as it is: one that holds at any goal, and a value whose type is known only where it stands.
-AS_IT_IS = re.compile(r"(?:absurd|elim)(?![\w.-])|\d+$|\[\]$|_$")
+AS_IT_IS = re.compile(r"absurd(?![\w.-])|\d+$|\[\]$|_$")
 # A term by which a goal holds whose sides compute to the same, and a name.
 COMPUTES = re.compile(r"refl|\?")
 NAME = re.compile(r"[\w+-]+")
@@ -115,10 +115,24 @@ def beside(term, bound=frozenset()):
         return f"{in_front[0]} {beside(in_front[1], bound | {*NAME.findall(in_front[0])})}"
     if term.startswith("(") and is_closed(term, 0):
         return f"({', '.join(f'({beside(it, bound)})' for it in split_at(term[1:-1], ','))})"
+    if re.match(r"elim (?!.*\belim\b)[^\[]*\[ *\|", term) and is_closed(term, term.index("[")):
+        return in_branches(term, bound)
     if re.match(r"record *\{", term) and is_closed(term, term.index("{")):
         fields = [it.partition("=") for it in split_at(term[term.index("{") + 1 : -1], ";")]
         return f"record {{ {'; '.join(f'{name.strip()} = ({beside(it, bound)})' for name, _, it in fields)} }}"
     return leaf(term, bound)
+
+
+def in_branches(term, bound):
+    """A term by cases with the term of each case at hand of a `search`.
+
+    >>> " ".join(in_branches("elim c.x [ | left a ↦ f a | right ↦ g c ]", set()).split())
+    'elim c.x [ | left a ↦ (let right = f a in search rules) | right ↦ (let right = g c in search rules) ]'
+    """
+    head, _, rest = term.partition("[")
+    cases = [it.partition("↦") for it in split_at(rest[:-1], "|")]
+    own = [f"| {of.strip()} ↦ ({beside(it, bound | {*NAME.findall(of)})})" for of, _, it in cases]
+    return f"{head}[ {' '.join(own)} ]"
 
 
 def leaf(term, bound):
