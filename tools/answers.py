@@ -469,15 +469,17 @@ class Suspect:
         # The answers that are taken away, those of these whose goals are not there, the ways that were found to hold, the
         # goals at which none did, the one goal that is looked at, with the ways to answer it that are left, and how many
         # checks were asked for.
-        self.gone, self.absent, self.held, self.tried, self.goal, self.ways, self.tries = set(), set(), [], set(), None, [], 0
+        self.gone, self.absent, self.held, self.tried = set(), set(), [], set()
+        self.goal, self.ways, self.tries = None, [], 0
         # The goals that are asked for with the right body's answers at hand, the texts of the questions that are not the
         # first, and of these goals those that were proved, and those at which the right body's terms do not fit.
         self.beside, self.questions, self.proved, self.unfit = [named] if named else [], {}, set(), set()
         # For each goal the terms of its answer that do not fit, and are at hand where they stand.
         self.terms = {named: [*terms]} if terms else {}
-        # Whether the goal is asked for that the edit names, whether the answers have other functions' names, and how they
-        # were before.
-        self.is_named, self.is_renamed, self.written, self.back = bool(named), False, text, [(new, old) for old, new in calls]
+        # Whether the goal is asked for that the edit names, whether the answers have other functions' names, how they were
+        # before, these names the other way round, and whether what the edit names is trusted to prove the right body's.
+        self.is_named, self.is_renamed, self.written = bool(named), False, text
+        self.back, self.is_trusted = [(new, old) for old, new in calls], True
         if named and calls:
             self.text = with_calls(text, calls)
         if terms == NOTHING:
@@ -531,7 +533,8 @@ class Suspect:
                 question = answers_of(text)[1][goal]
                 self.asserted = goal, found[goal], with_calls(question, self.back) if self.is_renamed else question
                 # (that the question proves the right body's goal was shown when the edit got the goal's name)
-                return self.confirms(True) if self.is_named or self.terms.get(goal) == NOTHING else self.asks()
+                is_shown = self.is_named and self.is_trusted or self.terms.get(goal) == NOTHING
+                return self.confirms(True) if is_shown else self.asks()
         self.proved |= {goal for goal in asked if goal not in about}
         left = [it for it in asked if it in about]
         self.questions = {it: question for it in left for question in [self.finer(it, text, about[it])] if question}
@@ -570,6 +573,7 @@ class Suspect:
             self.refused, self.by = line, goal
             return False
         self.terms[goal], self.questions, self.beside = NOTHING, {goal: self.bare(goal)}, [goal]
+        self.is_named = False
         return self.asks()
 
     def at_limit(self):

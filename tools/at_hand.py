@@ -95,7 +95,8 @@ def is_closed(term, opens):
 
 
 def beside(term, bound=frozenset()):
-    """A term with these variables bound as a `search` that has it at hand: as `right`, where its type is known by itself. Its parts get one each.
+    """A term in which these variables are bound as a `search` that has it at hand: as `right`, where its type is known by
+    itself. Each of its parts gets one.
 
     >>> shown = lambda term: " ".join(beside(term).split())
     >>> shown("let a = b in f a c.x")
