@@ -207,7 +207,10 @@ fn sixteen_parties_pass_all_rooms_on(rt: HostRuntime) {
 
 /// Enqueues the last of the elements, then the one before it and so on, until there is no room or no element.
 fn fill(rt: &impl Abort, seat: &mut Seat<'_>, elements: &mut Vec<Handle>) {
-    while let Some(node) = elements.pop() {
+    for _ in 0..elements.len() {
+        let Some(node) = elements.pop() else {
+            return;
+        };
         if let Err(back) = seat.try_put(rt, node) {
             append(rt, elements, back);
             return;
@@ -218,8 +221,11 @@ fn fill(rt: &impl Abort, seat: &mut Seat<'_>, elements: &mut Vec<Handle>) {
 /// Dequeues all, gives the rooms back if the pool takes them, and returns how many came out.
 fn drain(rt: &impl Abort, seat: &mut Seat<'_>) -> u64 {
     let mut count = 0;
-    while let Ok(_node) = seat.try_take(rt) {
-        count = sum(count, 1);
+    for _ in 0..TRIES {
+        match seat.try_take(rt) {
+            Ok(_node) => count = sum(count, 1),
+            Err(_) => break,
+        }
     }
     let rooms = seat.rooms(rt);
     seat.give_back(rt, rooms);
@@ -241,7 +247,10 @@ fn an_idle_party_leaves_most_rooms_to_others(rt: HostRuntime) {
     same(&rt, idle.try_put(&rt, first).is_ok(), true);
     let mut left = elements(&rt, rt.alloc(), 1, 2000, &drops);
     let (mut batches, mut taken) = (0, 0);
-    while !left.is_empty() && batches < 2001 {
+    for _ in 0..2001 {
+        if left.is_empty() {
+            break;
+        }
         fill(&rt, &mut busy, &mut left);
         taken = sum(taken, drain(&rt, &mut taker));
         batches = sum(batches, 1);
