@@ -14,6 +14,7 @@ use std::ptr;
 use std::ptr::NonNull;
 
 /// The address of a box's value, or null. It owns nothing.
+#[repr(C)]
 #[derive(Clone, Copy)]
 pub struct Address {
     ptr: *mut u8,

@@ -1,7 +1,6 @@
 -- Which spots a heap has, and how it agrees with a map of spots, by what its calls say.
-use Rattle.std.proofs.Common.{◌≡◌, ℕ, zero, suc, List, [], ◌∷◌, ◌++◌, Option, Some, None, MatchOption, refl, sym, ap, ◌∙◌, subst, ◌⊎◌, inl, inr, arith}
-use Rattle.std.proofs.lemmas.List.Sorted.{Contains-permutation, IsPermutation-append_comm, IsPermutation-sym, IsPermutation-trans}
-use Rattle.std.specs.List.{Contains}
+use Rattle.std.proofs.Common.{◌≡◌, ℕ, [], ◌∷◌, ◌++◌, Option, Some, None, MatchOption, refl, sym, ap, ◌∙◌, subst, ◌⊎◌, inl, inr}
+use Rattle.std.proofs.lemmas.List.Sorted.{IsPermutation-append_comm, IsPermutation-sym, IsPermutation-trans}
 use Rattle.std.specs.List.Sorted.{IsPermutation}
 use Rattle.std.specs.Prelude.{IfSome}
 use denote.RawPtr.{Ptr}
@@ -12,24 +11,10 @@ use Rattle.cordyceps_base.specs.Spots.{AreDistinct}
 use Rattle.cordyceps_stable.specs.Agreeing.{HasElementAt, Agrees, IsUpdated}
 use Rattle.cordyceps_stable.proofs.Agreeing.{none_some, put_agrees, taken_agrees}
 use Rattle.cordyceps_heap.proofs.Apart.{permuted_distinct}
+use Rattle.cordyceps_stable.proofs.Valid.{permuted_is_at}
 use Rattle.cordyceps_stable.proofs.Holding.{distinct_less, has_split, last_taken, spot_is_at, taken_is_at, left_is_at, taken_or_left, taken_gone, joined_is_at, front_is_at}
 
 module _ {X : Type 0} where
-  contains_at : (b a : List X) (x : X) → Contains (b ++ x ∷ a) x
-  contains_at [] a x = (0, omega arith, refl)
-  contains_at (y ∷ b) a x = let (k, within, at) = contains_at b a x in (suc k, omega (arith, within), at)
-
-  contained_at : (c : List X) (x : X) → Contains c x → (b : List X) × (a : List X) × (c ≡ b ++ x ∷ a)
-  contained_at [] x (k, within, at) = absurd (omega (arith, within))
-  contained_at (y ∷ c) x (zero, within, at) = ([], c, ap (λ z. z ∷ c) at)
-  contained_at (y ∷ c) x (suc k, within, at) = let (before, after, is) = contained_at c x (k, omega (arith, within), at) in (y ∷ before, after, ap (λ s. y ∷ s) is)
-
-module _ {X : Type 0} where
-  -- what lies in a heap lies there in any order of its nodes
-  pub permuted_is_at : (c d : Nodes X) (q : Ptr) (o : Element X) → IsPermutation c d → HasElementAt c q o → HasElementAt d q o
-  permuted_is_at c d q o p (b, a, is) =
-      contained_at d (q, o) (Contains-permutation c d (q, o) p (subst (λ s. Contains s (q, o)) (sym is) (contains_at b a (q, o))))
-
   pub permuted_has : (c d : Nodes X) (q : Ptr) → IsPermutation c d → HasSpot c q → HasSpot d q
   permuted_has c d q p (k, at) = let (e, lies) = has_split c k q at in spot_is_at d q e (permuted_is_at c d q e p lies)
 

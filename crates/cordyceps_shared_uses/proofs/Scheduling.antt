@@ -1,8 +1,5 @@
 -- What accounts of a scheduler hold after a task went in or out, and that all tasks are found again in the end.
-use Rattle.std.proofs.lemmas.Option.{none-some}
-use Rattle.std.specs.List.{AllByRecursion}
-use Rattle.std.specs.Option.{unwrap_or}
-use Rattle.std.proofs.Common.{◌≡◌, ℕ, ◌+◌, ◌-◌, ◌*◌, ◌^◌, ◌≤◌, min, max, Bool, true, false, cond, nat_lt, List, [], ◌∷◌, ◌++◌, map, Option, Some, refl, sym, ap, ◌∙◌, subst, arith}
+use Rattle.std.proofs.Common.{◌≡◌, ℕ, ◌+◌, ◌-◌, ◌*◌, ◌^◌, ◌≤◌, min, Bool, true, false, cond, nat_lt, List, [], ◌∷◌, ◌++◌, map, refl, sym, ap, ◌∙◌, subst, arith}
 use Rattle.std.specs.Prelude.{Result, Ok, Err}
 use denote.RawPtr.{Ptr}
 use Rattle.cordyceps.specs.Elements.Element.{Element, Elements}
@@ -28,7 +25,7 @@ use Rattle.cordyceps_shared_uses.specs.declared.scheduler.name.Name.{Name}
 use Rattle.cordyceps_shared_uses.specs.declared.scheduler.work.Work.{Work}
 use Rattle.cordyceps_shared_uses.specs.Accounts.{Entries, Moved, Holds, IsOpen, after_getting, after_giving, joined}
 use Rattle.cordyceps_shared_uses.specs.Names.{name_of, names, asleep, at_birth, by_birth, one_more}
-use Rattle.cordyceps_shared_uses.specs.Timers.{Running, started, first_time, time_of, InOrder, NoneBefore}
+use Rattle.cordyceps_shared_uses.specs.Timers.{Running, started, time_of, NoneBefore}
 use Rattle.cordyceps_shared_uses.specs.Ways.{Seat, Sent, SentAll, Woken, Came, RanOneEach, Settles}
 
 -- ---- what is in a place
@@ -72,24 +69,6 @@ none_before_started now clock q t (x ∷ s) none later =
 pub none_missed_started : (now : ℕ) (q : Ptr) (t : Element (Timer Work)) (s u : Running Work) → u.nodes ≡ started s.clock q t s.nodes → NoneBefore now s.nodes → now ≤ t.value.deadline
     → NoneBefore now u.nodes
 none_missed_started now q t s u is none later = subst (λ l. NoneBefore now l) (sym is) (none_before_started now s.clock q t s.nodes none later)
-
--- those that fire after one with this deadline are not before it
-none_before_first : (now clock d : ℕ) (s : Nodes (Timer Work)) → clock ≤ now → now ≤ d → AllByRecursion (λ y. max d clock ≤ time_of clock y.1) s → NoneBefore now s → NoneBefore d s
-none_before_first now clock d [] passed later after none = none
-none_before_first now clock d (y ∷ s) passed later after none =
-    let first = after.0 in let own = none.0 in (omega (arith, passed, later, first, own), none_before_first now clock d s passed later after.1 none.1)
-
--- the time that advanced to the first deadline has passed none
-pub none_missed_first : (now clock after d : ℕ) (s : Nodes (Timer Work)) → clock ≤ now → after ≤ now → InOrder clock s → NoneBefore now s → Some d ≡ first_time after s → NoneBefore d s
-none_missed_first now clock after d [] passed within order none is = absurd (none-some d (sym is))
-none_missed_first now clock after d (x ∷ s) passed within order none is =
-    let same : d ≡ time_of after x.1 = ap (λ (k : Option ℕ). unwrap_or k 0) is in
-    let own = none.0 in
-    let at : d ≡ x.1.value.deadline = omega (arith, same, own, within) in
-    let behind = subst (λ k. AllByRecursion (λ y. max k clock ≤ time_of clock y.1) s) (sym at) order.0 in (
-      omega (arith, at),
-      none_before_first now clock d s passed (subst (λ k. now ≤ k) (sym at) own) behind none.1,
-    )
 
 -- a task went to sleep; its deadline may be another than before
 pub holds_slept : {x : Name} {a b : Entries} (q : Ptr) (t : Element (Timer Work)) (s u : Running Work) → Holds a (asleep s) → b ≡ after_getting x a → x ≡ name_of t

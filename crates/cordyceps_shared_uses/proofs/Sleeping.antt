@@ -10,7 +10,7 @@ use Rattle.cordyceps.specs.Elements.Nodes.{Nodes}
 use Rattle.cordyceps.specs.Spots.Agreeing.{HasElementAt}
 use Rattle.cordyceps.specs.Spots.Clock.{rounded}
 use Rattle.cordyceps.proofs.Spots.Classes.{all_back}
-use Rattle.cordyceps.proofs.Spots.Kept.{permuted_is_at}
+use Rattle.cordyceps.proofs.Spots.Valid.{permuted_is_at}
 use Rattle.cordyceps_shared_uses.specs.declared.timers.Timer.{Timer}
 use Rattle.cordyceps_shared_uses.specs.Timers.{InOrder, arranged, first_rounded, first_time, time_of}
 use Rattle.cordyceps_shared_uses.proofs.Arranging.{in_order, kept}

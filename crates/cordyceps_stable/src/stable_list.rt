@@ -25,6 +25,7 @@ use std::marker::Model;
 /// It is valid for the collection that has the element, as long as that has it. Each call that takes a spot requires a
 /// valid one, and the contract of each call of a list says which spots are valid after it. Nothing checks this when the
 /// program runs. Spots cannot be compared, and `Debug` prints no address.
+#[repr(C)]
 #[derive(Clone, Copy)]
 #[derive_where(Debug)]
 pub struct Spot {
