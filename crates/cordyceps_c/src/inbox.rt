@@ -1,52 +1,218 @@
-//! An inbox, what is sent to it, and how sending ends.
-ghost use Rattle.std.specs.Arc.{arc_value};
-ghost use Rattle.std.specs.Prelude.{◌≡◌};
+//! The calls of inboxes.
+ghost use Rattle.std.specs.Prelude.{◌≡◌, true, false, Some, None, MatchBool, MatchOption, Result};
+ghost use Rattle.cordyceps.specs.Elements.Element.{Element};
+ghost use Rattle.cordyceps.specs.Parties.Shares.{whole};
+ghost use Rattle.cordyceps.specs.QueueCores.{TryDequeueError};
+ghost use Rattle.cordyceps.specs.Queues.Calls.{Dequeues, IsCertain};
+ghost use Rattle.cordyceps_c_shared.specs.Inboxes.{IsNew, SplitsOff, TakesOver, KeepsOrRejoins, TriesToSend, GivesRooms};
+ghost use Rattle.cordyceps_c_shared.specs.Inboxes.{number_of_sent, number_of_try, payload_after};
+ghost use Rattle.cordyceps_c_shared.specs.declared.inbox.Inbox.{Inbox};
+ghost use Rattle.cordyceps_c_shared.specs.declared.inbox.Message.{Message};
+ghost use Rattle.cordyceps_c_shared.specs.declared.inbox.Sent.{Sent};
 
-use cordyceps::mpsc_queue::{Links, Party};
-use cordyceps::{Linked, MpscQueue, Node};
-use std::alloc::Global;
-use std::sync::Arc;
+use cordyceps::mpsc_queue::MAX_ROOMS;
+use cordyceps_c_shared::answers::{DONE, NO_INBOX, number_of};
+use cordyceps_c_shared::inbox::Inbox;
+use cordyceps_c_shared::inbox_handle::InboxHandle;
+use std::alloc::{AllocFailed, Global};
 
-/// What is sent.
-#[derive(Drop)]
-pub struct Message {
-    pub payload: u64,
-}
-
-/// A message in its node.
-pub(crate) type Letter = Node<Message, Links<Message>>;
-
-impl Linked<Links<Message>> for Message {
-    type Handle = Letter;
-
-    ghost element = { λ h. h };
-
-    fn into_ptr(handle: Letter) -> Letter {
-        handle
+/// Makes an inbox of `rooms` rooms, of which this handle has all, in a handle of nothing, and returns `true`. Returns
+/// `false` if there are more than `MAX_ROOMS`, memory is refused, or the handle is not of nothing, and changes nothing
+/// then.
+///
+/// # Complexity
+/// O(`rooms`), with six allocations.
+#[unsafe(no_mangle)]
+pub extern "C" fn cordyceps_inbox_new(alloc: Global, rooms: usize, out: &mut InboxHandle) -> bool
+    ensures { MatchOption out.old.held
+        (MatchBool result ((i : Inbox) × (out.new.held ≡ Some i) × IsNew rooms i) (out.new.held ≡ None))
+        (λ i. (result ≡ false) × (out.new.held ≡ Some i)) }
+{
+    if let Some(held) = out.take(alloc) {
+        out.put(held);
+        return false;
     }
-
-    fn from_ptr(node: Letter) -> Letter
-        ensures { result ≡ node }
-    {
-        node
+    if rooms > MAX_ROOMS {
+        return false;
+    }
+    let Some(inbox) = Inbox::new(alloc, rooms) else {
+        return false;
+    };
+    match Box::new(alloc, inbox) {
+        Ok(inbox) => {
+            out.put(inbox);
+            true
+        }
+        Err(_) => false,
     }
 }
 
-/// How sending ended.
-#[derive(Clone, Copy, Drop)]
-pub enum Sent {
-    /// The message is in the queue.
-    Done,
-    /// No room was free.
-    Full,
-    /// Memory was refused.
-    NoMemory,
+/// Makes a further handle of the same inbox, without rooms, in a handle of nothing, and returns `true`. Returns `false`
+/// if memory is refused, the first handle is of nothing or the second is not, and nothing has changed then.
+///
+/// # Complexity
+/// O(1), with one allocation.
+#[unsafe(no_mangle)]
+pub extern "C" fn cordyceps_inbox_split(
+    alloc: Global,
+    inbox: &mut InboxHandle,
+    out: &mut InboxHandle,
+) -> bool
+    ensures { MatchOption inbox.old.held
+        ((result ≡ false) × (inbox.new.held ≡ None) × (out.new.held ≡ out.old.held))
+        (λ i. (j : Inbox) × (inbox.new.held ≡ Some j) × MatchBool result
+        ((k : Inbox) × (out.old.held ≡ None) × (out.new.held ≡ Some k) × SplitsOff i j k)
+        ((out.new.held ≡ out.old.held) × KeepsOrRejoins i j)) }
+{
+    if let Some(held) = out.take(alloc) {
+        out.put(held);
+        return false;
+    }
+    let Some(mut held) = inbox.take(alloc) else {
+        return false;
+    };
+    let Some(other) = held.split() else {
+        inbox.put(held);
+        return false;
+    };
+    match Box::new(alloc, other) {
+        Ok(other) => {
+            out.put(other);
+            inbox.put(held);
+            true
+        }
+        Err(AllocFailed { value }) => {
+            held.absorb(value);
+            inbox.put(held);
+            false
+        }
+    }
 }
 
-/// A party at its queue, which it owns with others.
-#[derive(Drop)]
-pub struct Inbox {
-    pub(crate) queue: Arc<MpscQueue<Message>, Global>,
-    pub(crate) party: Party<Message>,
-    pub(crate) ghost seated: { party.table ≡ (arc_value queue).table },
+/// Sends a payload and returns `DONE`. Returns `FULL` if the handle has no room and the pool has none, `NO_MEMORY` if
+/// memory is refused, and `NO_INBOX` if the handle is of nothing; the queue is unchanged then.
+///
+/// # Complexity
+/// O(1), with one allocation.
+#[unsafe(no_mangle)]
+pub extern "C" fn cordyceps_inbox_send(alloc: Global, inbox: &mut InboxHandle, payload: u64) -> u32
+    ensures { MatchOption inbox.old.held
+        ((result ≡ NO_INBOX) × (inbox.new.held ≡ None))
+        (λ i. (j : Inbox) × (sent : Sent) × (inbox.new.held ≡ Some j) × (result ≡ number_of_sent sent)
+        × TriesToSend payload sent i j) }
+{
+    let Some(mut held) = inbox.take(alloc) else {
+        return NO_INBOX;
+    };
+    let sent = held.send(alloc, payload);
+    inbox.put(held);
+    sent.number()
+}
+
+/// Tries once to receive. Returns `DONE`, with the payload in `*out`, whose room this handle has then. Returns `EMPTY`
+/// if there is none, `UNLINKED` if the next is not linked yet, `BUSY` if another handle receives, and `NO_INBOX` if the
+/// handle is of nothing; `*out` is unchanged then.
+///
+/// # Complexity
+/// O(1). Frees one block.
+#[unsafe(no_mangle)]
+pub extern "C" fn cordyceps_inbox_receive(
+    alloc: Global,
+    inbox: &mut InboxHandle,
+    out: &mut u64,
+) -> u32
+    ensures { MatchOption inbox.old.held
+        ((result ≡ NO_INBOX) × (inbox.new.held ≡ None) × (out.new ≡ out.old))
+        (λ i. (j : Inbox) × (tried : Result (Element Message) TryDequeueError)
+        × (inbox.new.held ≡ Some j) × (j.queue ≡ i.queue)
+        × (result ≡ number_of_try tried) × (out.new ≡ payload_after out.old tried)
+        × Dequeues tried i.party j.party × (i.party.share ≡ whole → IsCertain tried)) }
+{
+    let Some(mut held) = inbox.take(alloc) else {
+        return NO_INBOX;
+    };
+    let tried = held.receive();
+    inbox.put(held);
+    match tried {
+        Ok(letter) => {
+            *out = letter.into_value().payload;
+            DONE
+        }
+        Err(why) => number_of(why),
+    }
+}
+
+/// Takes over the rooms of `other`, which is of the same inbox, and frees that handle, which is of nothing then.
+/// Returns `true`, or `false` if one of them is of nothing, and changes nothing then. Requires that two inboxes are the
+/// same.
+///
+/// # Complexity
+/// O(1). Frees one block.
+#[unsafe(no_mangle)]
+pub extern "C" fn cordyceps_inbox_absorb(
+    alloc: Global,
+    inbox: &mut InboxHandle,
+    other: &mut InboxHandle,
+) -> bool
+    requires { (i k : Inbox) → inbox.old.held ≡ Some i → other.old.held ≡ Some k → k.party.table ≡ i.party.table }
+    ensures { MatchOption inbox.old.held
+        ((result ≡ false) × (inbox.new.held ≡ None) × (other.new.held ≡ other.old.held))
+        (λ i. MatchOption other.old.held
+        ((result ≡ false) × (inbox.new.held ≡ Some i) × (other.new.held ≡ None))
+        (λ k. (j : Inbox) × (result ≡ true) × (inbox.new.held ≡ Some j) × (other.new.held ≡ None)
+        × TakesOver i k j)) }
+{
+    let Some(mut held) = inbox.take(alloc) else {
+        return false;
+    };
+    let Some(absorbed) = other.take(alloc) else {
+        inbox.put(held);
+        return false;
+    };
+    held.absorb(Box::into_inner(absorbed));
+    inbox.put(held);
+    true
+}
+
+/// Gives all rooms of the handle to the pool of its inbox, with those that are there, and returns `true`: each handle
+/// may take them then. Returns `false` if the handle is of nothing. It also returns `false` if at each of 64 tries
+/// another handle gave rooms back at the same moment; then this one has rooms, and the call can be made again.
+///
+/// # Complexity
+/// O(1).
+#[unsafe(no_mangle)]
+pub extern "C" fn cordyceps_inbox_give_back(alloc: Global, inbox: &mut InboxHandle) -> bool
+    ensures { MatchOption inbox.old.held
+        ((result ≡ false) × (inbox.new.held ≡ None))
+        (λ i. (j : Inbox) × (inbox.new.held ≡ Some j) × GivesRooms result i j) }
+{
+    let Some(mut held) = inbox.take(alloc) else {
+        return false;
+    };
+    let is_given = held.give_back();
+    inbox.put(held);
+    is_given
+}
+
+/// Gives all rooms of the handle back as `cordyceps_inbox_give_back` does, then frees the handle, which is of nothing
+/// then, and returns `true`. The last handle frees the inbox with all that is in it. Returns `false` where
+/// `cordyceps_inbox_give_back` does; the handle is not freed then.
+///
+/// # Complexity
+/// O(1), and for the last handle O(r), for r rooms.
+#[unsafe(no_mangle)]
+pub extern "C" fn cordyceps_inbox_free(alloc: Global, inbox: &mut InboxHandle) -> bool
+    ensures { MatchOption inbox.old.held
+        ((result ≡ false) × (inbox.new.held ≡ None))
+        (λ i. (j : Inbox) × GivesRooms result i j
+        × MatchBool result (inbox.new.held ≡ None) (inbox.new.held ≡ Some j)) }
+{
+    let Some(mut held) = inbox.take(alloc) else {
+        return false;
+    };
+    if !held.give_back() {
+        inbox.put(held);
+        return false;
+    }
+    true
 }

@@ -1,9 +1,0 @@
-mod Answering
-mod Arranging
-mod Due
-mod Held
-mod InboxHandles
-mod InboxSent
-mod TimersHandles
-mod TimersSent
-mod Values

@@ -1,6 +1,0 @@
-use denote.Param.Send.{IsSend}
-use Rattle.cordyceps_c.proofs.TimersSent.{handle-send}
-use Rattle.cordyceps_c.specs.contracts.timers_handle.TimersHandle.{the_row}
-
-pub send : IsSend the_row
-send = handle-send

@@ -1,4 +1,0 @@
-pub mod Held
-pub mod Inboxes
-pub mod Rows
-pub mod Timers

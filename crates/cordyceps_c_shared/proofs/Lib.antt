@@ -1,0 +1,2 @@
+mod InboxHandles
+mod InboxSent

@@ -1,0 +1,77 @@
+-- What calls do to the handle of an inbox, which is i before and j after.
+use Rattle.std.specs.Prelude.{◌≡◌, ℕ, [], Bool, true, Option, MatchOption, ◌⊎◌, Result, Ok, Err}
+use Rattle.std.specs.Arc.{arc_value}
+use Rattle.cordyceps.specs.Elements.Element.{Element}
+use Rattle.cordyceps.specs.Parties.Shares.{whole}
+use Rattle.cordyceps.specs.Parties.Standings.{new_party, keeping, giving, Absorbs}
+use Rattle.cordyceps.specs.QueueCores.{TryDequeueError, FindsEmpty, FindsInconsistent, FindsBusy}
+use Rattle.cordyceps.specs.Queues.Calls.{Legal, capacity, EnqueuesRefilled, FindsFull, HasAllRooms}
+use Rattle.cordyceps.specs.Queues.Moves.{Moves}
+use Rattle.cordyceps_c_shared.specs.declared.answers.TheConstants.{DONE, EMPTY, UNLINKED, BUSY, FULL, NO_MEMORY}
+use Rattle.cordyceps_c_shared.specs.declared.inbox.Inbox.{Inbox}
+use Rattle.cordyceps_c_shared.specs.declared.inbox.Message.{Message}
+use Rattle.cordyceps_c_shared.specs.declared.inbox.Sent.{Sent}
+use Rattle.cordyceps_c_shared.specs.declared.inbox.Sent.TheVariants.{Done, Full, NoMemory}
+
+-- the element that has a payload, and the payload of an element
+abbrev pub letter_of : ℕ → Element Message
+letter_of p = record { id = 0; value = record { payload = p } }
+
+abbrev pub payload_of : Element Message → ℕ
+payload_of e = e.value.payload
+
+-- it is the only handle of its inbox, and has all its rooms
+abbrev pub IsNew : (rooms : ℕ) → Inbox → Type 0
+IsNew rooms i = (i.party ≡ new_party i.party.table rooms) × (capacity i.party.table ≡ rooms)
+
+-- a further handle k of the same inbox came of it, without rooms
+abbrev pub SplitsOff : Inbox → Inbox → Inbox → Type 0
+SplitsOff i j k =
+    (j.queue ≡ i.queue) × (arc_value k.queue ≡ arc_value i.queue) × (j.party ≡ keeping 0 i.party)
+    × (k.party ≡ giving 0 i.party)
+
+abbrev pub TriesToSplit : Inbox → Inbox → Option Inbox → Type 0
+TriesToSplit i j made = MatchOption made (j ≡ i) (SplitsOff i j)
+
+-- it took over the rooms and the history of the handle k
+abbrev pub TakesOver : Inbox → Inbox → Inbox → Type 0
+TakesOver i k j = (j.queue ≡ i.queue) × Absorbs (λ h. Legal h) i.party k.party j.party
+
+-- it is as it was, or a handle that was split off it was taken over again
+abbrev pub KeepsOrRejoins : Inbox → Inbox → Type 0
+KeepsOrRejoins i j = (j ≡ i) ⊎ ((kept : Inbox) × (given : Inbox) × SplitsOff i kept given × TakesOver kept given j)
+
+-- what became of a payload that was to be sent
+abbrev pub Ends : ℕ → Sent → Inbox → Inbox → Type 0
+Ends p Done i j = EnqueuesRefilled (letter_of p) i.party j.party
+Ends p Full i j = FindsFull i.party j.party × (i.party.share ≡ whole → HasAllRooms j.party)
+Ends p NoMemory i j = j.party ≡ i.party
+
+abbrev pub TriesToSend : ℕ → Sent → Inbox → Inbox → Type 0
+TriesToSend p sent i j = (j.queue ≡ i.queue) × Ends p sent i j
+
+-- it sent and received nothing; with true, it has no room left, and it is true where the party is whole
+abbrev pub GivesRooms : Bool → Inbox → Inbox → Type 0
+GivesRooms given i j =
+    (j.queue ≡ i.queue) × Moves payload_of [] [] i.party j.party × (given ≡ true → j.party.rooms ≡ 0)
+    × (i.party.share ≡ whole → given ≡ true)
+
+-- the numbers that C gets
+abbrev pub number_of_sent : Sent → ℕ
+number_of_sent Done = DONE
+number_of_sent Full = FULL
+number_of_sent NoMemory = NO_MEMORY
+
+abbrev pub number_of_error : TryDequeueError → ℕ
+number_of_error FindsEmpty = EMPTY
+number_of_error FindsInconsistent = UNLINKED
+number_of_error FindsBusy = BUSY
+
+abbrev pub number_of_try : Result (Element Message) TryDequeueError → ℕ
+number_of_try (Ok e) = DONE
+number_of_try (Err why) = number_of_error why
+
+-- the payload that came out, or what was there before
+abbrev pub payload_after : ℕ → Result (Element Message) TryDequeueError → ℕ
+payload_after old (Ok e) = payload_of e
+payload_after old (Err why) = old

@@ -1,0 +1,2 @@
+pub mod Inboxes
+pub mod Rows

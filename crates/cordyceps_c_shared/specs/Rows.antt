@@ -1,0 +1,6 @@
+-- What a handle holds, as the logic has it.
+use denote.RattleType.{RattleType}
+use Rattle.cordyceps_c_shared.specs.contracts.inbox.Inbox as inbox
+
+abbrev pub inbox_row : RattleType
+inbox_row = inbox.the_row

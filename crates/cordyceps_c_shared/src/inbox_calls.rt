@@ -1,0 +1,103 @@
+//! The calls of an inbox: many threads send, and one at a time receives.
+ghost use Rattle.std.specs.Prelude.{◌≡◌, ◌≤◌, [], true, IfSome};
+ghost use Rattle.cordyceps.specs.Queues.Calls.{Dequeues, IsCertain};
+ghost use Rattle.cordyceps.specs.Queues.Moves.{Moves};
+ghost use Rattle.cordyceps.specs.Parties.Shares.{whole};
+ghost use Rattle.cordyceps_c_shared.specs.Inboxes.{GivesRooms, IsNew, TriesToSend, TriesToSplit, TakesOver, payload_of};
+
+use crate::inbox::{Inbox, Letter, Message, Sent};
+use cordyceps::mpsc_queue::{MAX_ROOMS, Party, TryDequeueError};
+use cordyceps::{MpscQueue, Node};
+use std::alloc::Global;
+use std::sync::Arc;
+
+/// How often `give_all_back` tries.
+const TRIES: usize = 64;
+
+/// Gives all rooms of a party to the pool, with those that were in it, and returns `true`. Returns `false` if other
+/// parties gave rooms back between the two steps of each of `TRIES` tries. A whole party always gets `true`.
+fn give_all_back(queue: &MpscQueue<Message>, party: &mut Party<Message>) -> bool
+    requires { party.old.table ≡ queue.now.table }
+    ensures moves { Moves payload_of [] [] party.old party.new }
+    ensures given { result ≡ true → party.new.rooms ≡ 0 }
+    ensures whole { party.old.share ≡ whole → result ≡ true }
+{
+    for _ in 0..TRIES {
+        queue.refill(party);
+        let rooms = party.rooms();
+        if queue.give_back(party, rooms) {
+            return true;
+        }
+    }
+    false
+}
+
+impl Inbox {
+    /// Makes an inbox of so many rooms, or `None` if memory is refused. Requires that they are at most `MAX_ROOMS`.
+    pub fn new(alloc: Global, rooms: usize) -> Option<Inbox>
+        requires { rooms ≤ MAX_ROOMS }
+        ensures { IfSome result (IsNew rooms) }
+    {
+        let Ok((queue, party)) = MpscQueue::<Message>::new(alloc, rooms) else {
+            return None;
+        };
+        match Arc::new(alloc, queue) {
+            Ok(queue) => Some(Inbox { queue, party }),
+            Err(_) => None,
+        }
+    }
+
+    /// Makes a further handle of the same inbox, without rooms. Returns `None` if there are too many, and changes
+    /// nothing then.
+    pub fn split(&mut self) -> Option<Inbox>
+        ensures { TriesToSplit self.old self.new result }
+    {
+        match Arc::try_clone(&self.queue) {
+            Ok(queue) => {
+                let party = self.queue.split(&mut self.party, 0);
+                Some(Inbox { queue, party })
+            }
+            Err(_) => None,
+        }
+    }
+
+    /// Sends a payload, and says how that ended. Only `Done` changes what is in the queue.
+    pub fn send(&mut self, alloc: Global, payload: u64) -> Sent
+        ensures { TriesToSend payload result self.old self.new }
+    {
+        let letter: Letter = match Node::new(alloc, 0, Message { payload }) {
+            Ok(letter) => letter,
+            Err(_) => return Sent::NoMemory,
+        };
+        match self.queue.try_enqueue(&mut self.party, letter) {
+            Ok(()) => Sent::Done,
+            Err(_) => Sent::Full,
+        }
+    }
+
+    /// Tries once to receive.
+    pub fn receive(&mut self) -> Result<Letter, TryDequeueError>
+        ensures queue { self.new.queue ≡ self.old.queue }
+        ensures tried { Dequeues result self.old.party self.new.party }
+        ensures whole { self.old.party.share ≡ whole → IsCertain result }
+    {
+        self.queue.try_dequeue(&mut self.party)
+    }
+
+    /// Takes over the rooms and the history of another handle of the same inbox.
+    pub fn absorb(&mut self, other: Inbox)
+        requires { other.party.table ≡ self.old.party.table }
+        ensures { TakesOver self.old other self.new }
+    {
+        let Inbox { queue: _, party } = other;
+        self.queue.absorb(&mut self.party, party);
+    }
+
+    /// Gives all rooms to the pool, with those that were in it, and returns `true`. Returns `false` if other handles
+    /// gave rooms back between the two steps of each of `TRIES` tries.
+    pub fn give_back(&mut self) -> bool
+        ensures { GivesRooms result self.old self.new }
+    {
+        give_all_back(&self.queue, &mut self.party)
+    }
+}

@@ -1,0 +1,7 @@
+//! Inboxes for C, each behind a handle.
+#![tactic(auto)]
+
+pub mod answers;
+pub mod inbox;
+pub mod inbox_calls;
+pub mod inbox_handle;

@@ -1,0 +1,4 @@
+mod Arranging
+mod Due
+mod TimersHandles
+mod TimersSent

@@ -1,0 +1,5 @@
+//! Timers for C, behind a handle.
+#![tactic(auto)]
+
+pub mod timers;
+pub mod timers_handle;
