@@ -1,4 +1,5 @@
-//! What the collections for C share: a box as a pointer, and what a handle owns.
+//! What the collections for C share: a box as a pointer, what a handle owns, and tickets.
 #![tactic(auto)]
 
 pub mod raw;
+pub mod tickets;

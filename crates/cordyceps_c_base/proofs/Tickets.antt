@@ -1,0 +1,146 @@
+-- Tickets that lead to the elements of a collection still do after its calls.
+use Rattle.std.proofs.Common.{◌≡◌, ◌≢◌, ℕ, ◌+◌, ◌<◌, ◌≤◌, [], Option, Some, None, refl, sym, ap, ◌∙◌, subst, ◌⊎◌, inl, inr, arith, IsPermutation}
+use Rattle.std.proofs.lemmas.List.Sorted.{IsPermutation-sym}
+use Rattle.std.proofs.lemmas.Bool.Decides.{eqb_tells}
+use Rattle.std.proofs.lemmas.Option.{none-some}
+use Rattle.std.specs.Option.{unwrap_or}
+use Rattle.slab.specs.Slab.{get, Updates}
+use denote.RawPtr.{Ptr}
+use Rattle.cordyceps.specs.Elements.Element.{Element}
+use Rattle.cordyceps.specs.Elements.Nodes.{Nodes, spots}
+use Rattle.cordyceps.specs.Spots.Agreeing.{HasElementAt}
+use Rattle.cordyceps.specs.Spots.BySpot.{HasSpot, IsTaken}
+use Rattle.cordyceps.specs.Spots.Spots.{AreDistinct}
+use Rattle.cordyceps.proofs.Spots.Holding.{left_is_at, spot_is_at, taken_gone, taken_is_at, taken_or_left}
+use Rattle.cordyceps.proofs.Spots.Valid.{permuted_is_at}
+use Rattle.cordyceps_c_base.specs.declared.tickets.Entry.{Entry}
+use Rattle.cordyceps_c_base.specs.declared.tickets.Ticket.{Ticket}
+use Rattle.cordyceps_c_base.specs.declared.tickets.Tickets.{Tickets}
+use Rattle.cordyceps_c_base.specs.Tickets.{Bears, Fit, IsNext, Leads, NoneBears}
+
+entry : {n m : Entry} → Some n ≡ Some m → n ≡ m
+entry {n} is = ap (λ (o : Option Entry). unwrap_or o n) is
+
+module _ {X : Type 0} (slot : X → ℕ) where
+  -- ---- what a ticket leads to
+  pub leads_to : (s : Tickets) (c : Nodes X) (k : Ticket) (p : Ptr) → Fit slot s c → Leads s k p
+      → (e : Element X) × HasElementAt c p e × Bears slot s.collection k e
+  leads_to s c k p fit (of, at) =
+      let (e, lies, slot_is, number, given) = fit.there k.slot (record { number = k.number; spot = p }) at in
+      (e, lies, record { of = of; slot_is = slot_is; number = number; given = given })
+
+  pub none_bears : (s : Tickets) (c : Nodes X) (k : Ticket) → Fit slot s c → ((p : Ptr) → Leads s k p → ⊥) → NoneBears slot s.collection k c
+  none_bears s c k fit none p e lies b =
+      let found = fit.found p e lies (subst (λ n. 0 < n) (sym b.number) b.given) in
+      none p (b.of, ap (get s.slots) (sym b.slot_is) ∙ found ∙ (λ i. Some (record { number = b.number i; spot = p })))
+
+  -- ---- elements that come in, go out, and are changed or moved
+  pub permuted_fits : (s : Tickets) (c d : Nodes X) → IsPermutation c d → Fit slot s c → Fit slot s d
+  permuted_fits s c d same fit = record {
+    found = λ p e lies. fit.found p e (permuted_is_at d c p e (IsPermutation-sym c d same) lies);
+    there = λ k n at. let (e, lies, is) = fit.there k n at in (e, permuted_is_at c d n.spot e same lies, is);
+    given = fit.given;
+  }
+
+  -- one with the next ticket was put in
+  pub put_fits : (s t : Tickets) (c d : Nodes X) (p : Ptr) (e : Element X) (k : Ticket) → Fit slot s c → IsNext s k → IsTaken d p e c
+      → slot e.value ≡ k.slot → e.id ≡ k.number → t.given ≡ k.number
+      → Updates s.slots t.slots k.slot (Some (record { number = k.number; spot = p })) → Fit slot t d
+  put_fits s t c d p e k fit next taken slot_is number given up = record {
+    found = λ q o lies pos. elim (taken_or_left d c p q e o taken lies) as (λ _. get t.slots (slot o.value) ≡ Some (record { number = o.id; spot = q })) [
+      | inl (at, is) ↦
+        ap (λ (x : Element X). get t.slots (slot x.value)) is ∙ ap (get t.slots) slot_is ∙ up.changed
+        ∙ (λ i. Some (record { number = sym (ap (λ (x : Element X). x.id) is ∙ number) i; spot = sym at i }))
+      | inr on ↦
+        let was = fit.found q o on pos in
+        up.others (slot o.value) (λ same. none-some _ (sym next.vacant ∙ ap (get s.slots) (sym same) ∙ was)) ∙ was
+    ];
+    there = λ m n at. elim (eqb_tells m k.slot) as (λ _. (o : Element X) × HasElementAt d n.spot o × (slot o.value ≡ m) × (o.id ≡ n.number) × (0 < n.number)) [
+      | inl (_, same) ↦
+        let is = entry (sym up.changed ∙ ap (get t.slots) (sym same) ∙ at) in
+        let num : k.number ≡ n.number = ap (λ (x : Entry). x.number) is in let one = next.number in
+        (e, subst (λ r. HasElementAt d r e) (ap (λ (x : Entry). x.spot) is) (taken_is_at d c p e taken), slot_is ∙ sym same, number ∙ num, omega (arith, num, one))
+      | inr (_, other) ↦
+        let (o, lies, is) = fit.there m n (sym (up.others m other) ∙ at) in (o, left_is_at d c p n.spot e o taken lies, is)
+    ];
+    given = λ m n at. elim (eqb_tells m k.slot) as (λ _. n.number ≤ t.given) [
+      | inl (_, same) ↦ let num = ap (λ (x : Entry). x.number) (entry (sym up.changed ∙ ap (get t.slots) (sym same) ∙ at)) in omega (arith, num, given)
+      | inr (_, other) ↦ let was = fit.given m n (sym (up.others m other) ∙ at) in let one = next.number in omega (arith, was, one, given)
+    ];
+  }
+
+  -- one was taken out, and its ticket was ended
+  pub taken_fits : (s t : Tickets) (c d : Nodes X) (p : Ptr) (e : Element X) → Fit slot s c → AreDistinct (spots c) → IsTaken c p e d → 0 < e.id
+      → t.given ≡ s.given → Updates s.slots t.slots (slot e.value) None → Fit slot t d
+  taken_fits s t c d p e fit distinct taken given_one given up = record {
+    found = λ q o lies pos.
+      let was = fit.found q o (left_is_at c d p q e o taken lies) pos in
+      elim (eqb_tells (slot o.value) (slot e.value)) as (λ _. get t.slots (slot o.value) ≡ Some (record { number = o.id; spot = q })) [
+        | inl (_, same) ↦
+          let is = entry (sym (fit.found p e (taken_is_at c d p e taken) given_one) ∙ ap (get s.slots) (sym same) ∙ was) in
+          absurd (taken_gone c d p e distinct taken (subst (HasSpot d) (sym (ap (λ (x : Entry). x.spot) is)) (spot_is_at d q o lies)))
+        | inr (_, other) ↦ up.others (slot o.value) other ∙ was
+      ];
+    there = λ m n at. elim (eqb_tells m (slot e.value)) as (λ _. (o : Element X) × HasElementAt d n.spot o × (slot o.value ≡ m) × (o.id ≡ n.number) × (0 < n.number)) [
+      | inl (_, same) ↦ absurd (none-some n (sym up.changed ∙ ap (get t.slots) (sym same) ∙ at))
+      | inr (_, other) ↦
+        let (o, lies, slot_is, is) = fit.there m n (sym (up.others m other) ∙ at) in
+        elim (taken_or_left c d p n.spot e o taken lies) as (λ _. (x : Element X) × HasElementAt d n.spot x × (slot x.value ≡ m) × (x.id ≡ n.number) × (0 < n.number)) [
+          | inl (_, one) ↦ absurd (other (sym slot_is ∙ ap (λ (x : Element X). slot x.value) one))
+          | inr on ↦ (o, on, slot_is, is)
+        ]
+    ];
+    given = λ m n at. elim (eqb_tells m (slot e.value)) as (λ _. n.number ≤ t.given) [
+      | inl (_, same) ↦ absurd (none-some n (sym up.changed ∙ ap (get t.slots) (sym same) ∙ at))
+      | inr (_, other) ↦ let was = fit.given m n (sym (up.others m other) ∙ at) in omega (arith, was, given)
+    ];
+  }
+
+  -- one without a ticket was put in, or taken out
+  pub put_without : (s : Tickets) (c d : Nodes X) (p : Ptr) (e : Element X) → Fit slot s c → IsTaken d p e c → e.id ≡ 0 → Fit slot s d
+  put_without s c d p e fit taken none = record {
+    found = λ q o lies pos. elim (taken_or_left d c p q e o taken lies) as (λ _. get s.slots (slot o.value) ≡ Some (record { number = o.id; spot = q })) [
+      | inl (_, is) ↦ let no = ap (λ (x : Element X). x.id) is in absurd (omega (arith, no, none, pos))
+      | inr on ↦ fit.found q o on pos
+    ];
+    there = λ m n at. let (o, lies, is) = fit.there m n at in (o, left_is_at d c p n.spot e o taken lies, is);
+    given = fit.given;
+  }
+
+  pub taken_without : (s : Tickets) (c d : Nodes X) (p : Ptr) (e : Element X) → Fit slot s c → IsTaken c p e d → e.id ≡ 0 → Fit slot s d
+  taken_without s c d p e fit taken none = record {
+    found = λ q o lies pos. fit.found q o (left_is_at c d p q e o taken lies) pos;
+    there = λ m n at.
+      let (o, lies, slot_is, number, pos) = fit.there m n at in
+      elim (taken_or_left c d p n.spot e o taken lies) as (λ _. (x : Element X) × HasElementAt d n.spot x × (slot x.value ≡ m) × (x.id ≡ n.number) × (0 < n.number)) [
+        | inl (_, is) ↦ let no = ap (λ (x : Element X). x.id) is in absurd (omega (arith, no, none, number, pos))
+        | inr on ↦ (o, on, slot_is, number, pos)
+      ];
+    given = fit.given;
+  }
+
+  -- one was changed or moved, and kept its ticket
+  pub changed_fits : (s : Tickets) (c d rest : Nodes X) (p : Ptr) (e w : Element X) → Fit slot s c → IsTaken c p e rest → IsTaken d p w rest
+      → w.id ≡ e.id → slot w.value ≡ slot e.value → Fit slot s d
+  changed_fits s c d rest p e w fit was is id_is slot_is = record {
+    found = λ q o lies pos. elim (taken_or_left d rest p q w o is lies) as (λ _. get s.slots (slot o.value) ≡ Some (record { number = o.id; spot = q })) [
+      | inl (at, one) ↦
+        let same : o.id ≡ e.id = ap (λ (x : Element X). x.id) one ∙ id_is in
+        ap (λ (x : Element X). get s.slots (slot x.value)) one ∙ ap (get s.slots) slot_is ∙ fit.found p e (taken_is_at c rest p e was) (subst (λ n. 0 < n) same pos)
+        ∙ (λ i. Some (record { number = sym same i; spot = sym at i }))
+      | inr on ↦ fit.found q o (left_is_at c rest p q e o was on) pos
+    ];
+    there = λ m n at.
+      let (o, lies, at_slot, number, pos) = fit.there m n at in
+      elim (taken_or_left c rest p n.spot e o was lies) as (λ _. (x : Element X) × HasElementAt d n.spot x × (slot x.value ≡ m) × (x.id ≡ n.number) × (0 < n.number)) [
+        | inl (there, one) ↦ (
+          w,
+          subst (λ r. HasElementAt d r w) (sym there) (taken_is_at d rest p w is),
+          slot_is ∙ sym (ap (λ (x : Element X). slot x.value) one) ∙ at_slot,
+          id_is ∙ sym (ap (λ (x : Element X). x.id) one) ∙ number,
+          pos,
+        )
+        | inr on ↦ (o, left_is_at d rest p n.spot w o is on, at_slot, number, pos)
+      ];
+    given = fit.given;
+  }

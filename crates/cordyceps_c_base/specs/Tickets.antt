@@ -1,0 +1,44 @@
+-- What tickets lead to, and which elements have them.
+use Rattle.std.specs.Prelude.{◌≡◌, ℕ, ◌+◌, ◌<◌, ◌≤◌, Some, None}
+use Rattle.slab.specs.Slab.{get, HasRoomFor}
+use denote.RawPtr.{Ptr}
+use Rattle.cordyceps.specs.Elements.Element.{Element}
+use Rattle.cordyceps.specs.Elements.Nodes.{Nodes}
+use Rattle.cordyceps.specs.Spots.Agreeing.{HasElementAt}
+use Rattle.cordyceps_c_base.specs.declared.tickets.Entry.{Entry}
+use Rattle.cordyceps_c_base.specs.declared.tickets.Ticket.{Ticket}
+use Rattle.cordyceps_c_base.specs.declared.tickets.Tickets.{Tickets}
+
+-- the ticket is valid, and its element is at p
+abbrev pub Leads : Tickets → Ticket → Ptr → Type 0
+Leads s k p =
+    (k.collection ≡ s.collection) × (get s.slots k.slot ≡ Some (record { number = k.number; spot = p }))
+
+-- the ticket is the next one that is given, and there is room for it
+pub record IsNext (s : Tickets) (k : Ticket) : Type 0 where
+  pub collection : k.collection ≡ s.collection
+  pub slot : k.slot ≡ s.slots.vacant_key
+  pub vacant : get s.slots k.slot ≡ None
+  pub number : k.number ≡ s.given + 1
+  pub fits : HasRoomFor s.slots 1
+
+-- An element's number is that of its ticket, or 0 if it has none. A function of its value says in which slot it is.
+module _ {X : Type 0} (slot : X → ℕ) where
+  -- the element has the ticket, in a collection of this number
+  pub record Bears (collection : ℕ) (k : Ticket) (e : Element X) : Type 0 where
+    pub of : k.collection ≡ collection
+    pub slot_is : slot e.value ≡ k.slot
+    pub number : e.id ≡ k.number
+    pub given : 0 < k.number
+
+  -- no element has it
+  abbrev pub NoneBears : (collection : ℕ) → Ticket → Nodes X → Type 0
+  NoneBears collection k c = (p : Ptr) (e : Element X) → HasElementAt c p e → Bears collection k e → ⊥
+
+  -- the valid tickets lead to the elements that have one
+  pub record Fit (s : Tickets) (c : Nodes X) : Type 0 where
+    pub found : (p : Ptr) (e : Element X) → HasElementAt c p e → 0 < e.id
+        → get s.slots (slot e.value) ≡ Some (record { number = e.id; spot = p })
+    pub there : (k : ℕ) (n : Entry) → get s.slots k ≡ Some n
+        → (e : Element X) × HasElementAt c n.spot e × (slot e.value ≡ k) × (e.id ≡ n.number) × (0 < n.number)
+    pub given : (k : ℕ) (n : Entry) → get s.slots k ≡ Some n → n.number ≤ s.given
