@@ -9,7 +9,7 @@ use Rattle.cordyceps_base.specs.Element.{Element}
 use Rattle.cordyceps_base.specs.Nodes.{Nodes}
 use Rattle.cordyceps_stable.specs.Agreeing.{HasElementAt, IsUpdated}
 use Rattle.cordyceps_stable.proofs.Holding.{spot_is_at, taken_or_left, left_is_at, front_is_at}
-use Rattle.cordyceps_heap.proofs.Kept.{permuted_is_at}
+use Rattle.cordyceps_stable.proofs.Valid.{permuted_is_at}
 use Rattle.test_stable_lists.specs.Finding.{Finds}
 
 some_none : (p : Ptr) → None ≡ Some p → ⊥
