@@ -1,4 +1,4 @@
 pub mod Answering
+pub mod Fitting
 pub mod Held
-pub mod Tickets
 pub mod Values

@@ -22,6 +22,10 @@ pub record IsNext (s : Tickets) (k : Ticket) : Type 0 where
   pub number : k.number ≡ s.given + 1
   pub fits : HasRoomFor s.slots 1
 
+-- the ticket is a new one of a collection of this number, which had given so many
+abbrev pub IsGiven : (collection given : ℕ) → Ticket → Type 0
+IsGiven collection given k = (k.collection ≡ collection) × (k.number ≡ given + 1)
+
 -- An element's number is that of its ticket, or 0 if it has none. A function of its value says in which slot it is.
 module _ {X : Type 0} (slot : X → ℕ) where
   -- the element has the ticket, in a collection of this number
@@ -35,10 +39,17 @@ module _ {X : Type 0} (slot : X → ℕ) where
   abbrev pub NoneBears : (collection : ℕ) → Ticket → Nodes X → Type 0
   NoneBears collection k c = (p : Ptr) (e : Element X) → HasElementAt c p e → Bears collection k e → ⊥
 
+  -- the slot k, which has the entry n, is that of an element of c
+  pub record Reaches (c : Nodes X) (k : ℕ) (n : Entry) : Type 0 where
+    pub element : Element X
+    pub lies : HasElementAt c n.spot element
+    pub slot_is : slot element.value ≡ k
+    pub number : element.id ≡ n.number
+    pub given : 0 < n.number
+
   -- the valid tickets lead to the elements that have one
   pub record Fit (s : Tickets) (c : Nodes X) : Type 0 where
     pub found : (p : Ptr) (e : Element X) → HasElementAt c p e → 0 < e.id
         → get s.slots (slot e.value) ≡ Some (record { number = e.id; spot = p })
-    pub there : (k : ℕ) (n : Entry) → get s.slots k ≡ Some n
-        → (e : Element X) × HasElementAt c n.spot e × (slot e.value ≡ k) × (e.id ≡ n.number) × (0 < n.number)
+    pub there : (k : ℕ) (n : Entry) → get s.slots k ≡ Some n → Reaches c k n
     pub given : (k : ℕ) (n : Entry) → get s.slots k ≡ Some n → n.number ≤ s.given

@@ -16,7 +16,7 @@ use Rattle.cordyceps.proofs.Spots.Valid.{permuted_is_at}
 use Rattle.cordyceps_c_base.specs.declared.tickets.Entry.{Entry}
 use Rattle.cordyceps_c_base.specs.declared.tickets.Ticket.{Ticket}
 use Rattle.cordyceps_c_base.specs.declared.tickets.Tickets.{Tickets}
-use Rattle.cordyceps_c_base.specs.Tickets.{Bears, Fit, IsNext, Leads, NoneBears}
+use Rattle.cordyceps_c_base.specs.Tickets.{Bears, Fit, IsNext, Leads, NoneBears, Reaches}
 
 entry : {n m : Entry} → Some n ≡ Some m → n ≡ m
 entry {n} is = ap (λ (o : Option Entry). unwrap_or o n) is
@@ -26,19 +26,23 @@ module _ {X : Type 0} (slot : X → ℕ) where
   pub leads_to : (s : Tickets) (c : Nodes X) (k : Ticket) (p : Ptr) → Fit slot s c → Leads s k p
       → (e : Element X) × HasElementAt c p e × Bears slot s.collection k e
   leads_to s c k p fit (of, at) =
-      let (e, lies, slot_is, number, given) = fit.there k.slot (record { number = k.number; spot = p }) at in
-      (e, lies, record { of = of; slot_is = slot_is; number = number; given = given })
+      let r = fit.there k.slot (record { number = k.number; spot = p }) at in
+      (r.element, r.lies, record { of = of; slot_is = r.slot_is; number = r.number; given = r.given })
 
   pub none_bears : (s : Tickets) (c : Nodes X) (k : Ticket) → Fit slot s c → ((p : Ptr) → Leads s k p → ⊥) → NoneBears slot s.collection k c
   none_bears s c k fit none p e lies b =
       let found = fit.found p e lies (subst (λ n. 0 < n) (sym b.number) b.given) in
       none p (b.of, ap (get s.slots) (sym b.slot_is) ∙ found ∙ (λ i. Some (record { number = b.number i; spot = p })))
 
+  -- the same element is there afterwards
+  still : (c d : Nodes X) (k : ℕ) (n : Entry) (r : Reaches slot c k n) → HasElementAt d n.spot r.element → Reaches slot d k n
+  still c d k n r lies = record { element = r.element; lies = lies; slot_is = r.slot_is; number = r.number; given = r.given }
+
   -- ---- elements that come in, go out, and are changed or moved
   pub permuted_fits : (s : Tickets) (c d : Nodes X) → IsPermutation c d → Fit slot s c → Fit slot s d
   permuted_fits s c d same fit = record {
     found = λ p e lies. fit.found p e (permuted_is_at d c p e (IsPermutation-sym c d same) lies);
-    there = λ k n at. let (e, lies, is) = fit.there k n at in (e, permuted_is_at c d n.spot e same lies, is);
+    there = λ k n at. let r = fit.there k n at in still c d k n r (permuted_is_at c d n.spot r.element same r.lies);
     given = fit.given;
   }
 
@@ -55,13 +59,19 @@ module _ {X : Type 0} (slot : X → ℕ) where
         let was = fit.found q o on pos in
         up.others (slot o.value) (λ same. none-some _ (sym next.vacant ∙ ap (get s.slots) (sym same) ∙ was)) ∙ was
     ];
-    there = λ m n at. elim (eqb_tells m k.slot) as (λ _. (o : Element X) × HasElementAt d n.spot o × (slot o.value ≡ m) × (o.id ≡ n.number) × (0 < n.number)) [
+    there = λ m n at. elim (eqb_tells m k.slot) as (λ _. Reaches slot d m n) [
       | inl (_, same) ↦
         let is = entry (sym up.changed ∙ ap (get t.slots) (sym same) ∙ at) in
         let num : k.number ≡ n.number = ap (λ (x : Entry). x.number) is in let one = next.number in
-        (e, subst (λ r. HasElementAt d r e) (ap (λ (x : Entry). x.spot) is) (taken_is_at d c p e taken), slot_is ∙ sym same, number ∙ num, omega (arith, num, one))
+        record {
+          element = e;
+          lies = subst (λ r. HasElementAt d r e) (ap (λ (x : Entry). x.spot) is) (taken_is_at d c p e taken);
+          slot_is = slot_is ∙ sym same;
+          number = number ∙ num;
+          given = omega (arith, num, one);
+        }
       | inr (_, other) ↦
-        let (o, lies, is) = fit.there m n (sym (up.others m other) ∙ at) in (o, left_is_at d c p n.spot e o taken lies, is)
+        let r = fit.there m n (sym (up.others m other) ∙ at) in still c d m n r (left_is_at d c p n.spot e r.element taken r.lies)
     ];
     given = λ m n at. elim (eqb_tells m k.slot) as (λ _. n.number ≤ t.given) [
       | inl (_, same) ↦ let num = ap (λ (x : Entry). x.number) (entry (sym up.changed ∙ ap (get t.slots) (sym same) ∙ at)) in omega (arith, num, given)
@@ -81,13 +91,13 @@ module _ {X : Type 0} (slot : X → ℕ) where
           absurd (taken_gone c d p e distinct taken (subst (HasSpot d) (sym (ap (λ (x : Entry). x.spot) is)) (spot_is_at d q o lies)))
         | inr (_, other) ↦ up.others (slot o.value) other ∙ was
       ];
-    there = λ m n at. elim (eqb_tells m (slot e.value)) as (λ _. (o : Element X) × HasElementAt d n.spot o × (slot o.value ≡ m) × (o.id ≡ n.number) × (0 < n.number)) [
+    there = λ m n at. elim (eqb_tells m (slot e.value)) as (λ _. Reaches slot d m n) [
       | inl (_, same) ↦ absurd (none-some n (sym up.changed ∙ ap (get t.slots) (sym same) ∙ at))
       | inr (_, other) ↦
-        let (o, lies, slot_is, is) = fit.there m n (sym (up.others m other) ∙ at) in
-        elim (taken_or_left c d p n.spot e o taken lies) as (λ _. (x : Element X) × HasElementAt d n.spot x × (slot x.value ≡ m) × (x.id ≡ n.number) × (0 < n.number)) [
-          | inl (_, one) ↦ absurd (other (sym slot_is ∙ ap (λ (x : Element X). slot x.value) one))
-          | inr on ↦ (o, on, slot_is, is)
+        let r = fit.there m n (sym (up.others m other) ∙ at) in
+        elim (taken_or_left c d p n.spot e r.element taken r.lies) as (λ _. Reaches slot d m n) [
+          | inl (_, one) ↦ absurd (other (sym r.slot_is ∙ ap (λ (x : Element X). slot x.value) one))
+          | inr on ↦ still c d m n r on
         ]
     ];
     given = λ m n at. elim (eqb_tells m (slot e.value)) as (λ _. n.number ≤ t.given) [
@@ -103,7 +113,7 @@ module _ {X : Type 0} (slot : X → ℕ) where
       | inl (_, is) ↦ let no = ap (λ (x : Element X). x.id) is in absurd (omega (arith, no, none, pos))
       | inr on ↦ fit.found q o on pos
     ];
-    there = λ m n at. let (o, lies, is) = fit.there m n at in (o, left_is_at d c p n.spot e o taken lies, is);
+    there = λ m n at. let r = fit.there m n at in still c d m n r (left_is_at d c p n.spot e r.element taken r.lies);
     given = fit.given;
   }
 
@@ -111,10 +121,10 @@ module _ {X : Type 0} (slot : X → ℕ) where
   taken_without s c d p e fit taken none = record {
     found = λ q o lies pos. fit.found q o (left_is_at c d p q e o taken lies) pos;
     there = λ m n at.
-      let (o, lies, slot_is, number, pos) = fit.there m n at in
-      elim (taken_or_left c d p n.spot e o taken lies) as (λ _. (x : Element X) × HasElementAt d n.spot x × (slot x.value ≡ m) × (x.id ≡ n.number) × (0 < n.number)) [
+      let r = fit.there m n at in let number = r.number in let pos = r.given in
+      elim (taken_or_left c d p n.spot e r.element taken r.lies) as (λ _. Reaches slot d m n) [
         | inl (_, is) ↦ let no = ap (λ (x : Element X). x.id) is in absurd (omega (arith, no, none, number, pos))
-        | inr on ↦ (o, on, slot_is, number, pos)
+        | inr on ↦ still c d m n r on
       ];
     given = fit.given;
   }
@@ -131,16 +141,16 @@ module _ {X : Type 0} (slot : X → ℕ) where
       | inr on ↦ fit.found q o (left_is_at c rest p q e o was on) pos
     ];
     there = λ m n at.
-      let (o, lies, at_slot, number, pos) = fit.there m n at in
-      elim (taken_or_left c rest p n.spot e o was lies) as (λ _. (x : Element X) × HasElementAt d n.spot x × (slot x.value ≡ m) × (x.id ≡ n.number) × (0 < n.number)) [
-        | inl (there, one) ↦ (
-          w,
-          subst (λ r. HasElementAt d r w) (sym there) (taken_is_at d rest p w is),
-          slot_is ∙ sym (ap (λ (x : Element X). slot x.value) one) ∙ at_slot,
-          id_is ∙ sym (ap (λ (x : Element X). x.id) one) ∙ number,
-          pos,
-        )
-        | inr on ↦ (o, left_is_at d rest p n.spot w o is on, at_slot, number, pos)
+      let r = fit.there m n at in
+      elim (taken_or_left c rest p n.spot e r.element was r.lies) as (λ _. Reaches slot d m n) [
+        | inl (there, one) ↦ record {
+          element = w;
+          lies = subst (λ r. HasElementAt d r w) (sym there) (taken_is_at d rest p w is);
+          slot_is = slot_is ∙ sym (ap (λ (x : Element X). slot x.value) one) ∙ r.slot_is;
+          number = id_is ∙ sym (ap (λ (x : Element X). x.id) one) ∙ r.number;
+          given = r.given;
+        }
+        | inr on ↦ still c d m n r (left_is_at d rest p n.spot w r.element is on)
       ];
     given = fit.given;
   }
