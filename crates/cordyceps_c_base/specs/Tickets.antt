@@ -1,6 +1,6 @@
 -- What tickets lead to, and which elements have them.
 use Rattle.std.specs.Prelude.{◌≡◌, ℕ, ◌+◌, ◌<◌, ◌≤◌, Some, None}
-use Rattle.slab.specs.Slab.{get, HasRoomFor}
+use Rattle.slab.specs.Slab.{get, HasRoomFor, SameValues, Updates}
 use denote.RawPtr.{Ptr}
 use Rattle.cordyceps.specs.Elements.Element.{Element}
 use Rattle.cordyceps.specs.Elements.Nodes.{Nodes}
@@ -21,6 +21,13 @@ pub record IsNext (s : Tickets) (k : Ticket) : Type 0 where
   pub vacant : get s.slots k.slot ≡ None
   pub number : k.number ≡ s.given + 1
   pub fits : HasRoomFor s.slots 1
+
+-- the ticket of a slot was ended, if its number is not 0
+pub record IsEnded (number slot : ℕ) (s t : Tickets) : Type 0 where
+  pub collection : t.collection ≡ s.collection
+  pub given : t.given ≡ s.given
+  pub gone : 0 < number → Updates s.slots t.slots slot None
+  pub kept : number ≡ 0 → SameValues s.slots t.slots
 
 -- the ticket is a new one of a collection of this number, which had given so many
 abbrev pub IsGiven : (collection given : ℕ) → Ticket → Type 0

@@ -1,7 +1,7 @@
 //! Tickets, by which C names the elements of a collection.
-ghost use Rattle.std.specs.Prelude.{◌≡◌, ◌+◌, ◌<◌, [], IfSome, MatchOption, None, Some};
-ghost use Rattle.slab.specs.Slab.{get, HasRoomFor, SameValues, Updates};
-ghost use Rattle.cordyceps_c_base.specs.Tickets.{IsNext, Leads};
+ghost use Rattle.std.specs.Prelude.{◌≡◌, [], IfSome, MatchOption, Some};
+ghost use Rattle.slab.specs.Slab.{SameValues, Updates};
+ghost use Rattle.cordyceps_c_base.specs.Tickets.{IsEnded, IsNext, Leads};
 
 use cordyceps::Spot;
 use slab::Slab;
@@ -92,12 +92,12 @@ impl Tickets {
         Some(entry.spot)
     }
 
-    /// Ends the ticket of a slot.
-    pub fn end(&mut self, slot: u32)
-        ensures collection { self.new.collection ≡ self.old.collection }
-        ensures given { self.new.given ≡ self.old.given }
-        ensures gone { Updates self.old.slots self.new.slots slot None }
+    /// Ends the ticket of an element that came out, if it has one. Its number is 0 if it has none.
+    pub fn end(&mut self, number: u64, slot: u32)
+        ensures { IsEnded number slot self.old self.new }
     {
-        self.slots.try_remove(slot as usize);
+        if number > 0 {
+            self.slots.try_remove(slot as usize);
+        }
     }
 }
