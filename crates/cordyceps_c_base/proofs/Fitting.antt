@@ -1,5 +1,5 @@
 -- Tickets that lead to the elements of a collection still do after its calls.
-use Rattle.std.proofs.Common.{◌≡◌, ◌≢◌, ℕ, ◌+◌, ◌<◌, ◌≤◌, [], Option, Some, None, refl, sym, ap, ◌∙◌, subst, ◌⊎◌, inl, inr, arith, IsPermutation}
+use Rattle.std.proofs.Common.{◌≡◌, ◌≢◌, ℕ, ◌+◌, ◌<◌, ◌≤◌, [], ◌∷◌, Option, Some, None, refl, sym, ap, ◌∙◌, subst, ◌⊎◌, inl, inr, arith, IsPermutation}
 use Rattle.std.proofs.lemmas.List.Sorted.{IsPermutation-sym}
 use Rattle.std.proofs.lemmas.Bool.Decides.{eqb_tells}
 use Rattle.std.proofs.lemmas.Option.{none-some}
@@ -11,6 +11,7 @@ use Rattle.cordyceps.specs.Elements.Nodes.{Nodes, spots}
 use Rattle.cordyceps.specs.Spots.Agreeing.{HasElementAt}
 use Rattle.cordyceps.specs.Spots.BySpot.{HasSpot, IsTaken}
 use Rattle.cordyceps.specs.Spots.Spots.{AreDistinct}
+use Rattle.cordyceps.proofs.Spots.Apart.{permuted_distinct}
 use Rattle.cordyceps.proofs.Spots.Holding.{left_is_at, spot_is_at, taken_gone, taken_is_at, taken_or_left}
 use Rattle.cordyceps.proofs.Spots.Valid.{permuted_is_at}
 use Rattle.cordyceps_c_base.specs.declared.tickets.Entry.{Entry}
@@ -33,6 +34,19 @@ module _ {X : Type 0} (slot : X → ℕ) where
   none_bears s c k fit none p e lies b =
       let found = fit.found p e lies (subst (λ n. 0 < n) (sym b.number) b.given) in
       none p (b.of, ap (get s.slots) (sym b.slot_is) ∙ found ∙ (λ i. Some (record { number = b.number i; spot = p })))
+
+  -- the element that is taken out by a ticket has it
+  pub bears_at : (s : Tickets) (c d : Nodes X) (k : Ticket) (p : Ptr) (e : Element X) → Fit slot s c → AreDistinct (spots c) → IsTaken c p e d → Leads s k p
+      → Bears slot s.collection k e
+  bears_at s c d k p e fit distinct taken leads =
+      let (o, lies, b) = leads_to s c k p fit leads in
+      elim (taken_or_left c d p p e o taken lies) as (λ _. Bears slot s.collection k e) [
+        | inl (_, is) ↦ subst (Bears slot s.collection k) is b
+        | inr on ↦ absurd (taken_gone c d p e distinct taken (spot_is_at d p o on))
+      ]
+
+  pub there_is : (s : Tickets) (c : Nodes X) (k : Ticket) (p : Ptr) → Fit slot s c → Leads s k p → HasSpot c p
+  there_is s c k p fit leads = let (e, lies, _) = leads_to s c k p fit leads in spot_is_at c p e lies
 
   -- the same element is there afterwards
   still : (c d : Nodes X) (k : ℕ) (n : Entry) (r : Reaches slot c k n) → HasElementAt d n.spot r.element → Reaches slot d k n
@@ -170,3 +184,10 @@ module _ {X : Type 0} (slot : X → ℕ) where
     | inl (_, none) ↦ same_fits s t d (taken_without s c d p e fit taken none) ended.given (ended.kept none)
     | inr (_, some) ↦ let one : 0 < e.id = omega (arith, some) in taken_fits s t c d p e fit distinct taken one ended.given (ended.gone one)
   ]
+
+  -- the first was taken out
+  pub popped_fits : (s t : Tickets) (c d : Nodes X) (p : Ptr) (e : Element X) → Fit slot s c → AreDistinct (spots c) → IsPermutation c ((p, e) ∷ d)
+      → IsEnded e.id (slot e.value) s t → Fit slot t d
+  popped_fits s t c d p e fit distinct same ended =
+      let all : Nodes X = (p, e) ∷ d in
+      ended_fits s t all d p e (permuted_fits s c all same fit) (permuted_distinct c all same distinct) ([], d, refl, refl) ended

@@ -1,4 +1,5 @@
 mod Arranging
-mod Due
+mod Placing
 mod TimersHandles
+mod TimersSaid
 mod TimersSent

@@ -1,4 +1,4 @@
--- Timers in the order of their times, and where one more comes among them.
+-- Nodes in the order of a number, and where one more comes among them.
 use Rattle.std.proofs.Common.{◌≡◌, ℕ, ◌≤◌, ◌<◌, Bool, true, false, cond, nat_lt, [], ◌∷◌, ◌++◌, refl, ap, sym, ◌∙◌, subst, arith}
 use Rattle.std.proofs.lemmas.Bool.{lt-ltb, ltb-true}
 use Rattle.std.specs.declared.cmp.Ordering.{Ordering}
@@ -14,86 +14,85 @@ use Rattle.cordyceps.proofs.Orders.Keys.{lt_is, not_less, at_most}
 use Rattle.cordyceps.proofs.Orders.Preorder.{by_test, ranks}
 use Rattle.cordyceps.proofs.Spots.Arranged.{arranges_itself, arranges_put}
 use Rattle.cordyceps.proofs.Spots.Classes.{all_weaker}
-use Rattle.cordyceps_c_timers.specs.declared.timers.Timer.{Timer}
-use Rattle.cordyceps_c_timers.specs.Timers.{InOrder, started, time_of}
+use Rattle.cordyceps_c_timers.specs.Arranged.{InOrder, placed}
 
-sooner : (a b : ℕ) → a < b → is_lt (nat_cmp a b) ≡ true
-sooner a b h = lt_is a b ∙ lt-ltb a b h
+less : (a b : ℕ) → a < b → is_lt (nat_cmp a b) ≡ true
+less a b h = lt_is a b ∙ lt-ltb a b h
 
--- the order of timers
-abbrev pub by_time : Timer → Timer → Ordering
-by_time = by_key nat_cmp (λ (t : Timer). t.due)
+module _ {X : Type 0} (number : X → ℕ) where
+  abbrev pub by_number : X → X → Ordering
+  by_number = by_key nat_cmp number
 
-pub lawful : IsPreorder by_time
-lawful = by_number_lawful (λ (t : Timer). t.due)
+  pub lawful : IsPreorder by_number
+  lawful = by_number_lawful number
 
--- ---- in order of times, and by the order
+  -- ---- in the order of the number, and by the order that it makes
 
-ascends : (s : Nodes Timer) → InOrder s → Ascends (precedes by_time) s
-ascends [] h = tt
-ascends (x ∷ s) h = (
-  all_weaker (λ y. time_of x.1 ≤ time_of y.1) (λ y. precedes by_time y x ≡ false) (λ y k. not_less (time_of y.1) (time_of x.1) k) s h.0,
-  ascends s h.1,
-)
+  ascends : (s : Nodes X) → InOrder number s → Ascends (precedes by_number) s
+  ascends [] h = tt
+  ascends (x ∷ s) h = (
+    all_weaker (λ y. number x.1.value ≤ number y.1.value) (λ y. precedes by_number y x ≡ false) (λ y k. not_less (number y.1.value) (number x.1.value) k) s h.0,
+    ascends s h.1,
+  )
 
-in_order : (s : Nodes Timer) → Ascends (precedes by_time) s → InOrder s
-in_order [] h = tt
-in_order (x ∷ s) h = (
-  all_weaker (λ y. precedes by_time y x ≡ false) (λ y. time_of x.1 ≤ time_of y.1) (λ y k. at_most (time_of y.1) (time_of x.1) k) s h.0,
-  in_order s h.1,
-)
+  in_order : (s : Nodes X) → Ascends (precedes by_number) s → InOrder number s
+  in_order [] h = tt
+  in_order (x ∷ s) h = (
+    all_weaker (λ y. precedes by_number y x ≡ false) (λ y. number x.1.value ≤ number y.1.value) (λ y k. at_most (number y.1.value) (number x.1.value) k) s h.0,
+    in_order s h.1,
+  )
 
--- timers in order stand for themselves, and what stands for any is in order
-pub stands : (s : Nodes Timer) → InOrder s → Arranges by_time s s
-stands s h = arranges_itself lawful s (sorted_from_ascends (precedes by_time) s (ascends s h))
+  -- nodes in order stand for themselves, and what stands for any is in order
+  pub stands : (s : Nodes X) → InOrder number s → Arranges by_number s s
+  stands s h = arranges_itself lawful s (sorted_from_ascends (precedes by_number) s (ascends s h))
 
-pub keeps_order : (s a : Nodes Timer) → Arranges by_time s a → InOrder s
-keeps_order s a h = in_order s (ascends_from_sorted (precedes by_time) (ranks lawful (λ n. n.1.value)) s h.in_order)
+  pub keeps_order : (s a : Nodes X) → Arranges by_number s a → InOrder number s
+  keeps_order s a h = in_order s (ascends_from_sorted (precedes by_number) (ranks lawful (λ n. n.1.value)) s h.in_order)
 
--- ---- where one more is put
-low_after : (v : Timer) (x : Ptr × Element Timer) (front : Nodes Timer) → is_lt (by_time v x.1.value) ≡ false → LastNotGreater by_time v front → LastNotGreater by_time v (x ∷ front)
-low_after v x [] f low = f
-low_after v x (y ∷ front) f low = low
+  -- ---- where one more is put
+  low_after : (v : X) (x : Ptr × Element X) (front : Nodes X) → is_lt (by_number v x.1.value) ≡ false → LastNotGreater by_number v front → LastNotGreater by_number v (x ∷ front)
+  low_after v x [] f low = f
+  low_after v x (y ∷ front) f low = low
 
-all_greater : (v : Timer) (x : Ptr × Element Timer) (s : Nodes Timer) → v.due < time_of x.1 → InOrder (x ∷ s) → AllGreater by_time v (x ∷ s)
-all_greater v x s less h = (
-  sooner v.due (time_of x.1) less,
-  all_weaker (λ y. time_of x.1 ≤ time_of y.1) (λ y. is_lt (by_time v y.1.value) ≡ true) (λ y k. sooner v.due (time_of y.1) (omega (arith, less, k))) s h.0,
-)
+  all_greater : (v : X) (x : Ptr × Element X) (s : Nodes X) → number v < number x.1.value → InOrder number (x ∷ s) → AllGreater by_number v (x ∷ s)
+  all_greater v x s below h = (
+    less (number v) (number x.1.value) below,
+    all_weaker (λ y. number x.1.value ≤ number y.1.value) (λ y. is_lt (by_number v y.1.value) ≡ true) (λ y k. less (number v) (number y.1.value) (omega (arith, below, k))) s h.0,
+  )
 
--- what is not later than t, and what is
-pub record Split (q : Ptr) (t : Element Timer) (s : Nodes Timer) : Type 0 where
-  pub front : Nodes Timer
-  pub back : Nodes Timer
-  pub parts : s ≡ front ++ back
-  pub put : started q t s ≡ front ++ (q, t) ∷ back
-  pub low : LastNotGreater by_time t.value front
-  pub high : AllGreater by_time t.value back
+  -- what has no greater number than t, and what has
+  pub record Split (q : Ptr) (t : Element X) (s : Nodes X) : Type 0 where
+    pub front : Nodes X
+    pub back : Nodes X
+    pub parts : s ≡ front ++ back
+    pub put : placed number q t s ≡ front ++ (q, t) ∷ back
+    pub low : LastNotGreater by_number t.value front
+    pub high : AllGreater by_number t.value back
 
-pub split : (q : Ptr) (t : Element Timer) (s : Nodes Timer) → InOrder s → Split q t s
-split q t [] h = record { front = []; back = []; parts = refl; put = refl; low = tt; high = tt }
-split q t (x ∷ s) h =
-    let put : Bool → Nodes Timer = λ b. cond b ((q, t) ∷ x ∷ s) (x ∷ started q t s) in
-    by_test (nat_lt (time_of t) (time_of x.1))
-    (λ y. record {
-      front = [];
-      back = x ∷ s;
-      parts = refl;
-      put = ap put y;
-      low = tt;
-      high = all_greater t.value x s (ltb-true (time_of t) (time_of x.1) y) h;
-    })
-    (λ n. let on = split q t s h.1 in record {
-      front = x ∷ on.front;
-      back = on.back;
-      parts = ap (λ l. x ∷ l) on.parts;
-      put = ap put n ∙ ap (λ l. x ∷ l) on.put;
-      low = low_after t.value x on.front (lt_is (time_of t) (time_of x.1) ∙ n) on.low;
-      high = on.high;
-    })
+  pub split : (q : Ptr) (t : Element X) (s : Nodes X) → InOrder number s → Split q t s
+  split q t [] h = record { front = []; back = []; parts = refl; put = refl; low = tt; high = tt }
+  split q t (x ∷ s) h =
+      let put : Bool → Nodes X = λ b. cond b ((q, t) ∷ x ∷ s) (x ∷ placed number q t s) in
+      by_test (nat_lt (number t.value) (number x.1.value))
+      (λ y. record {
+        front = [];
+        back = x ∷ s;
+        parts = refl;
+        put = ap put y;
+        low = tt;
+        high = all_greater t.value x s (ltb-true (number t.value) (number x.1.value) y) h;
+      })
+      (λ n. let on = split q t s h.1 in record {
+        front = x ∷ on.front;
+        back = on.back;
+        parts = ap (λ l. x ∷ l) on.parts;
+        put = ap put n ∙ ap (λ l. x ∷ l) on.put;
+        low = low_after t.value x on.front (lt_is (number t.value) (number x.1.value) ∙ n) on.low;
+        high = on.high;
+      })
 
--- what stands for some arrivals, with one more started, stands for these and the one
-pub starts : (q : Ptr) (t : Element Timer) (s a : Nodes Timer) → Arranges by_time s a → Arranges by_time (started q t s) (a ++ (q, t) ∷ [])
-starts q t s a h =
-    let on = split q t s (keeps_order s a h) in
-    subst (λ l. Arranges by_time l (a ++ (q, t) ∷ [])) (sym on.put) (arranges_put lawful on.front on.back a (q, t) on.low on.high (subst (λ l. Arranges by_time l a) on.parts h))
+  -- what stands for some arrivals, with one more placed, stands for these and the one
+  pub places : (q : Ptr) (t : Element X) (s a : Nodes X) → Arranges by_number s a → Arranges by_number (placed number q t s) (a ++ (q, t) ∷ [])
+  places q t s a h =
+      let on = split q t s (keeps_order s a h) in
+      subst (λ l. Arranges by_number l (a ++ (q, t) ∷ [])) (sym on.put) (arranges_put lawful on.front on.back a (q, t) on.low on.high (subst (λ l. Arranges by_number l a) on.parts h))

@@ -1,2 +1,4 @@
+pub mod Arranged
+pub mod Queues
 pub mod Rows
 pub mod Timers

@@ -1,57 +1,107 @@
 -- Timers, each with the place of its node: the first to fire first, equals as they were started.
-use Rattle.std.specs.Prelude.{◌≡◌, ℕ, ◌≤◌, ◌<◌, max, [], ◌∷◌, nat_lt, if◌then◌else◌, Bool, MatchBool}
+use Rattle.std.specs.Prelude.{◌≡◌, ◌⊎◌, ℕ, ◌≤◌, ◌<◌, max, [], ◌∷◌, Bool, MatchBool, Option, None, Some, MatchOption}
 use Rattle.std.specs.List.{AllByRecursion}
 use denote.RawPtr.{Ptr}
 use Rattle.cordyceps.specs.Elements.Element.{Element}
 use Rattle.cordyceps.specs.Elements.Nodes.{Nodes}
+use Rattle.cordyceps.specs.Spots.BySpot.{IsTaken}
+use Rattle.cordyceps.specs.Spots.Clock.{rounded}
+use Rattle.cordyceps_c_base.specs.declared.tickets.Ticket.{Ticket}
+use Rattle.cordyceps_c_base.specs.Tickets.{Bears, IsGiven, NoneBears}
+use Rattle.cordyceps_c_timers.specs.Arranged.{placed}
 use Rattle.cordyceps_c_timers.specs.declared.timers.Fired.{Fired}
 use Rattle.cordyceps_c_timers.specs.declared.timers.Timer.{Timer}
 
--- what a contract sees of timers: those that run, in the order in which they fire, and the clock
+-- what a contract sees of timers: those that run, in the order in which they fire; the clock; the number that their
+-- maker chose; and how many tickets were given
 pub record Running : Type 0 where
   pub nodes : Nodes Timer
   pub clock : ℕ
+  pub collection : ℕ
+  pub given : ℕ
 
 -- the time at which a timer fires
-abbrev pub time_of : Element Timer → ℕ
-time_of t = t.value.due
+abbrev pub due_of : Timer → ℕ
+due_of t = t.due
+
+-- where the ticket of a timer is
+abbrev pub slot_of : Timer → ℕ
+slot_of t = t.slot
+
+-- a timer as C sees it
+abbrev pub fired_of : Element Timer → Fired
+fired_of e = record { deadline = e.value.deadline; payload = e.value.payload }
 
 -- a new timer: it fires at its deadline, or at the clock, if the deadline has passed
-abbrev pub new_timer : (clock deadline payload : ℕ) → Element Timer
-new_timer clock d p = record { id = d; value = record { due = max d clock; payload = p } }
+abbrev pub new_timer : (clock deadline payload : ℕ) → Ticket → Element Timer
+new_timer clock d p k =
+    record { id = k.number; value = record { due = max d clock; deadline = d; payload = p; slot = k.slot } }
 
-abbrev pub InOrder : Nodes Timer → Type 0
-InOrder [] = Unit {0}
-InOrder (x ∷ s) = AllByRecursion (λ y. time_of x.1 ≤ time_of y.1) s × InOrder s
-
--- one more, which is at q, after all that do not fire later
-abbrev pub started : Ptr → Element Timer → Nodes Timer → Nodes Timer
-started q t [] = (q, t) ∷ []
-started q t (x ∷ s) = if nat_lt (time_of t) (time_of x.1) then (q, t) ∷ x ∷ s else x ∷ started q t s
-
--- more, one after the other
-abbrev pub started_all : Nodes Timer → Nodes Timer → Nodes Timer
-started_all s [] = s
-started_all s (n ∷ more) = started_all (started n.0 n.1 s) more
-
--- timers in the order in which they fire
-abbrev pub arranged : Nodes Timer → Nodes Timer
-arranged c = started_all [] c
+-- the timer with another deadline
+abbrev pub with_deadline : (clock deadline : ℕ) → Element Timer → Element Timer
+with_deadline clock d e = record {
+  id = e.id;
+  value = record { due = max d clock; deadline = d; payload = e.value.payload; slot = e.value.slot };
+}
 
 -- a timer was started, or all is as it was
-abbrev pub Starts : (deadline payload : ℕ) → Bool → Running → Running → Type 0
-Starts d p is_started t u =
-    MatchBool is_started
-    ((u.clock ≡ t.clock) × ((spot : Ptr) × (u.nodes ≡ started spot (new_timer t.clock d p) t.nodes)))
-    (u ≡ t)
+abbrev pub Starts : (deadline payload : ℕ) → Option Ticket → Running → Running → Type 0
+Starts d p None t u = u ≡ t
+Starts d p (Some k) t u =
+    IsGiven t.collection t.given k
+    × ((spot : Ptr) × (u ≡ record t { nodes = placed due_of spot (new_timer t.clock d p k) t.nodes; given = k.number }))
 
--- this was the first timer, fired at the time `now` or before, and came out; its time is the clock
-abbrev pub Fires : (now : ℕ) → Fired → Running → Running → Type 0
-Fires now f t u =
-    let timer : Element Timer = record { id = f.deadline; value = record { due = u.clock; payload = f.payload } } in
-    (spot : Ptr) × ((t.nodes ≡ (spot, timer) ∷ u.nodes) × (u.clock ≤ now))
+-- the timer that has the ticket was taken out
+pub record IsStopped (k : Ticket) (f : Fired) (t u : Running) : Type 0 where
+  pub spot : Ptr
+  pub timer : Element Timer
+  pub bears : Bears slot_of t.collection k timer
+  pub taken : IsTaken t.nodes spot timer u.nodes
+  pub is : f ≡ fired_of timer
+  pub kept : u ≡ record t { nodes = u.nodes }
+
+-- it was taken out, or no timer has the ticket, and all is as it was
+abbrev pub Stops : Ticket → Option Fired → Running → Running → Type 0
+Stops k None t u = NoneBears slot_of t.collection k t.nodes × (u ≡ t)
+Stops k (Some f) t u = IsStopped k f t u
+
+-- the timer that has the ticket got another deadline, as if it were started now; it keeps its ticket
+pub record IsRestarted (k : Ticket) (d : ℕ) (t u : Running) : Type 0 where
+  pub spot : Ptr
+  pub timer : Element Timer
+  pub others : Nodes Timer
+  pub bears : Bears slot_of t.collection k timer
+  pub taken : IsTaken t.nodes spot timer others
+  pub put : u ≡ record t { nodes = placed due_of spot (with_deadline t.clock d timer) others }
+
+abbrev pub Restarts : Ticket → (deadline : ℕ) → Bool → Running → Running → Type 0
+Restarts k d is_restarted t u =
+    MatchBool is_restarted (IsRestarted k d t u) (NoneBears slot_of t.collection k t.nodes × (u ≡ t))
+
+-- the first timer fired, at the time `now` or before, and came out; its time is the clock
+pub record Fires (now : ℕ) (f : Fired) (t u : Running) : Type 0 where
+  pub spot : Ptr
+  pub timer : Element Timer
+  pub first : t.nodes ≡ (spot, timer) ∷ u.nodes
+  pub is : f ≡ fired_of timer
+  pub due : timer.value.due ≤ now
+  pub kept : u ≡ record t { nodes = u.nodes; clock = timer.value.due }
 
 -- no timer fires at the time `now` or before; all stay, and the clock is not before `now`
 abbrev pub NoneFires : (now : ℕ) → Running → Running → Type 0
 NoneFires now t u =
-    AllByRecursion (λ n. now < time_of n.1) t.nodes × ((u.nodes ≡ t.nodes) × (u.clock ≡ max t.clock now))
+    AllByRecursion (λ n. now < due_of n.1.value) t.nodes × (u ≡ record t { clock = max t.clock now })
+
+-- a time before which no timer fires; it is the clock only if one fires then
+pub record IsBound (time : ℕ) (t : Running) : Type 0 where
+  pub none_before : AllByRecursion (λ n. time ≤ due_of n.1.value) t.nodes
+  pub spot : Ptr
+  pub timer : Element Timer
+  pub others : Nodes Timer
+  pub first : t.nodes ≡ (spot, timer) ∷ others
+  pub near : time ≡ rounded t.clock timer.value.due
+  pub later : (t.clock < time) ⊎ (timer.value.due ≡ time)
+
+-- the bound where a timer runs
+abbrev pub Bounds : Option ℕ → Running → Type 0
+Bounds bound t = MatchOption bound (t.nodes ≡ []) (λ time. IsBound time t)

@@ -1,5 +1,6 @@
-//! Timers for C, behind a handle.
+//! Timers and a priority queue for C, each behind a handle.
 #![tactic(auto)]
 
+pub mod queue;
 pub mod timers;
 pub mod timers_handle;

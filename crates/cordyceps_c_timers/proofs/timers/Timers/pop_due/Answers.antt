@@ -1,30 +1,29 @@
-use Rattle.std.proofs.Common.{◌≡◌, ◌<◌, ◌≤◌, ◌∷◌, max, refl, ap, sym, ◌∙◌, subst}
-use Rattle.std.specs.List.{AllByRecursion}
-use Rattle.cordyceps.specs.Elements.Element.{Element}
-use Rattle.cordyceps_c_timers.specs.declared.timers.Timer.{Timer}
-use Rattle.cordyceps_c_timers.specs.Timers.{Running, arranged, time_of}
-use Rattle.cordyceps_c_timers.proofs.Arranging.{none_due, popped, stayed}
+use Rattle.std.proofs.Common.{◌≡◌, ◌<◌, ◌≤◌, ◌∷◌, [], refl, ap, sym, ◌∙◌, subst}
+use Rattle.std.proofs.lemmas.List.Sorted.{IsPermutation-sym}
+use Rattle.cordyceps_c_base.proofs.Fitting.{permuted_fits, popped_fits}
+use Rattle.cordyceps_c_timers.specs.Timers.{Fires, NoneFires, Running, due_of, slot_of}
+use Rattle.cordyceps_c_timers.proofs.TimersSaid.{fires, none_fires, seen}
 use Rattle.cordyceps_c_timers.proofs.timers.Timers.pop_due.Goals as goal
+
+pub invariant_of-self : goal.invariant_of-self
+invariant_of-self c =
+    let was = c.self.inside in let (_, same, _) = c.in_err-timer.ensures.due in
+    permuted_fits slot_of was.tickets was.queue.nodes c.pop_due.new.self.nodes same c.self.invariant
+
+pub returns-in_err-timer : goal.returns-in_err-timer
+returns-in_err-timer c =
+    let was = c.self.inside in let new = c.pop_due.new.self in let (clock, _, tells) = c.in_err-timer.ensures.due in let (later, holds) = tells due_of refl in
+    rw c.from_residual.ensures (subst (λ (t : Running). NoneFires c.args.now t (seen new.nodes new.clock was.tickets)) c.self.view_is
+    (none_fires was.queue.nodes new.nodes was.queue.clock new.clock was.tickets was.tickets c.args.now clock later holds))
+
+pub invariant_of-self-2 : goal.invariant_of-self-2
+invariant_of-self-2 c =
+    let was = c.self.inside in let d = c.pop_due.new.self.nodes in let e = c.in_ok-timer.timer in let (spot, _, same) = c.in_ok-timer.ensures.due in
+    popped_fits slot_of was.tickets c.into_fired.new.tickets was.queue.nodes d spot e c.self.invariant c.spots_are_distinct.ensures (IsPermutation-sym ((spot, e) ∷ d) was.queue.nodes same) c.into_fired.ensures.ended
 
 pub returns : goal.returns
 returns c =
-    let was = c.self.inside.queue in let new = c.pop_due.new.self in
-    let (spot, tells, _) = c.in-Some.ensures.due in let (clock, early, holds) = tells (λ t. t.due) refl in
-    let fired = c.into_fired.result in
-    let is : c.in-Some.timer ≡ record { id = fired.deadline; value = record { due = new.clock; payload = fired.payload } } =
-    λ i. record { id = (sym c.into_fired.ensures i).deadline; value = record { due = sym clock i; payload = (sym c.into_fired.ensures i).payload } } in (
-      spot,
-      (
-        sym (ap (λ (t : Running). t.nodes) c.self.view_is) ∙ popped was.nodes new.nodes spot c.in-Some.timer holds ∙ ap (λ (x : Element Timer). (spot, x) ∷ arranged new.nodes) is,
-        subst (λ k. k ≤ c.args.now) (sym clock) early,
-      ),
-    )
-
-pub returns-in_default : goal.returns-in_default
-returns-in_default c =
-    let was = c.self.inside.queue in let new = c.pop_due.new.self in
-    let (clock, _, tells) = c.in_default.ensures.due in let (later, holds) = tells (λ t. t.due) refl in
-    let same = stayed was.nodes new.nodes holds ∙ ap (λ (t : Running). t.nodes) c.self.view_is in (
-      subst (AllByRecursion (λ n. c.args.now < time_of n.1)) same (none_due c.args.now new.nodes later),
-      (same, clock ∙ ap (λ (t : Running). max t.clock c.args.now) c.self.view_is),
-    )
+    let was = c.self.inside in let new = c.pop_due.new.self in let (spot, tells, _) = c.in_ok-timer.ensures.due in let (clock, early, holds) = tells due_of refl in
+    let ended = c.into_fired.ensures.ended in
+    subst (λ (t : Running). Fires c.args.now c.into_fired.result t (seen new.nodes new.clock c.into_fired.new.tickets)) c.self.view_is
+    (fires was.queue.nodes new.nodes was.queue.clock new.clock was.tickets c.into_fired.new.tickets c.args.now spot c.in_ok-timer.timer c.into_fired.result c.into_fired.ensures.fired clock early ended.collection ended.given holds)
