@@ -1,2 +1,4 @@
 mod InboxHandles
 mod InboxSent
+mod PileHandles
+mod PileSent

@@ -1,2 +1,3 @@
 pub mod Inboxes
+pub mod Piles
 pub mod Rows

@@ -1,36 +1,14 @@
 //! The calls of an inbox: many threads send, and one at a time receives.
-ghost use Rattle.std.specs.Prelude.{◌≡◌, ◌≤◌, [], true, IfSome};
+ghost use Rattle.std.specs.Prelude.{◌≡◌, ◌≤◌, IfSome};
 ghost use Rattle.cordyceps.specs.Queues.Calls.{Dequeues, IsCertain};
-ghost use Rattle.cordyceps.specs.Queues.Moves.{Moves};
 ghost use Rattle.cordyceps.specs.Parties.Shares.{whole};
-ghost use Rattle.cordyceps_c_shared.specs.Inboxes.{GivesRooms, IsNew, TriesToSend, TriesToSplit, TakesOver, payload_of};
+ghost use Rattle.cordyceps_c_shared.specs.Inboxes.{GivesRooms, IsNew, TriesToSend, TriesToSplit, TakesOver};
 
 use crate::inbox::{Inbox, Letter, Message, Sent};
-use cordyceps::mpsc_queue::{MAX_ROOMS, Party, TryDequeueError};
+use cordyceps::mpsc_queue::{MAX_ROOMS, TryDequeueError};
 use cordyceps::{MpscQueue, Node};
 use std::alloc::Global;
 use std::sync::Arc;
-
-/// How often `give_all_back` tries.
-const TRIES: usize = 64;
-
-/// Gives all rooms of a party to the pool, with those that were in it, and returns `true`. Returns `false` if other
-/// parties gave rooms back between the two steps of each of `TRIES` tries. A whole party always gets `true`.
-fn give_all_back(queue: &MpscQueue<Message>, party: &mut Party<Message>) -> bool
-    requires { party.old.table ≡ queue.now.table }
-    ensures moves { Moves payload_of [] [] party.old party.new }
-    ensures given { result ≡ true → party.new.rooms ≡ 0 }
-    ensures whole { party.old.share ≡ whole → result ≡ true }
-{
-    for _ in 0..TRIES {
-        queue.refill(party);
-        let rooms = party.rooms();
-        if queue.give_back(party, rooms) {
-            return true;
-        }
-    }
-    false
-}
 
 impl Inbox {
     /// Makes an inbox of so many rooms, or `None` if memory is refused. Requires that they are at most `MAX_ROOMS`.
@@ -94,10 +72,10 @@ impl Inbox {
     }
 
     /// Gives all rooms to the pool, with those that were in it, and returns `true`. Returns `false` if other handles
-    /// gave rooms back between the two steps of each of `TRIES` tries.
+    /// gave rooms back each time that it tried.
     pub fn give_back(&mut self) -> bool
         ensures { GivesRooms result self.old self.new }
     {
-        give_all_back(&self.queue, &mut self.party)
+        self.queue.give_all_back(&mut self.party)
     }
 }
