@@ -1,8 +1,8 @@
-/* Timers, and inboxes that threads share. C99, C++17.
+/* Timers, and inboxes and piles that threads share. C99, C++17.
  *
  * Each collection is behind a handle, whose memory is the caller's: on the stack, in a struct, or static. A handle
  * is of one collection, or of nothing, and then it is zero. A call on the handle of nothing answers `false` or
- * CORDYCEPS_NO_INBOX, and changes nothing; so does a `new` on a handle that is of something. Nothing is global, no
+ * CORDYCEPS_NOTHING, and changes nothing; so does a `new` on a handle that is of something. Nothing is global, no
  * call waits, and none calls back.
  *
  *     cordyceps_timers timers = {0};
@@ -21,7 +21,7 @@
  * - No pointer is null, and two pointers of a call lead to different memory.
  * - One call at a time is made on a handle. Another thread may make the next one, if a lock, the start or the join
  *   of a thread, or a sequentially consistent atomic lies between the two. Calls on different handles may run at the
- *   same time, also where these are of one inbox.
+ *   same time, also where these are of one inbox or one pile.
  * - No call is made from a signal handler, or in the child of a fork of a process with threads.
  * - malloc, realloc and free are of one allocator. malloc and realloc align a block to each power of two up to 16
  *   that divides its size.
@@ -82,15 +82,15 @@ typedef struct {
   void *at;
 } cordyceps_inbox;
 
-/* How sending and receiving end. */
+/* How sending and receiving end, and pushing onto a pile. */
 enum {
-  CORDYCEPS_DONE = 0,      /* the payload was sent, or is in *out */
+  CORDYCEPS_DONE = 0,      /* the payload was sent or pushed, or is in *out */
   CORDYCEPS_EMPTY = 1,     /* no payload was there */
   CORDYCEPS_UNLINKED = 2,  /* a thread that sends is between two steps, before the next payload: try again */
-  CORDYCEPS_BUSY = 3,      /* another handle receives: try again */
+  CORDYCEPS_BUSY = 3,      /* another handle receives, or came between two steps of a push: try again */
   CORDYCEPS_FULL = 4,      /* neither the handle nor the pool has a room */
   CORDYCEPS_NO_MEMORY = 5, /* memory was refused */
-  CORDYCEPS_NO_INBOX = 6   /* the handle is of nothing */
+  CORDYCEPS_NOTHING = 6    /* the handle is of nothing */
 };
 
 /* Makes an inbox of so many rooms, up to 1,048,576, which this handle has, in a handle of nothing. false: there are
@@ -102,11 +102,11 @@ bool cordyceps_inbox_new(size_t rooms, cordyceps_inbox *out);
 bool cordyceps_inbox_split(cordyceps_inbox *inbox, cordyceps_inbox *out);
 
 /* Sends a payload: CORDYCEPS_DONE. Payloads of one handle come out in the order in which it sent them.
- * CORDYCEPS_FULL, CORDYCEPS_NO_MEMORY, CORDYCEPS_NO_INBOX: it was not sent. O(1), one malloc. */
+ * CORDYCEPS_FULL, CORDYCEPS_NO_MEMORY, CORDYCEPS_NOTHING: it was not sent. O(1), one malloc. */
 uint32_t cordyceps_inbox_send(cordyceps_inbox *inbox, uint64_t payload);
 
 /* Receives the next payload into *out: CORDYCEPS_DONE. CORDYCEPS_EMPTY, CORDYCEPS_UNLINKED, CORDYCEPS_BUSY,
- * CORDYCEPS_NO_INBOX: *out is unchanged. Once all other handles of the inbox were absorbed, it is DONE or EMPTY.
+ * CORDYCEPS_NOTHING: *out is unchanged. Once all other handles of the inbox were absorbed, it is DONE or EMPTY.
  * O(1), one free. */
 uint32_t cordyceps_inbox_receive(cordyceps_inbox *inbox, uint64_t *out);
 
@@ -116,7 +116,7 @@ uint32_t cordyceps_inbox_receive(cordyceps_inbox *inbox, uint64_t *out);
 bool cordyceps_inbox_absorb(cordyceps_inbox *inbox, cordyceps_inbox *other);
 
 /* Gives all rooms of the handle to the pool, from which each handle may take them. false: the handle is of nothing;
- * or at each of 64 tries another handle gave rooms to the pool in between, and this handle has rooms still: try
+ * or other handles gave rooms to the pool each of 8 times that this one tried, and it has no fewer than before: try
  * again. Once all other handles of the inbox were absorbed, it is true. O(1). */
 bool cordyceps_inbox_give_back(cordyceps_inbox *inbox);
 
@@ -124,6 +124,50 @@ bool cordyceps_inbox_give_back(cordyceps_inbox *inbox);
  * inbox frees it, with the payloads in it. false: as cordyceps_inbox_give_back; the handle is not freed. O(1), and
  * for the last handle O(rooms). */
 bool cordyceps_inbox_free(cordyceps_inbox *inbox);
+
+/* ---- Piles: many threads push, and each may take all at once */
+
+/* A handle of a pile, or of nothing: {0}. Each thread has one of its own. A room is a permit to push one payload:
+ * pushing takes one of the handle, which first takes some of the pile's pool if it has none, and taking gives the rooms
+ * of all that was taken to the handle that takes. This handle then has these payloads, and hands them out one by
+ * one. */
+typedef struct {
+  void *at;
+} cordyceps_pile;
+
+/* Makes a pile of so many rooms, up to 1,048,576, which this handle has, in a handle of nothing. false: there are
+ * more, memory was refused, or the handle is not of nothing; nothing has changed. O(rooms), five mallocs. */
+bool cordyceps_pile_new(size_t rooms, cordyceps_pile *out);
+
+/* Makes a further handle of the same pile, without rooms, in a handle of nothing. false: memory was refused, `pile`
+ * is of nothing, or *out is not; no room and no payload has changed its place. O(1), one malloc. */
+bool cordyceps_pile_split(cordyceps_pile *pile, cordyceps_pile *out);
+
+/* Tries once to push a payload: CORDYCEPS_DONE. CORDYCEPS_FULL, CORDYCEPS_BUSY, CORDYCEPS_NO_MEMORY,
+ * CORDYCEPS_NOTHING: it was not pushed. Once all other handles of the pile were absorbed, it is not BUSY. O(1), one
+ * malloc. */
+uint32_t cordyceps_pile_push(cordyceps_pile *pile, uint64_t payload);
+
+/* Hands out the next payload of those that the handle took, into *out. If none is left, the handle first takes all
+ * that the pile has at that moment, of which the one pushed last comes first. false: there was none, or the handle is
+ * of nothing; *out is unchanged. O(1), or O(n) where it takes n payloads. One free. */
+bool cordyceps_pile_pop(cordyceps_pile *pile, uint64_t *out);
+
+/* Takes over the rooms of *other, which is of the same pile, and frees that handle, which is of nothing then. false:
+ * one of them is of nothing, or *other took payloads that it has not handed out yet; nothing has changed. O(1), one
+ * free. The caller keeps that the two are of one pile. */
+bool cordyceps_pile_absorb(cordyceps_pile *pile, cordyceps_pile *other);
+
+/* Gives all rooms of the handle to the pool, from which each handle may take them. false: the handle is of nothing;
+ * or other handles gave rooms to the pool each of 8 times that this one tried, and it has no fewer than before: try
+ * again. Once all other handles of the pile were absorbed, it is true. O(1). */
+bool cordyceps_pile_give_back(cordyceps_pile *pile);
+
+/* Gives all rooms of the handle to the pool, and frees the handle, which is of nothing then, with the payloads that
+ * it took and has not handed out. The last handle of a pile frees it, with the payloads in it. false: as
+ * cordyceps_pile_give_back; the handle is not freed. O(n) for n payloads that it took, and for the last handle
+ * O(rooms). */
+bool cordyceps_pile_free(cordyceps_pile *pile);
 
 #ifdef __cplusplus
 }

@@ -28,8 +28,8 @@ static void inbox_of_nothing(void) {
   cordyceps_inbox inbox = {0}, other = {0};
   uint64_t payload = 7;
   CHECK(!cordyceps_inbox_split(&inbox, &other));
-  CHECK(cordyceps_inbox_send(&inbox, 1) == CORDYCEPS_NO_INBOX);
-  CHECK(cordyceps_inbox_receive(&inbox, &payload) == CORDYCEPS_NO_INBOX);
+  CHECK(cordyceps_inbox_send(&inbox, 1) == CORDYCEPS_NOTHING);
+  CHECK(cordyceps_inbox_receive(&inbox, &payload) == CORDYCEPS_NOTHING);
   CHECK(payload == 7);
   CHECK(!cordyceps_inbox_absorb(&inbox, &other));
   CHECK(!cordyceps_inbox_give_back(&inbox));
@@ -54,10 +54,41 @@ static void inbox_made_twice(void) {
   CHECK(!inbox.at && !other.at);
 }
 
+static void pile_of_nothing(void) {
+  cordyceps_pile pile = {0}, other = {0};
+  uint64_t payload = 7;
+  CHECK(!cordyceps_pile_split(&pile, &other));
+  CHECK(cordyceps_pile_push(&pile, 1) == CORDYCEPS_NOTHING);
+  CHECK(!cordyceps_pile_pop(&pile, &payload) && payload == 7);
+  CHECK(!cordyceps_pile_absorb(&pile, &other));
+  CHECK(!cordyceps_pile_give_back(&pile));
+  CHECK(!cordyceps_pile_free(&pile));
+  CHECK(!pile.at && !other.at);
+}
+
+static void pile_made_twice(void) {
+  cordyceps_pile pile = {0}, other = {0}, nothing = {0};
+  uint64_t payload = 7;
+  CHECK(cordyceps_pile_new(1, &pile));
+  CHECK(cordyceps_pile_new(1, &other));
+  void *at = pile.at;
+  CHECK(!cordyceps_pile_new(1, &pile));
+  CHECK(!cordyceps_pile_split(&other, &pile));
+  CHECK(!cordyceps_pile_absorb(&pile, &nothing));
+  CHECK(!cordyceps_pile_absorb(&nothing, &pile));
+  CHECK(pile.at == at && other.at && !nothing.at);
+  CHECK(cordyceps_pile_push(&pile, 5) == CORDYCEPS_DONE);
+  CHECK(!cordyceps_pile_pop(&other, &payload) && payload == 7);
+  CHECK(cordyceps_pile_free(&pile) && cordyceps_pile_free(&other));
+  CHECK(!pile.at && !other.at);
+}
+
 int main(void) {
   timers_of_nothing();
   timers_made_twice();
   inbox_of_nothing();
   inbox_made_twice();
+  pile_of_nothing();
+  pile_made_twice();
   return 0;
 }

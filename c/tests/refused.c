@@ -72,8 +72,39 @@ static void inbox_refused(void) {
   CHECK(cordyceps_inbox_free(&inbox) && was_granted());
 }
 
+static void pile_refused(void) {
+  cordyceps_pile pile = {0}, other = {0};
+  uint64_t payload = 0;
+  long requests = 0;
+  for (;; requests++) {
+    refuse(requests);
+    bool is_made = cordyceps_pile_new(3, &pile);
+    if (was_granted() && is_made)
+      break;
+    CHECK(!is_made && !pile.at);
+  }
+  CHECK(requests == 5);
+  refuse(0);
+  CHECK(!cordyceps_pile_split(&pile, &other) && !other.at && !was_granted());
+  refuse(0);
+  CHECK(cordyceps_pile_push(&pile, 1) == CORDYCEPS_NO_MEMORY && !was_granted());
+  CHECK(!cordyceps_pile_pop(&pile, &payload) && payload == 0);
+  /* no room was lost */
+  for (uint64_t i = 0; i < 3; i++)
+    CHECK(cordyceps_pile_push(&pile, i) == CORDYCEPS_DONE);
+  CHECK(cordyceps_pile_push(&pile, 3) == CORDYCEPS_FULL);
+  CHECK(cordyceps_pile_split(&pile, &other));
+  refuse(0);
+  for (uint64_t i = 3; i-- > 0;)
+    CHECK(cordyceps_pile_pop(&other, &payload) && payload == i);
+  CHECK(cordyceps_pile_give_back(&other));
+  CHECK(cordyceps_pile_absorb(&pile, &other));
+  CHECK(cordyceps_pile_free(&pile) && was_granted());
+}
+
 int main(void) {
   timers_refused();
   inbox_refused();
+  pile_refused();
   return 0;
 }

@@ -11,7 +11,7 @@ ghost use Rattle.cordyceps_c_shared.specs.declared.inbox.Message.{Message};
 ghost use Rattle.cordyceps_c_shared.specs.declared.inbox.Sent.{Sent};
 
 use cordyceps::mpsc_queue::MAX_ROOMS;
-use cordyceps_c_shared::answers::{DONE, NO_INBOX, number_of};
+use cordyceps_c_shared::answers::{DONE, NOTHING, number_of};
 use cordyceps_c_shared::inbox::Inbox;
 use cordyceps_c_shared::inbox_handle::InboxHandle;
 use std::alloc::{AllocFailed, Global};
@@ -90,19 +90,19 @@ pub extern "C" fn cordyceps_inbox_split(
 }
 
 /// Sends a payload and returns `DONE`. Returns `FULL` if the handle has no room and the pool has none, `NO_MEMORY` if
-/// memory is refused, and `NO_INBOX` if the handle is of nothing; the queue is unchanged then.
+/// memory is refused, and `NOTHING` if the handle is of nothing; the queue is unchanged then.
 ///
 /// # Complexity
 /// O(1), with one allocation.
 #[unsafe(no_mangle)]
 pub extern "C" fn cordyceps_inbox_send(alloc: Global, inbox: &mut InboxHandle, payload: u64) -> u32
     ensures { MatchOption inbox.old.held
-        ((result ≡ NO_INBOX) × (inbox.new.held ≡ None))
+        ((result ≡ NOTHING) × (inbox.new.held ≡ None))
         (λ i. (j : Inbox) × (sent : Sent) × (inbox.new.held ≡ Some j) × (result ≡ number_of_sent sent)
         × TriesToSend payload sent i j) }
 {
     let Some(mut held) = inbox.take(alloc) else {
-        return NO_INBOX;
+        return NOTHING;
     };
     let sent = held.send(alloc, payload);
     inbox.put(held);
@@ -110,7 +110,7 @@ pub extern "C" fn cordyceps_inbox_send(alloc: Global, inbox: &mut InboxHandle, p
 }
 
 /// Tries once to receive. Returns `DONE`, with the payload in `*out`, whose room this handle has then. Returns `EMPTY`
-/// if there is none, `UNLINKED` if the next is not linked yet, `BUSY` if another handle receives, and `NO_INBOX` if the
+/// if there is none, `UNLINKED` if the next is not linked yet, `BUSY` if another handle receives, and `NOTHING` if the
 /// handle is of nothing; `*out` is unchanged then.
 ///
 /// # Complexity
@@ -122,14 +122,14 @@ pub extern "C" fn cordyceps_inbox_receive(
     out: &mut u64,
 ) -> u32
     ensures { MatchOption inbox.old.held
-        ((result ≡ NO_INBOX) × (inbox.new.held ≡ None) × (out.new ≡ out.old))
+        ((result ≡ NOTHING) × (inbox.new.held ≡ None) × (out.new ≡ out.old))
         (λ i. (j : Inbox) × (tried : Result (Element Message) TryDequeueError)
         × (inbox.new.held ≡ Some j) × (j.queue ≡ i.queue)
         × (result ≡ number_of_try tried) × (out.new ≡ payload_after out.old tried)
         × Dequeues tried i.party j.party × (i.party.share ≡ whole → IsCertain tried)) }
 {
     let Some(mut held) = inbox.take(alloc) else {
-        return NO_INBOX;
+        return NOTHING;
     };
     let tried = held.receive();
     inbox.put(held);
@@ -175,8 +175,8 @@ pub extern "C" fn cordyceps_inbox_absorb(
 }
 
 /// Gives all rooms of the handle to the pool of its inbox, with those that are there, and returns `true`: each handle
-/// may take them then. Returns `false` if the handle is of nothing. It also returns `false` if at each of 64 tries
-/// another handle gave rooms back at the same moment; then this one has rooms, and the call can be made again.
+/// may take them then. Returns `false` if the handle is of nothing. It also returns `false` if others gave rooms back
+/// each of 8 times that it tried; then this one has no fewer rooms than before, and the call can be made again.
 ///
 /// # Complexity
 /// O(1).

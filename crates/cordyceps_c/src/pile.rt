@@ -1,0 +1,216 @@
+//! The calls of piles.
+ghost use Rattle.std.specs.Prelude.{◌≡◌, ◌≢◌, [], true, false, Option, Some, None, MatchBool, MatchOption, is_some};
+ghost use Rattle.cordyceps.specs.Elements.Element.{Element};
+ghost use Rattle.cordyceps_c_shared.specs.Piles.{IsNew, SplitsOff, TakesOver, KeepsOrRejoins, TriesToPush, Pops, GivesRooms};
+ghost use Rattle.cordyceps_c_shared.specs.Piles.{number_of_pushed, payload_after};
+ghost use Rattle.cordyceps_c_shared.specs.declared.inbox.Message.{Message};
+ghost use Rattle.cordyceps_c_shared.specs.declared.pile.Pile.{Pile};
+ghost use Rattle.cordyceps_c_shared.specs.declared.pile.Pushed.{Pushed};
+
+use cordyceps::stack::MAX_ROOMS;
+use cordyceps_c_shared::answers::NOTHING;
+use cordyceps_c_shared::pile::Pile;
+use cordyceps_c_shared::pile_handle::PileHandle;
+use std::alloc::{AllocFailed, Global};
+
+/// Makes a pile of `rooms` rooms, of which this handle has all, in a handle of nothing, and returns `true`. Returns
+/// `false` if there are more than `MAX_ROOMS`, memory is refused, or the handle is not of nothing, and changes nothing
+/// then.
+///
+/// # Complexity
+/// O(`rooms`), with five allocations.
+#[unsafe(no_mangle)]
+pub extern "C" fn cordyceps_pile_new(alloc: Global, rooms: usize, out: &mut PileHandle) -> bool
+    ensures { MatchOption out.old.held
+        (MatchBool result ((i : Pile) × (out.new.held ≡ Some i) × IsNew rooms i) (out.new.held ≡ None))
+        (λ i. (result ≡ false) × (out.new.held ≡ Some i)) }
+{
+    if let Some(held) = out.take(alloc) {
+        out.put(held);
+        return false;
+    }
+    if rooms > MAX_ROOMS {
+        return false;
+    }
+    let Some(pile) = Pile::new(alloc, rooms) else {
+        return false;
+    };
+    match Box::new(alloc, pile) {
+        Ok(pile) => {
+            out.put(pile);
+            true
+        }
+        Err(_) => false,
+    }
+}
+
+/// Makes a further handle of the same pile, without rooms, in a handle of nothing, and returns `true`. Returns `false`
+/// if memory is refused, the first handle is of nothing or the second is not, and nothing has changed then.
+///
+/// # Complexity
+/// O(1), with one allocation.
+#[unsafe(no_mangle)]
+pub extern "C" fn cordyceps_pile_split(
+    alloc: Global,
+    pile: &mut PileHandle,
+    out: &mut PileHandle,
+) -> bool
+    ensures { MatchOption pile.old.held
+        ((result ≡ false) × (pile.new.held ≡ None) × (out.new.held ≡ out.old.held))
+        (λ i. (j : Pile) × (pile.new.held ≡ Some j) × MatchBool result
+        ((k : Pile) × (out.old.held ≡ None) × (out.new.held ≡ Some k) × SplitsOff i j k)
+        ((out.new.held ≡ out.old.held) × KeepsOrRejoins i j)) }
+{
+    if let Some(held) = out.take(alloc) {
+        out.put(held);
+        return false;
+    }
+    let Some(mut held) = pile.take(alloc) else {
+        return false;
+    };
+    let Some(other) = held.split() else {
+        pile.put(held);
+        return false;
+    };
+    match Box::new(alloc, other) {
+        Ok(other) => {
+            out.put(other);
+            pile.put(held);
+            true
+        }
+        Err(AllocFailed { value }) => {
+            held.absorb(value);
+            pile.put(held);
+            false
+        }
+    }
+}
+
+/// Tries once to push a payload and returns `DONE`. Returns `FULL` if the handle has no room and the pool has none,
+/// `BUSY` if another thread pushed or took between the two steps of the try, `NO_MEMORY` if memory is refused, and
+/// `NOTHING` if the handle is of nothing; the pile is unchanged then.
+///
+/// # Complexity
+/// O(1), with one allocation.
+#[unsafe(no_mangle)]
+pub extern "C" fn cordyceps_pile_push(alloc: Global, pile: &mut PileHandle, payload: u64) -> u32
+    ensures { MatchOption pile.old.held
+        ((result ≡ NOTHING) × (pile.new.held ≡ None))
+        (λ i. (j : Pile) × (pushed : Pushed) × (pile.new.held ≡ Some j) × (result ≡ number_of_pushed pushed)
+        × TriesToPush payload pushed i j) }
+{
+    let Some(mut held) = pile.take(alloc) else {
+        return NOTHING;
+    };
+    let pushed = held.push(alloc, payload);
+    pile.put(held);
+    pushed.number()
+}
+
+/// Hands the next payload of those that the handle took out into `*out`, and returns `true`. If none is left, the
+/// handle first takes all that the pile has, of which the payload that was pushed last is the next one. Their rooms are
+/// the handle's then. Returns `false` if there is none, or the handle is of nothing; `*out` is unchanged then.
+///
+/// # Complexity
+/// O(1), or O(n) if it takes n payloads. Frees one block.
+#[unsafe(no_mangle)]
+pub extern "C" fn cordyceps_pile_pop(alloc: Global, pile: &mut PileHandle, out: &mut u64) -> bool
+    ensures { MatchOption pile.old.held
+        ((result ≡ false) × (pile.new.held ≡ None) × (out.new ≡ out.old))
+        (λ i. (j : Pile) × (popped : Option (Element Message)) × (pile.new.held ≡ Some j)
+        × (result ≡ is_some popped) × (out.new ≡ payload_after out.old popped) × Pops popped i j) }
+{
+    let Some(mut held) = pile.take(alloc) else {
+        return false;
+    };
+    let popped = held.pop();
+    pile.put(held);
+    match popped {
+        Some(sheet) => {
+            *out = sheet.into_value().payload;
+            true
+        }
+        None => false,
+    }
+}
+
+/// Takes over the rooms of `other`, which is of the same pile, and frees that handle, which is of nothing then. Returns
+/// `true`. Returns `false` if one of them is of nothing, or payloads that `other` took are not handed out yet, and
+/// changes nothing then. Requires that two piles are the same.
+///
+/// # Complexity
+/// O(1). Frees one block.
+#[unsafe(no_mangle)]
+pub extern "C" fn cordyceps_pile_absorb(
+    alloc: Global,
+    pile: &mut PileHandle,
+    other: &mut PileHandle,
+) -> bool
+    requires { (i k : Pile) → pile.old.held ≡ Some i → other.old.held ≡ Some k → k.party.table ≡ i.party.table }
+    ensures { MatchOption pile.old.held
+        ((result ≡ false) × (pile.new.held ≡ None) × (other.new.held ≡ other.old.held))
+        (λ i. MatchOption other.old.held
+        ((result ≡ false) × (pile.new.held ≡ Some i) × (other.new.held ≡ None))
+        (λ k. MatchBool result
+        ((j : Pile) × (k.taken ≡ []) × (pile.new.held ≡ Some j) × (other.new.held ≡ None) × TakesOver i k j)
+        ((k.taken ≢ []) × (pile.new.held ≡ Some i) × (other.new.held ≡ Some k)))) }
+{
+    let Some(mut held) = pile.take(alloc) else {
+        return false;
+    };
+    let Some(absorbed) = other.take(alloc) else {
+        pile.put(held);
+        return false;
+    };
+    if !absorbed.has_none_left() {
+        other.put(absorbed);
+        pile.put(held);
+        return false;
+    }
+    held.absorb(Box::into_inner(absorbed));
+    pile.put(held);
+    true
+}
+
+/// Gives all rooms of the handle to the pool of its pile, with those that are there, and returns `true`: each handle
+/// may take them then. Returns `false` if the handle is of nothing. It also returns `false` if others gave rooms back
+/// each of 8 times that it tried; then this one has no fewer rooms than before, and the call can be made again.
+///
+/// # Complexity
+/// O(1).
+#[unsafe(no_mangle)]
+pub extern "C" fn cordyceps_pile_give_back(alloc: Global, pile: &mut PileHandle) -> bool
+    ensures { MatchOption pile.old.held
+        ((result ≡ false) × (pile.new.held ≡ None))
+        (λ i. (j : Pile) × (pile.new.held ≡ Some j) × GivesRooms result i j) }
+{
+    let Some(mut held) = pile.take(alloc) else {
+        return false;
+    };
+    let is_given = held.give_back();
+    pile.put(held);
+    is_given
+}
+
+/// Gives all rooms of the handle back as `cordyceps_pile_give_back` does, then frees the handle, with the payloads that
+/// it took and that are not handed out, and returns `true`. The handle is of nothing then. The last handle frees the
+/// pile with all that is in it. Returns `false` where `cordyceps_pile_give_back` does; the handle is not freed then.
+///
+/// # Complexity
+/// O(n), for n payloads that it took, and for the last handle O(r + n), for r rooms.
+#[unsafe(no_mangle)]
+pub extern "C" fn cordyceps_pile_free(alloc: Global, pile: &mut PileHandle) -> bool
+    ensures { MatchOption pile.old.held
+        ((result ≡ false) × (pile.new.held ≡ None))
+        (λ i. (j : Pile) × GivesRooms result i j
+        × MatchBool result (pile.new.held ≡ None) (pile.new.held ≡ Some j)) }
+{
+    let Some(mut held) = pile.take(alloc) else {
+        return false;
+    };
+    if !held.give_back() {
+        pile.put(held);
+        return false;
+    }
+    true
+}
