@@ -88,7 +88,7 @@ pub extern "C" fn cordyceps_pile_split(
 
 /// Tries once to push a payload and returns `DONE`. Returns `FULL` if the handle has no room and the pool has none,
 /// `BUSY` if another thread pushed or took between the two steps of the try, `NO_MEMORY` if memory is refused, and
-/// `NOTHING` if the handle is of nothing; the pile is unchanged then.
+/// `NOTHING` if the handle is of nothing; the payload is not pushed then.
 ///
 /// # Complexity
 /// O(1), with one allocation.
@@ -107,9 +107,9 @@ pub extern "C" fn cordyceps_pile_push(alloc: Global, pile: &mut PileHandle, payl
     pushed.number()
 }
 
-/// Hands the next payload of those that the handle took out into `*out`, and returns `true`. If none is left, the
-/// handle first takes all that the pile has, of which the payload that was pushed last is the next one. Their rooms are
-/// the handle's then. Returns `false` if there is none, or the handle is of nothing; `*out` is unchanged then.
+/// Hands out the next of the payloads that the handle took, into `*out`, and returns `true`. If none is left, the handle
+/// first takes all that the pile has, with their rooms; of these the payload that was pushed last is the next. Returns
+/// `false` if there is none, or the handle is of nothing; `*out` is unchanged then.
 ///
 /// # Complexity
 /// O(1), or O(n) if it takes n payloads. Frees one block.
@@ -134,8 +134,8 @@ pub extern "C" fn cordyceps_pile_pop(alloc: Global, pile: &mut PileHandle, out: 
     }
 }
 
-/// Takes over the rooms of `other`, which is of the same pile, and frees that handle, which is of nothing then. Returns
-/// `true`. Returns `false` if one of them is of nothing, or payloads that `other` took are not handed out yet, and
+/// Takes over the rooms of `other`, which is of the same pile, frees that handle, which is of nothing then, and returns
+/// `true`. Returns `false` if one of them is of nothing, or `other` took payloads that it has not handed out yet, and
 /// changes nothing then. Requires that two piles are the same.
 ///
 /// # Complexity
