@@ -107,8 +107,8 @@ pub extern "C" fn cordyceps_pile_push(alloc: Global, pile: &mut PileHandle, payl
     pushed.number()
 }
 
-/// Hands out the next of the payloads that the handle took, into `*out`, and returns `true`. If none is left, the handle
-/// first takes all that the pile has, with their rooms; of these the payload that was pushed last is the next. Returns
+/// Hands out the next of the payloads that the handle took, into `*out`, and returns `true`. If none is left, it first
+/// takes all that the pile has, with their rooms; of these the payload that was pushed last is the next. Returns
 /// `false` if there is none, or the handle is of nothing; `*out` is unchanged then.
 ///
 /// # Complexity
