@@ -1,5 +1,5 @@
 -- Tickets that lead to the elements of a collection still do after its calls.
-use Rattle.std.proofs.Common.{◌≡◌, ◌≢◌, ℕ, ◌+◌, ◌<◌, ◌≤◌, [], ◌∷◌, Option, Some, None, refl, sym, ap, ◌∙◌, subst, ◌⊎◌, inl, inr, arith, IsPermutation}
+use Rattle.std.proofs.Common.{◌≡◌, ◌≢◌, ℕ, ◌+◌, ◌<◌, ◌≤◌, [], ◌∷◌, length, length-append, slice_index_or, Option, Some, None, refl, sym, ap, ◌∙◌, subst, ◌⊎◌, inl, inr, arith, IsPermutation}
 use Rattle.std.proofs.lemmas.List.Sorted.{IsPermutation-sym}
 use Rattle.std.proofs.lemmas.Bool.Decides.{eqb_tells}
 use Rattle.std.proofs.lemmas.Option.{none-some}
@@ -58,6 +58,14 @@ module _ {X : Type 0} (slot : X → ℕ) where
     found = λ p e lies. fit.found p e (permuted_is_at d c p e (IsPermutation-sym c d same) lies);
     there = λ k n at. let r = fit.there k n at in still c d k n r (permuted_is_at c d n.spot r.element same r.lies);
     given = fit.given;
+  }
+
+  -- none is given
+  pub new_fits : (s : Tickets) → s.slots.slots ≡ [] → Fit slot s []
+  new_fits s empty = record {
+    found = λ p e (front, back, is) pos. absurd (omega (arith, ap length is, length-append front ((p, e) ∷ back)));
+    there = λ k n at. absurd (none-some n (sym (ap (λ l. slice_index_or l k None) empty) ∙ at));
+    given = λ k n at. absurd (none-some n (sym (ap (λ l. slice_index_or l k None) empty) ∙ at));
   }
 
   -- each slot has what it had

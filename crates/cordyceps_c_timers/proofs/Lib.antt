@@ -1,5 +1,6 @@
 mod Arranging
 mod Placing
+mod QueuesSaid
 mod TimersHandles
 mod TimersSaid
 mod TimersSent

@@ -202,6 +202,7 @@ impl Queue {
         let Some(spot) = self.tickets.find(ticket) else {
             return false;
         };
+        self.heap.spots_are_distinct();
         self.heap.update(
             spot,
             move |item: &mut Ranked| -> ()

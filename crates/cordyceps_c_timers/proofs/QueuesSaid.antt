@@ -1,0 +1,105 @@
+-- What the calls of a heap and of its tickets say of a priority queue.
+use Rattle.std.proofs.Common.{◌≡◌, ℕ, ◌+◌, [], ◌∷◌, ◌++◌, List, true, Option, Some, None, MatchOption, refl, ap, ◌∙◌, IsPermutation}
+use Rattle.std.specs.Ordering.{nat_cmp}
+use denote.RawPtr.{Ptr}
+use Rattle.cordyceps.specs.Elements.Element.{Element}
+use Rattle.cordyceps.specs.Elements.Nodes.{Nodes, spots}
+use Rattle.cordyceps.specs.Orders.Arrangement.{IsEarliestLeast}
+use Rattle.cordyceps.specs.Orders.ByKey.{by_key}
+use Rattle.cordyceps.specs.Spots.Arranged.{precedes}
+use Rattle.cordyceps.specs.Spots.BySpot.{IsTaken}
+use Rattle.cordyceps.specs.Spots.DoubleLines.{flat}
+use Rattle.cordyceps.specs.Spots.Heap.{Holds}
+use Rattle.cordyceps.specs.Spots.Spots.{AreDistinct}
+use Rattle.cordyceps.proofs.Spots.Arrivals.{Stands, first_of}
+use Rattle.cordyceps.proofs.Spots.Valid.{permuted_is_at}
+use Rattle.cordyceps_c_base.specs.declared.tickets.Ticket.{Ticket}
+use Rattle.cordyceps_c_base.specs.declared.tickets.Tickets.{Tickets}
+use Rattle.cordyceps_c_base.specs.Tickets.{Fit, IsEnded, Leads, NoneBears}
+use Rattle.cordyceps_c_base.proofs.Fitting.{bears_at, none_bears}
+use Rattle.cordyceps_c_timers.specs.Arranged.{arranged, placed}
+use Rattle.cordyceps_c_timers.specs.declared.queue.Item.{Item}
+use Rattle.cordyceps_c_timers.specs.declared.queue.Ranked.{Ranked}
+use Rattle.cordyceps_c_timers.specs.Queues.{AreKept, Changes, Pops, Pushes, Queued, Removes, item_of, key_of, new_item, slot_of, with_key}
+use Rattle.cordyceps_c_timers.proofs.Arranging.{changed, comes_of_heap, kept, popped, pushed, removed, stayed}
+use Rattle.cordyceps_c_timers.proofs.Placing.{by_number, lawful}
+
+abbrev Lines : Type 0
+Lines = List (Nodes Ranked)
+
+-- the items of a heap's lines
+abbrev pub seen : Lines → Tickets → Queued
+seen ls s = record { nodes = arranged key_of (flat ls); collection = s.collection; given = s.given }
+
+abbrev Held : Lines → Nodes Ranked → Type 0
+Held = Holds (by_number key_of)
+
+-- no item has the ticket
+pub none_has : (c : Nodes Ranked) (s : Tickets) (k : Ticket) → Fit slot_of s c → ((p : Ptr) → Leads s k p → ⊥)
+    → NoneBears slot_of s.collection k (arranged key_of c)
+none_has c s k fit none p e lies = none_bears slot_of s c k fit none p e (permuted_is_at (arranged key_of c) c p e (kept key_of c) lies)
+
+module _ (ls ms : Lines) (s t : Tickets) (a b : Nodes Ranked) (held : Held ls a) (left : Held ms b) where
+  was : Stands (by_number key_of) (Held ls) (arranged key_of (flat ls))
+  was = comes_of_heap key_of ls a held
+
+  is_left : Stands (by_number key_of) (Held ms) (arranged key_of (flat ms))
+  is_left = comes_of_heap key_of ms b left
+
+  pub pushes : (p : Ptr) (e : Element Ranked) (k : Ticket) (key payload : ℕ) → e ≡ new_item key payload k
+      → k.collection ≡ s.collection → k.number ≡ s.given + 1 → t.collection ≡ s.collection → t.given ≡ k.number
+      → ((x : Nodes Ranked) → Held ls x → Held ms (x ++ (p, e) ∷ []))
+      → Pushes key payload (Some k) (seen ls s) (seen ms t)
+  pushes p e k key payload is of number coll given h =
+      let put = pushed key_of (flat ls) (flat ms) (Held ls) (Held ms) was is_left p e h ∙ ap (λ x. placed key_of p x (arranged key_of (flat ls))) is in
+      ((of, number), (p, λ i. record { nodes = put i; collection = coll i; given = given i }))
+
+  pub removes : (p : Ptr) (e : Element Ranked) (k : Ticket) (f : Item) → Fit slot_of s (flat ls) → AreDistinct (spots (flat ls)) → Leads s k p → IsTaken (flat ls) p e (flat ms)
+      → f ≡ item_of e → t.collection ≡ s.collection → t.given ≡ s.given
+      → ((x : Nodes Ranked) → Held ls x → (rest : Nodes Ranked) × (IsTaken x p e rest × Held ms rest))
+      → Removes k (Some f) (seen ls s) (seen ms t)
+  removes p e k f fit distinct leads taken is coll given h = record {
+    spot = p;
+    ranked = e;
+    bears = bears_at slot_of s (flat ls) (flat ms) k p e fit distinct taken leads;
+    taken = removed key_of (flat ls) (flat ms) (Held ls) (Held ms) was is_left p e h;
+    is = is;
+    kept = λ i. record { nodes = arranged key_of (flat ms); collection = coll i; given = given i };
+  }
+
+  pub pops : (p : Ptr) (e : Element Ranked) (f : Item) → f ≡ item_of e → t.collection ≡ s.collection → t.given ≡ s.given
+      → ((x : Nodes Ranked) → Held ls x → (rest : Nodes Ranked) × (IsEarliestLeast (precedes (by_number key_of)) x (p, e) rest × Held ms rest))
+      → Pops (Some f) (seen ls s) (seen ms t)
+  pops p e f is coll given h = (
+    p,
+    e,
+    popped key_of (flat ls) (flat ms) (Held ls) (Held ms) was is_left p e h,
+    is,
+    λ i. record { nodes = arranged key_of (flat ms); collection = coll i; given = given i },
+  )
+
+  -- the same arrivals, in other lines
+  pub same_items : ((x : Nodes Ranked) → Held ls x → Held ms x) → seen ms s ≡ seen ls s
+  same_items h = λ i. record { nodes = stayed key_of (flat ls) (flat ms) (Held ls) (Held ms) was is_left h i; collection = s.collection; given = s.given }
+
+  -- an item got another key, and its ticket stays
+  pub changes : (p : Ptr) (e w : Element Ranked) (rest : Nodes Ranked) (k : Ticket) (key : ℕ) → Fit slot_of s (flat ls) → AreDistinct (spots (flat ls)) → Leads s k p
+      → IsTaken (flat ls) p e rest → w ≡ with_key key e
+      → ((x : Nodes Ranked) → Held ls x → (r : Nodes Ranked) × (IsTaken x p e r × Held ms (r ++ (p, w) ∷ [])))
+      → Changes k key true (seen ls s) (seen ms s)
+  changes p e w rest k key fit distinct leads taken is h =
+      let (others, out, put) = changed key_of (flat ls) (flat ms) (Held ls) (Held ms) was is_left p e w h in
+      let all = put ∙ ap (λ x. placed key_of p x others) is in record {
+        spot = p;
+        ranked = e;
+        others = others;
+        bears = bears_at slot_of s (flat ls) rest k p e fit distinct taken leads;
+        taken = out;
+        put = λ i. record { nodes = all i; collection = s.collection; given = s.given };
+      }
+
+-- the first of the items
+pub first : (ls : Lines) (s : Tickets) (a : Nodes Ranked) → Held ls a → (x : Ptr × Element Ranked)
+    → ((b : Nodes Ranked) → Held ls b → (rest : Nodes Ranked) × IsEarliestLeast (precedes (by_number key_of)) b x rest)
+    → (rest : Nodes Ranked) × (arranged key_of (flat ls) ≡ x ∷ rest)
+first ls s a held x h = first_of (lawful key_of) (Held ls) (arranged key_of (flat ls)) (comes_of_heap key_of ls a held) x h
