@@ -1,5 +1,7 @@
 mod Arranging
 mod Placing
+mod QueueHandles
+mod QueueSent
 mod QueuesSaid
 mod TimersHandles
 mod TimersSaid

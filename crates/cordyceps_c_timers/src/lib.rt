@@ -2,5 +2,6 @@
 #![tactic(auto)]
 
 pub mod queue;
+pub mod queue_handle;
 pub mod timers;
 pub mod timers_handle;

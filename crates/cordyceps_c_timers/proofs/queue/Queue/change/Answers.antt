@@ -24,7 +24,7 @@ invariant_of-self c =
     let n : Element Ranked = record { id = e.id; value = w } in let all = rest ++ (p, n) ∷ [] in
     let (left, (_, held)) = tells _ kept.arrivals refl kept.held in record {
       fit = permuted_fits slot_of was.tickets all (nodes_in c.update.new.self) same
-      (changed_fits slot_of was.tickets (nodes_in was.heap) all rest p e n kept.fit taken (last_taken all rest p n refl) refl (ap slot_of (sym returns.leaves) ∙ slot ∙ ap slot_of returns.shows));
+          (changed_fits slot_of was.tickets (nodes_in was.heap) all rest p e n kept.fit taken (last_taken all rest p n refl) refl (ap slot_of (sym returns.leaves) ∙ slot ∙ ap slot_of returns.shows));
       arrivals = left ++ (p, n) ∷ [];
       held = held;
     }
