@@ -1,4 +1,4 @@
-//! The collections for C: timers, inboxes and piles, each behind a handle.
+//! The collections for C: timers, priority queues, inboxes and piles, each behind a handle.
 //!
 //! C owns the memory of a handle, and nothing else. A handle is of one collection, or of nothing, and then it is
 //! `{NULL}`. Each call is total on the handle of nothing: it answers `false`, or the number that says so, and changes
@@ -10,4 +10,5 @@
 
 pub mod inbox;
 pub mod pile;
+pub mod queue;
 pub mod timers;
