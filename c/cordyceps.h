@@ -1,4 +1,4 @@
-/* Timers, and inboxes and piles that threads share. C99, C++17.
+/* Timers and priority queues, and inboxes and piles that threads share. C99, C++17.
  *
  * Each collection is behind a handle, whose memory is the caller's: on the stack, in a struct, or static. A handle
  * is of one collection, or of nothing, and then it is zero. A call on the handle of nothing answers `false` or
@@ -6,10 +6,12 @@
  * call waits, and none calls back.
  *
  *     cordyceps_timers timers = {0};
+ *     cordyceps_ticket ticket;
  *     cordyceps_fired fired;
- *     if (!cordyceps_timers_new(&timers))
+ *     if (!cordyceps_timers_new(0, &timers))
  *       return -1;
- *     cordyceps_timers_start(&timers, now_ms() + 50, (uintptr_t)connection);
+ *     cordyceps_timers_start(&timers, now_ms() + 50, (uintptr_t)connection, &ticket);
+ *     cordyceps_timers_restart(&timers, ticket, now_ms() + 80);
  *     while (cordyceps_timers_pop_due(&timers, now_ms(), &fired))
  *       expire((struct connection *)(uintptr_t)fired.payload);
  *     cordyceps_timers_free(&timers);
@@ -39,6 +41,18 @@
 extern "C" {
 #endif
 
+/* ---- Tickets */
+
+/* Names an element of a collection, from the call that put it in until it comes out. The collection checks a ticket
+ * when it gets one, so one that is stale, of another collection, or made up is answered `false` and does no harm. No
+ * other element of the collection ever has the same ticket. A ticket is a number: it can be copied and kept anywhere.
+ * {0} is a ticket that no element has. */
+typedef struct {
+  uint32_t collection; /* the number that the collection was made with */
+  uint32_t slot;       /* where the collection finds the element */
+  uint64_t number;     /* how many tickets it had given then, with this one */
+} cordyceps_ticket;
+
 /* ---- Timers, which fire by their deadlines */
 
 /* A handle of timers, or of nothing: {0}. */
@@ -46,25 +60,40 @@ typedef struct {
   void *at;
 } cordyceps_timers;
 
-/* A timer that fired, as it was started. */
+/* A timer that came out, as it was started. */
 typedef struct {
   uint64_t deadline;
   uint64_t payload;
 } cordyceps_fired;
 
-/* Makes timers of which none runs, at the time 0, in a handle of nothing. false: memory was refused, or the handle
- * is not of nothing; nothing has changed. O(1), one malloc. */
-bool cordyceps_timers_new(cordyceps_timers *out);
+/* Makes timers of which none runs, at the time 0, in a handle of nothing. Their tickets have the number `collection`:
+ * where collections have different numbers, each answers `false` to the tickets of the others. false: memory was
+ * refused, or the handle is not of nothing; nothing has changed. O(1), one malloc. */
+bool cordyceps_timers_new(uint32_t collection, cordyceps_timers *out);
 
 /* Starts a timer, which fires at its deadline, or at the clock if the deadline has passed, after all that do not
- * fire later. false: memory was refused, SIZE_MAX timers run, or the handle is of nothing; nothing has changed.
- * O(1), one malloc. */
-bool cordyceps_timers_start(cordyceps_timers *timers, uint64_t deadline, uint64_t payload);
+ * fire later, and writes its ticket to *out. false: memory was refused, SIZE_MAX timers run, no ticket is left, or the
+ * handle is of nothing; nothing has changed. O(1) amortized, one malloc, and at times a larger table of tickets. */
+bool cordyceps_timers_start(cordyceps_timers *timers, uint64_t deadline, uint64_t payload, cordyceps_ticket *out);
+
+/* Removes the timer that has the ticket into *out. false: no timer has it, or the handle is of nothing; nothing has
+ * changed. O(1), one free. */
+bool cordyceps_timers_stop(cordyceps_timers *timers, cordyceps_ticket timer, cordyceps_fired *out);
+
+/* Gives another deadline to the timer that has the ticket, as if it were started now. The ticket stays valid. false: no
+ * timer has it, or the handle is of nothing; nothing has changed. O(1). */
+bool cordyceps_timers_restart(cordyceps_timers *timers, cordyceps_ticket timer, uint64_t deadline);
 
 /* Removes the first timer into *out, if it fires at the time `now` or before. The clock is then the time at which
  * it fired. false: none fires by then, and the clock is `now`, unless it is later; or the handle is of nothing.
  * *out is unchanged then. O(1) amortized: a timer is moved at most 64 times before it comes out. One free. */
 bool cordyceps_timers_pop_due(cordyceps_timers *timers, uint64_t now, cordyceps_fired *out);
+
+/* Writes a time before which no timer fires to *out, for the timeout of a wait. It is the time of the first timer
+ * without the bits below the highest in which that differs from the clock. Whoever waits until then and calls
+ * cordyceps_timers_pop_due wakes at most 64 times before the first timer fires. false: no timer runs, or the handle is
+ * of nothing; *out is unchanged. O(1). */
+bool cordyceps_timers_not_before(cordyceps_timers *timers, uint64_t *out);
 
 /* How many timers run; 0 for the handle of nothing. O(1). */
 size_t cordyceps_timers_len(cordyceps_timers *timers);
@@ -72,6 +101,50 @@ size_t cordyceps_timers_len(cordyceps_timers *timers);
 /* Frees the timers, with those that run. The handle is of nothing then. false: it was of nothing. O(n), for n
  * timers. */
 bool cordyceps_timers_free(cordyceps_timers *timers);
+
+/* ---- Priority queues */
+
+/* A handle of a priority queue, or of nothing: {0}. */
+typedef struct {
+  void *at;
+} cordyceps_queue;
+
+/* An item of a queue, as it was pushed. The least key comes out first, and of equal keys the one pushed first. */
+typedef struct {
+  uint64_t key;
+  uint64_t payload;
+} cordyceps_item;
+
+/* Makes an empty queue in a handle of nothing. Its tickets have the number `collection`, as those of timers. false:
+ * memory was refused, or the handle is not of nothing; nothing has changed. O(1), one malloc. */
+bool cordyceps_queue_new(uint32_t collection, cordyceps_queue *out);
+
+/* Inserts an item after all whose keys are not greater, and writes its ticket to *out. false: memory was refused, the
+ * queue has SIZE_MAX items, no ticket is left, or the handle is of nothing; nothing has changed. O(1) amortized, one
+ * malloc, and at times a larger table of tickets. */
+bool cordyceps_queue_push(cordyceps_queue *queue, uint64_t key, uint64_t payload, cordyceps_ticket *out);
+
+/* Removes the first item into *out. false: the queue is empty, or the handle is of nothing; *out is unchanged.
+ * O(log n) amortized, for n items that were pushed. One free. */
+bool cordyceps_queue_pop(cordyceps_queue *queue, cordyceps_item *out);
+
+/* Copies the first item to *out. false: the queue is empty, or the handle is of nothing; *out is unchanged. O(log n)
+ * amortized, as cordyceps_queue_pop. */
+bool cordyceps_queue_front(cordyceps_queue *queue, cordyceps_item *out);
+
+/* Removes the item that has the ticket into *out. false: no item has it, or the handle is of nothing; nothing has
+ * changed. O(1), one free. */
+bool cordyceps_queue_remove(cordyceps_queue *queue, cordyceps_ticket item, cordyceps_item *out);
+
+/* Gives another key to the item that has the ticket, as if it were pushed now. The ticket stays valid. false: no item
+ * has it, or the handle is of nothing; nothing has changed. O(1). */
+bool cordyceps_queue_change(cordyceps_queue *queue, cordyceps_ticket item, uint64_t key);
+
+/* How many items there are; 0 for the handle of nothing. O(1). */
+size_t cordyceps_queue_len(cordyceps_queue *queue);
+
+/* Frees the queue, with its items. The handle is of nothing then. false: it was of nothing. O(n), for n items. */
+bool cordyceps_queue_free(cordyceps_queue *queue);
 
 /* ---- Inboxes: many threads send, and one at a time receives */
 

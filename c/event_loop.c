@@ -69,7 +69,8 @@ static void take_in(struct loop *it) {
   uint64_t payload;
   while (cordyceps_inbox_receive(&it->inbox, &payload) == CORDYCEPS_DONE) {
     struct job *job = (struct job *)(uintptr_t)payload;
-    ends_unless(cordyceps_timers_start(&it->timers, job->due, payload), "a timer was not started");
+    cordyceps_ticket ticket;
+    ends_unless(cordyceps_timers_start(&it->timers, job->due, payload, &ticket), "a timer was not started");
   }
   cordyceps_inbox_give_back(&it->inbox);
 }
@@ -100,7 +101,7 @@ static void make_loop(struct loop *it) {
   it->poll = epoll_create1(EPOLL_CLOEXEC);
   ends_unless(it->wake >= 0 && it->poll >= 0, "there is no eventfd or no epoll");
   ends_unless(epoll_ctl(it->poll, EPOLL_CTL_ADD, it->wake, &event) == 0, "epoll refused the eventfd");
-  ends_unless(cordyceps_inbox_new(ROOMS, &it->inbox) && cordyceps_timers_new(&it->timers), "memory was refused");
+  ends_unless(cordyceps_inbox_new(ROOMS, &it->inbox) && cordyceps_timers_new(0, &it->timers), "memory was refused");
 }
 
 int main(void) {

@@ -3,8 +3,13 @@
 
 static void timers_of_nothing(void) {
   cordyceps_timers timers = {0};
+  cordyceps_ticket ticket = {1, 2, 3};
   cordyceps_fired fired = {7, 8};
-  CHECK(!cordyceps_timers_start(&timers, 1, 2));
+  uint64_t until = 9;
+  CHECK(!cordyceps_timers_start(&timers, 1, 2, &ticket));
+  CHECK(ticket.collection == 1 && ticket.slot == 2 && ticket.number == 3);
+  CHECK(!cordyceps_timers_stop(&timers, ticket, &fired) && !cordyceps_timers_restart(&timers, ticket, 1));
+  CHECK(!cordyceps_timers_not_before(&timers, &until) && until == 9);
   CHECK(!cordyceps_timers_pop_due(&timers, UINT64_MAX, &fired));
   CHECK(fired.deadline == 7 && fired.payload == 8);
   CHECK(cordyceps_timers_len(&timers) == 0);
@@ -14,14 +19,36 @@ static void timers_of_nothing(void) {
 
 static void timers_made_twice(void) {
   cordyceps_timers timers = {0};
-  CHECK(cordyceps_timers_new(&timers));
-  CHECK(cordyceps_timers_start(&timers, 1, 2));
+  cordyceps_ticket ticket;
+  CHECK(cordyceps_timers_new(0, &timers));
+  CHECK(cordyceps_timers_start(&timers, 1, 2, &ticket));
   void *at = timers.at;
-  CHECK(!cordyceps_timers_new(&timers));
+  CHECK(!cordyceps_timers_new(0, &timers));
   CHECK(timers.at == at && cordyceps_timers_len(&timers) == 1);
   CHECK(cordyceps_timers_free(&timers));
   CHECK(!timers.at);
   CHECK(!cordyceps_timers_free(&timers));
+}
+
+static void queue_of_nothing(void) {
+  cordyceps_queue queue = {0};
+  cordyceps_ticket ticket = {1, 2, 3};
+  cordyceps_item item = {7, 8};
+  CHECK(!cordyceps_queue_push(&queue, 1, 2, &ticket));
+  CHECK(ticket.collection == 1 && ticket.slot == 2 && ticket.number == 3);
+  CHECK(!cordyceps_queue_pop(&queue, &item) && !cordyceps_queue_front(&queue, &item));
+  CHECK(!cordyceps_queue_remove(&queue, ticket, &item) && !cordyceps_queue_change(&queue, ticket, 1));
+  CHECK(item.key == 7 && item.payload == 8);
+  CHECK(cordyceps_queue_len(&queue) == 0 && !cordyceps_queue_free(&queue) && !queue.at);
+}
+
+static void queue_made_twice(void) {
+  cordyceps_queue queue = {0};
+  cordyceps_ticket ticket;
+  CHECK(cordyceps_queue_new(0, &queue) && cordyceps_queue_push(&queue, 1, 2, &ticket));
+  void *at = queue.at;
+  CHECK(!cordyceps_queue_new(0, &queue) && queue.at == at && cordyceps_queue_len(&queue) == 1);
+  CHECK(cordyceps_queue_free(&queue) && !queue.at && !cordyceps_queue_free(&queue));
 }
 
 static void inbox_of_nothing(void) {
@@ -86,6 +113,8 @@ static void pile_made_twice(void) {
 int main(void) {
   timers_of_nothing();
   timers_made_twice();
+  queue_of_nothing();
+  queue_made_twice();
   inbox_of_nothing();
   inbox_made_twice();
   pile_of_nothing();

@@ -28,19 +28,46 @@ static bool was_granted(void) {
 
 static void timers_refused(void) {
   cordyceps_timers timers = {0};
+  cordyceps_ticket ticket = {1, 2, 3};
   cordyceps_fired fired;
   refuse(0);
-  CHECK(!cordyceps_timers_new(&timers) && !timers.at && !was_granted());
-  CHECK(cordyceps_timers_new(&timers));
-  refuse(0);
-  CHECK(!cordyceps_timers_start(&timers, 1, 2) && !was_granted());
-  CHECK(cordyceps_timers_len(&timers) == 0);
+  CHECK(!cordyceps_timers_new(0, &timers) && !timers.at && !was_granted());
+  CHECK(cordyceps_timers_new(0, &timers));
+  /* the table of tickets, and the node */
+  for (long n = 0; n < 2; n++) {
+    refuse(n);
+    CHECK(!cordyceps_timers_start(&timers, 1, 2, &ticket) && !was_granted());
+    CHECK(cordyceps_timers_len(&timers) == 0 && ticket.number == 3);
+  }
   refuse(1);
-  CHECK(cordyceps_timers_start(&timers, 1, 2) && was_granted());
-  CHECK(cordyceps_timers_len(&timers) == 1);
+  CHECK(cordyceps_timers_start(&timers, 1, 2, &ticket) && was_granted());
+  CHECK(cordyceps_timers_len(&timers) == 1 && ticket.number == 1);
   refuse(0);
-  CHECK(cordyceps_timers_pop_due(&timers, 1, &fired) && fired.payload == 2);
+  CHECK(cordyceps_timers_restart(&timers, ticket, 3) && cordyceps_timers_stop(&timers, ticket, &fired));
+  CHECK(fired.deadline == 3 && fired.payload == 2 && was_granted());
+  CHECK(cordyceps_timers_start(&timers, 1, 4, &ticket));
+  refuse(0);
+  CHECK(cordyceps_timers_pop_due(&timers, 1, &fired) && fired.payload == 4);
   CHECK(cordyceps_timers_free(&timers) && was_granted());
+}
+
+static void queue_refused(void) {
+  cordyceps_queue queue = {0};
+  cordyceps_ticket ticket = {1, 2, 3};
+  cordyceps_item item;
+  refuse(0);
+  CHECK(!cordyceps_queue_new(0, &queue) && !queue.at && !was_granted());
+  CHECK(cordyceps_queue_new(0, &queue));
+  for (long n = 0; n < 2; n++) {
+    refuse(n);
+    CHECK(!cordyceps_queue_push(&queue, 1, 2, &ticket) && !was_granted());
+    CHECK(cordyceps_queue_len(&queue) == 0 && ticket.number == 3);
+  }
+  CHECK(cordyceps_queue_push(&queue, 1, 2, &ticket) && ticket.number == 1);
+  refuse(0);
+  CHECK(cordyceps_queue_change(&queue, ticket, 9) && cordyceps_queue_front(&queue, &item) && item.key == 9);
+  CHECK(cordyceps_queue_pop(&queue, &item) && item.payload == 2);
+  CHECK(cordyceps_queue_free(&queue) && was_granted());
 }
 
 static void inbox_refused(void) {
@@ -104,6 +131,7 @@ static void pile_refused(void) {
 
 int main(void) {
   timers_refused();
+  queue_refused();
   inbox_refused();
   pile_refused();
   return 0;
