@@ -29,6 +29,10 @@ pub record IsEnded (number slot : ℕ) (s t : Tickets) : Type 0 where
   pub gone : 0 < number → Updates s.slots t.slots slot None
   pub kept : number ≡ 0 → SameValues s.slots t.slots
 
+-- the ticket that no element has
+abbrev pub no_ticket : Ticket
+no_ticket = record { collection = 0; slot = 0; number = 0 }
+
 -- the ticket is a new one of a collection of this number, which had given so many
 abbrev pub IsGiven : (collection given : ℕ) → Ticket → Type 0
 IsGiven collection given k = (k.collection ≡ collection) × (k.number ≡ given + 1)

@@ -1,7 +1,7 @@
 //! Tickets, by which C names the elements of a collection.
 ghost use Rattle.std.specs.Prelude.{◌≡◌, [], IfSome, MatchOption, Some};
 ghost use Rattle.slab.specs.Slab.{SameValues, Updates};
-ghost use Rattle.cordyceps_c_base.specs.Tickets.{IsEnded, IsNext, Leads};
+ghost use Rattle.cordyceps_c_base.specs.Tickets.{IsEnded, IsNext, Leads, no_ticket};
 
 use cordyceps::Spot;
 use slab::Slab;
@@ -17,6 +17,19 @@ pub struct Ticket {
     pub slot: u32,
     /// How many tickets the collection had given then, with this one.
     pub number: u64,
+}
+
+impl Ticket {
+    /// Returns the ticket that no element has.
+    pub fn none() -> Ticket
+        ensures { result ≡ no_ticket }
+    {
+        Ticket {
+            collection: 0,
+            slot: 0,
+            number: 0,
+        }
+    }
 }
 
 /// What is in a slot: which ticket it was given to, and where the element is.

@@ -9,19 +9,19 @@ use Rattle.cordyceps.specs.Elements.Nodes.{Nodes, spots}
 use Rattle.cordyceps.specs.Orders.Arrangement.{IsEarliestLeast}
 use Rattle.cordyceps.specs.Spots.Agreeing.{HasElementAt}
 use Rattle.cordyceps.specs.Spots.Arranged.{precedes}
-use Rattle.cordyceps.specs.Spots.BySpot.{IsTaken}
+use Rattle.cordyceps.specs.Spots.BySpot.{HasSpot, IsTaken}
 use Rattle.cordyceps.specs.Spots.Clock.{Holds, rounded}
 use Rattle.cordyceps.specs.Spots.Spots.{AreDistinct}
 use Rattle.cordyceps.proofs.Spots.Classes.{all_back}
-use Rattle.cordyceps.proofs.Spots.Valid.{permuted_is_at}
+use Rattle.cordyceps.proofs.Spots.Valid.{permuted_is_at, permuted_keeps}
 use Rattle.cordyceps_c_base.specs.declared.tickets.Ticket.{Ticket}
 use Rattle.cordyceps_c_base.specs.declared.tickets.Tickets.{Tickets}
-use Rattle.cordyceps_c_base.specs.Tickets.{Bears, Fit, Leads, NoneBears}
+use Rattle.cordyceps_c_base.specs.Tickets.{Fit, Leads, NoneBears, no_ticket}
 use Rattle.cordyceps_c_base.proofs.Fitting.{bears_at, none_bears}
 use Rattle.cordyceps_c_timers.specs.Arranged.{InOrder, arranged, placed}
 use Rattle.cordyceps_c_timers.specs.declared.timers.Fired.{Fired}
 use Rattle.cordyceps_c_timers.specs.declared.timers.Timer.{Timer}
-use Rattle.cordyceps_c_timers.specs.Timers.{due_of, fired_of, new_timer, slot_of, with_deadline, Bounds, Fires, IsBound, NoneFires, Restarts, Running, Starts, Stops}
+use Rattle.cordyceps_c_timers.specs.Timers.{due_of, fired_of, new_timer, slot_of, with_deadline, Bounds, Fires, IsBound, NoneFires, Restarts, RestartsAt, Running, Starts, StartsAt, Stops, StopsAt}
 use Rattle.cordyceps_c_timers.proofs.Arranging.{all_of, changed, comes, in_order, kept, popped, pushed, removed, stayed}
 use Rattle.cordyceps_c_timers.proofs.Placing.{by_number}
 
@@ -59,6 +59,23 @@ module _ (c d : Nodes Timer) (now later : ℕ) (s t : Tickets) where
     kept = λ i. record { nodes = arranged due_of d; clock = same i; collection = coll i; given = given i };
   }
 
+  pub starts_at : (p : Ptr) (e : Element Timer) (deadline payload : ℕ) → e ≡ new_timer now deadline payload no_ticket → later ≡ now
+      → ((a : Nodes Timer) → Held c a → Held d (a ++ (p, e) ∷ []))
+      → StartsAt deadline payload (Some p) (seen c now s) (seen d later s)
+  starts_at p e deadline payload is same h =
+      let put = pushed due_of c d (Held c) (Held d) (comes due_of c) (comes due_of d) p e h ∙ ap (λ x. placed due_of p x (arranged due_of c)) is in
+      λ i. record { nodes = put i; clock = same i; collection = s.collection; given = s.given }
+
+  pub stops_at : (p : Ptr) (e : Element Timer) (f : Fired) → f ≡ fired_of e → later ≡ now → t.collection ≡ s.collection → t.given ≡ s.given
+      → ((a : Nodes Timer) → Held c a → (rest : Nodes Timer) × (IsTaken a p e rest × Held d rest))
+      → StopsAt p f (seen c now s) (seen d later t)
+  stops_at p e f is same coll given h = (
+    e,
+    removed due_of c d (Held c) (Held d) (comes due_of c) (comes due_of d) p e h,
+    is,
+    λ i. record { nodes = arranged due_of d; clock = same i; collection = coll i; given = given i },
+  )
+
   pub fires : (until : ℕ) (p : Ptr) (e : Element Timer) (f : Fired) → f ≡ fired_of e → later ≡ e.value.due → e.value.due ≤ until
       → t.collection ≡ s.collection → t.given ≡ s.given
       → ((a : Nodes Timer) → Held c a → (rest : Nodes Timer) × (IsEarliestLeast (precedes (by_number due_of)) a (p, e) rest × Held d rest))
@@ -95,6 +112,18 @@ restarts c d now later s p e w rest k deadline fit distinct leads taken is same 
       taken = was;
       put = λ i. record { nodes = all i; clock = same i; collection = s.collection; given = s.given };
     }
+
+pub restarts_at : (c d : Nodes Timer) (now later : ℕ) (s : Tickets) (p : Ptr) (e w : Element Timer) (deadline : ℕ)
+    → w ≡ with_deadline now deadline e → later ≡ now
+    → ((a : Nodes Timer) → Held c a → (left : Nodes Timer) × (IsTaken a p e left × Held d (left ++ (p, w) ∷ [])))
+    → RestartsAt p deadline (seen c now s) (seen d later s)
+restarts_at c d now later s p e w deadline is same h =
+    let (others, was, put) = changed due_of c d (Held c) (Held d) (comes due_of c) (comes due_of d) p e w h in
+    let all = put ∙ ap (λ x. placed due_of p x others) is in (e, others, was, λ i. record { nodes = all i; clock = same i; collection = s.collection; given = s.given })
+
+-- a timer that is seen is in the queue
+pub runs_at : (c : Nodes Timer) (p : Ptr) → HasSpot (arranged due_of c) p → HasSpot c p
+runs_at c p there = permuted_keeps (arranged due_of c) c (kept due_of c) p there
 
 -- ---- the time until which nobody has to look
 module _ (now time : ℕ) where

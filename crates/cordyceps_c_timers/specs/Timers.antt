@@ -7,7 +7,7 @@ use Rattle.cordyceps.specs.Elements.Nodes.{Nodes}
 use Rattle.cordyceps.specs.Spots.BySpot.{IsTaken}
 use Rattle.cordyceps.specs.Spots.Clock.{rounded}
 use Rattle.cordyceps_c_base.specs.declared.tickets.Ticket.{Ticket}
-use Rattle.cordyceps_c_base.specs.Tickets.{Bears, IsGiven, NoneBears}
+use Rattle.cordyceps_c_base.specs.Tickets.{Bears, IsGiven, NoneBears, no_ticket}
 use Rattle.cordyceps_c_timers.specs.Arranged.{placed}
 use Rattle.cordyceps_c_timers.specs.declared.timers.Fired.{Fired}
 use Rattle.cordyceps_c_timers.specs.declared.timers.Timer.{Timer}
@@ -77,6 +77,26 @@ pub record IsRestarted (k : Ticket) (d : ℕ) (t u : Running) : Type 0 where
 abbrev pub Restarts : Ticket → (deadline : ℕ) → Bool → Running → Running → Type 0
 Restarts k d is_restarted t u =
     MatchBool is_restarted (IsRestarted k d t u) (NoneBears slot_of t.collection k t.nodes × (u ≡ t))
+
+-- The same by the place of a node, which nothing checks.
+
+-- a timer without a ticket was started, or all is as it was
+abbrev pub StartsAt : (deadline payload : ℕ) → Option Ptr → Running → Running → Type 0
+StartsAt d p None t u = u ≡ t
+StartsAt d p (Some spot) t u =
+    u ≡ record t { nodes = placed due_of spot (new_timer t.clock d p no_ticket) t.nodes }
+
+-- the timer at the spot was taken out
+abbrev pub StopsAt : Ptr → Fired → Running → Running → Type 0
+StopsAt spot f t u =
+    (timer : Element Timer) × IsTaken t.nodes spot timer u.nodes × (f ≡ fired_of timer)
+    × (u ≡ record t { nodes = u.nodes })
+
+-- the timer at the spot got another deadline, as if it were started now
+abbrev pub RestartsAt : Ptr → (deadline : ℕ) → Running → Running → Type 0
+RestartsAt spot d t u =
+    (timer : Element Timer) × (others : Nodes Timer) × IsTaken t.nodes spot timer others
+    × (u ≡ record t { nodes = placed due_of spot (with_deadline t.clock d timer) others })
 
 -- the first timer fired, at the time `now` or before, and came out; its time is the clock
 pub record Fires (now : ℕ) (f : Fired) (t u : Running) : Type 0 where

@@ -1,0 +1,33 @@
+use Rattle.std.proofs.Common.{◌≡◌, max, refl, ap, sym, ◌∙◌, subst}
+use Rattle.cordyceps.specs.Spots.BySpot.{HasSpot}
+use Rattle.cordyceps_c_base.proofs.Fitting.{changed_fits}
+use Rattle.cordyceps_c_timers.specs.declared.timers.Timer.{Timer}
+use Rattle.cordyceps_c_timers.specs.Timers.{RestartsAt, Running, due_of, slot_of, with_deadline}
+use Rattle.cordyceps_c_timers.proofs.TimersSaid.{restarts_at, runs_at, seen}
+use Rattle.cordyceps_c_timers.proofs.timers.Timers.restart_unchecked.Goals as goal
+
+pub update-requires-clause-there : goal.update-requires-clause-there
+update-requires-clause-there c = runs_at c.self.inside.queue.nodes c.args.at (subst (λ (t : Running). HasSpot t.nodes c.args.at) (sym c.self.view_is) c.requires)
+
+pub invariant_of-self : goal.invariant_of-self
+invariant_of-self c =
+    let was = c.self.inside in let (e, w, rest, returns, taken, put, _) = c.update.ensures.changed in let (_, (_, (_, slot))) = returns.met in
+    changed_fits slot_of was.tickets was.queue.nodes c.update.new.self.nodes rest c.args.at e (record { id = e.id; value = w }) c.self.invariant taken put refl
+    (ap slot_of (sym returns.leaves) ∙ slot ∙ ap slot_of returns.shows)
+
+pub returns : goal.returns
+returns c =
+    let was = c.self.inside in let new = c.update.new.self in let (e, w, rest, returns, taken, _, arrivals) = c.update.ensures.changed in
+    let (due, (deadline, (payload, slot))) = returns.met in let left = sym returns.leaves in
+    let is : record { id = e.id; value = w } ≡ with_deadline was.queue.clock c.args.deadline e =
+    λ i. record {
+      id = e.id;
+      value = record {
+        due = (ap due_of left ∙ due ∙ c.max-due.ensures ∙ ap (max c.args.deadline) c.now.ensures) i;
+        deadline = (ap (λ (t : Timer). t.deadline) left ∙ deadline) i;
+        payload = (ap (λ (t : Timer). t.payload) left ∙ payload ∙ ap (λ (t : Timer). t.payload) returns.shows) i;
+        slot = (ap slot_of left ∙ slot ∙ ap slot_of returns.shows) i;
+      };
+    } in
+    subst (λ (t : Running). RestartsAt c.args.at c.args.deadline t (seen new.nodes new.clock was.tickets)) c.self.view_is
+    (restarts_at was.queue.nodes new.nodes was.queue.clock new.clock was.tickets c.args.at e (record { id = e.id; value = w }) c.args.deadline is c.update.ensures.now (λ a h. arrivals due_of a refl h))
