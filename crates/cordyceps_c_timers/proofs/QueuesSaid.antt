@@ -7,20 +7,20 @@ use Rattle.cordyceps.specs.Elements.Nodes.{Nodes, spots}
 use Rattle.cordyceps.specs.Orders.Arrangement.{IsEarliestLeast}
 use Rattle.cordyceps.specs.Orders.ByKey.{by_key}
 use Rattle.cordyceps.specs.Spots.Arranged.{precedes}
-use Rattle.cordyceps.specs.Spots.BySpot.{IsTaken}
+use Rattle.cordyceps.specs.Spots.BySpot.{HasSpot, IsTaken}
 use Rattle.cordyceps.specs.Spots.DoubleLines.{flat}
 use Rattle.cordyceps.specs.Spots.Heap.{Holds}
 use Rattle.cordyceps.specs.Spots.Spots.{AreDistinct}
 use Rattle.cordyceps.proofs.Spots.Arrivals.{Stands, first_of}
-use Rattle.cordyceps.proofs.Spots.Valid.{permuted_is_at}
+use Rattle.cordyceps.proofs.Spots.Valid.{permuted_is_at, permuted_keeps}
 use Rattle.cordyceps_c_base.specs.declared.tickets.Ticket.{Ticket}
 use Rattle.cordyceps_c_base.specs.declared.tickets.Tickets.{Tickets}
-use Rattle.cordyceps_c_base.specs.Tickets.{Fit, IsEnded, Leads, NoneBears}
+use Rattle.cordyceps_c_base.specs.Tickets.{Fit, Leads, NoneBears, no_ticket}
 use Rattle.cordyceps_c_base.proofs.Fitting.{bears_at, none_bears}
 use Rattle.cordyceps_c_timers.specs.Arranged.{arranged, placed}
 use Rattle.cordyceps_c_timers.specs.declared.queue.Item.{Item}
 use Rattle.cordyceps_c_timers.specs.declared.queue.Ranked.{Ranked}
-use Rattle.cordyceps_c_timers.specs.Queues.{AreKept, Changes, Pops, Pushes, Queued, Removes, item_of, key_of, new_item, slot_of, with_key}
+use Rattle.cordyceps_c_timers.specs.Queues.{Changes, ChangesAt, Pops, Pushes, PushesAt, Queued, Removes, RemovesAt, item_of, key_of, new_item, slot_of, with_key}
 use Rattle.cordyceps_c_timers.proofs.Arranging.{changed, comes_of_heap, kept, popped, pushed, removed, stayed}
 use Rattle.cordyceps_c_timers.proofs.Placing.{by_number, lawful}
 
@@ -97,6 +97,35 @@ module _ (ls ms : Lines) (s t : Tickets) (a b : Nodes Ranked) (held : Held ls a)
         taken = out;
         put = λ i. record { nodes = all i; collection = s.collection; given = s.given };
       }
+
+  -- the same by spots
+  pub pushes_at : (p : Ptr) (e : Element Ranked) (key payload : ℕ) → e ≡ new_item key payload no_ticket
+      → ((x : Nodes Ranked) → Held ls x → Held ms (x ++ (p, e) ∷ []))
+      → PushesAt key payload (Some p) (seen ls s) (seen ms s)
+  pushes_at p e key payload is h =
+      let put = pushed key_of (flat ls) (flat ms) (Held ls) (Held ms) was is_left p e h ∙ ap (λ x. placed key_of p x (arranged key_of (flat ls))) is in
+      λ i. record { nodes = put i; collection = s.collection; given = s.given }
+
+  pub removes_at : (p : Ptr) (e : Element Ranked) (f : Item) → f ≡ item_of e → t.collection ≡ s.collection → t.given ≡ s.given
+      → ((x : Nodes Ranked) → Held ls x → (rest : Nodes Ranked) × (IsTaken x p e rest × Held ms rest))
+      → RemovesAt p f (seen ls s) (seen ms t)
+  removes_at p e f is coll given h = (
+    e,
+    removed key_of (flat ls) (flat ms) (Held ls) (Held ms) was is_left p e h,
+    is,
+    λ i. record { nodes = arranged key_of (flat ms); collection = coll i; given = given i },
+  )
+
+  pub changes_at : (p : Ptr) (e w : Element Ranked) (key : ℕ) → w ≡ with_key key e
+      → ((x : Nodes Ranked) → Held ls x → (r : Nodes Ranked) × (IsTaken x p e r × Held ms (r ++ (p, w) ∷ [])))
+      → ChangesAt p key (seen ls s) (seen ms s)
+  changes_at p e w key is h =
+      let (others, out, put) = changed key_of (flat ls) (flat ms) (Held ls) (Held ms) was is_left p e w h in
+      let all = put ∙ ap (λ x. placed key_of p x others) is in (e, others, out, λ i. record { nodes = all i; collection = s.collection; given = s.given })
+
+-- an item that is seen is in the heap
+pub waits_at : (c : Nodes Ranked) (p : Ptr) → HasSpot (arranged key_of c) p → HasSpot c p
+waits_at c p there = permuted_keeps (arranged key_of c) c (kept key_of c) p there
 
 -- the first of the items
 pub first : (ls : Lines) (s : Tickets) (a : Nodes Ranked) → Held ls a → (x : Ptr × Element Ranked)

@@ -10,7 +10,7 @@ use Rattle.cordyceps.specs.Spots.DoubleLines.{flat}
 use Rattle.cordyceps.specs.Spots.Heap.{Holds}
 use Rattle.cordyceps_c_base.specs.declared.tickets.Ticket.{Ticket}
 use Rattle.cordyceps_c_base.specs.declared.tickets.Tickets.{Tickets}
-use Rattle.cordyceps_c_base.specs.Tickets.{Bears, Fit, IsGiven, NoneBears}
+use Rattle.cordyceps_c_base.specs.Tickets.{Bears, Fit, IsGiven, NoneBears, no_ticket}
 use Rattle.cordyceps_c_timers.specs.Arranged.{placed}
 use Rattle.cordyceps_c_timers.specs.declared.queue.Item.{Item}
 use Rattle.cordyceps_c_timers.specs.declared.queue.Ranked.{Ranked}
@@ -90,3 +90,23 @@ pub record IsChanged (k : Ticket) (key : ℕ) (t u : Queued) : Type 0 where
 abbrev pub Changes : Ticket → (key : ℕ) → Bool → Queued → Queued → Type 0
 Changes k key is_changed t u =
     MatchBool is_changed (IsChanged k key t u) (NoneBears slot_of t.collection k t.nodes × (u ≡ t))
+
+-- The same by the place of a node, which nothing checks.
+
+-- an item without a ticket was pushed, or all is as it was
+abbrev pub PushesAt : (key payload : ℕ) → Option Ptr → Queued → Queued → Type 0
+PushesAt key p None t u = u ≡ t
+PushesAt key p (Some spot) t u =
+    u ≡ record t { nodes = placed key_of spot (new_item key p no_ticket) t.nodes }
+
+-- the item at the spot came out
+abbrev pub RemovesAt : Ptr → Item → Queued → Queued → Type 0
+RemovesAt spot item t u =
+    (ranked : Element Ranked) × IsTaken t.nodes spot ranked u.nodes × (item ≡ item_of ranked)
+    × (u ≡ record t { nodes = u.nodes })
+
+-- the item at the spot got another key, as if it were pushed now
+abbrev pub ChangesAt : Ptr → (key : ℕ) → Queued → Queued → Type 0
+ChangesAt spot key t u =
+    (ranked : Element Ranked) × (others : Nodes Ranked) × IsTaken t.nodes spot ranked others
+    × (u ≡ record t { nodes = placed key_of spot (with_key key ranked) others })
