@@ -24,6 +24,7 @@
  * - One call at a time is made on a handle. Another thread may make the next one, if a lock, the start or the join
  *   of a thread, or a sequentially consistent atomic lies between the two. Calls on different handles may run at the
  *   same time, also where these are of one inbox or one pile.
+ * - A spot is of the collection that gets it, and its element is still in it.
  * - No call is made from a signal handler, or in the child of a fork of a process with threads.
  * - malloc, realloc and free are of one allocator. malloc and realloc align a block to each power of two up to 16
  *   that divides its size.
@@ -52,6 +53,13 @@ typedef struct {
   uint32_t slot;       /* where the collection finds the element */
   uint64_t number;     /* how many tickets it had given then, with this one */
 } cordyceps_ticket;
+
+/* Where an element of a collection is, for the calls whose names end in _unchecked. The caller keeps that the element
+ * is still in that collection: nothing checks it, and a stale spot is as bad as a pointer to freed memory. These calls
+ * take no ticket and no table, so they are the quicker ones. A spot stays the same until the element comes out. */
+typedef struct {
+  void *at;
+} cordyceps_spot;
 
 /* ---- Timers, which fire by their deadlines */
 
@@ -83,6 +91,19 @@ bool cordyceps_timers_stop(cordyceps_timers *timers, cordyceps_ticket timer, cor
 /* Gives another deadline to the timer that has the ticket, as if it were started now. The ticket stays valid. false: no
  * timer has it, or the handle is of nothing; nothing has changed. O(1). */
 bool cordyceps_timers_restart(cordyceps_timers *timers, cordyceps_ticket timer, uint64_t deadline);
+
+/* As cordyceps_timers_start, without a ticket: writes the spot of the timer to *out. false: memory was refused, SIZE_MAX
+ * timers run, or the handle is of nothing; nothing has changed. O(1), one malloc. */
+bool cordyceps_timers_start_unchecked(cordyceps_timers *timers, uint64_t deadline, uint64_t payload, cordyceps_spot *out);
+
+/* Removes the timer at a spot into *out. false: the handle is of nothing; nothing has changed. O(1), one free. The
+ * caller keeps that the spot is of these timers and that its timer still runs. */
+bool cordyceps_timers_stop_unchecked(cordyceps_timers *timers, cordyceps_spot timer, cordyceps_fired *out);
+
+/* Gives another deadline to the timer at a spot, as if it were started now. The spot stays the same. false: the handle
+ * is of nothing; nothing has changed. O(1). The caller keeps that the spot is of these timers and that its timer still
+ * runs. */
+bool cordyceps_timers_restart_unchecked(cordyceps_timers *timers, cordyceps_spot timer, uint64_t deadline);
 
 /* Removes the first timer into *out, if it fires at the time `now` or before. The clock is then the time at which
  * it fired. false: none fires by then, and the clock is `now`, unless it is later; or the handle is of nothing.
@@ -139,6 +160,19 @@ bool cordyceps_queue_remove(cordyceps_queue *queue, cordyceps_ticket item, cordy
 /* Gives another key to the item that has the ticket, as if it were pushed now. The ticket stays valid. false: no item
  * has it, or the handle is of nothing; nothing has changed. O(1). */
 bool cordyceps_queue_change(cordyceps_queue *queue, cordyceps_ticket item, uint64_t key);
+
+/* As cordyceps_queue_push, without a ticket: writes the spot of the item to *out. false: memory was refused, the queue
+ * has SIZE_MAX items, or the handle is of nothing; nothing has changed. O(1), one malloc. */
+bool cordyceps_queue_push_unchecked(cordyceps_queue *queue, uint64_t key, uint64_t payload, cordyceps_spot *out);
+
+/* Removes the item at a spot into *out. false: the handle is of nothing; nothing has changed. O(1), one free. The caller
+ * keeps that the spot is of this queue and that its item is still in it. */
+bool cordyceps_queue_remove_unchecked(cordyceps_queue *queue, cordyceps_spot item, cordyceps_item *out);
+
+/* Gives another key to the item at a spot, as if it were pushed now. The spot stays the same. false: the handle is of
+ * nothing; nothing has changed. O(1). The caller keeps that the spot is of this queue and that its item is still in
+ * it. */
+bool cordyceps_queue_change_unchecked(cordyceps_queue *queue, cordyceps_spot item, uint64_t key);
 
 /* How many items there are; 0 for the handle of nothing. O(1). */
 size_t cordyceps_queue_len(cordyceps_queue *queue);

@@ -5,7 +5,11 @@ static void timers_of_nothing(void) {
   cordyceps_timers timers = {0};
   cordyceps_ticket ticket = {1, 2, 3};
   cordyceps_fired fired = {7, 8};
+  cordyceps_spot spot = {NULL};
   uint64_t until = 9;
+  CHECK(!cordyceps_timers_start_unchecked(&timers, 1, 2, &spot) && !spot.at);
+  CHECK(!cordyceps_timers_stop_unchecked(&timers, spot, &fired));
+  CHECK(!cordyceps_timers_restart_unchecked(&timers, spot, 1));
   CHECK(!cordyceps_timers_start(&timers, 1, 2, &ticket));
   CHECK(ticket.collection == 1 && ticket.slot == 2 && ticket.number == 3);
   CHECK(!cordyceps_timers_stop(&timers, ticket, &fired) && !cordyceps_timers_restart(&timers, ticket, 1));
@@ -34,6 +38,9 @@ static void queue_of_nothing(void) {
   cordyceps_queue queue = {0};
   cordyceps_ticket ticket = {1, 2, 3};
   cordyceps_item item = {7, 8};
+  cordyceps_spot spot = {NULL};
+  CHECK(!cordyceps_queue_push_unchecked(&queue, 1, 2, &spot) && !spot.at);
+  CHECK(!cordyceps_queue_remove_unchecked(&queue, spot, &item) && !cordyceps_queue_change_unchecked(&queue, spot, 1));
   CHECK(!cordyceps_queue_push(&queue, 1, 2, &ticket));
   CHECK(ticket.collection == 1 && ticket.slot == 2 && ticket.number == 3);
   CHECK(!cordyceps_queue_pop(&queue, &item) && !cordyceps_queue_front(&queue, &item));

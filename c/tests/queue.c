@@ -36,6 +36,22 @@ static void ticket_of_another(void) {
   CHECK(cordyceps_queue_free(&other) && cordyceps_queue_free(&own));
 }
 
+static void by_spot(void) {
+  cordyceps_queue queue = {0};
+  cordyceps_spot first, second;
+  cordyceps_ticket ticket;
+  cordyceps_item item;
+  CHECK(cordyceps_queue_new(0, &queue));
+  CHECK(cordyceps_queue_push_unchecked(&queue, 1, 1, &first) && cordyceps_queue_push_unchecked(&queue, 2, 2, &second));
+  CHECK(cordyceps_queue_push(&queue, 3, 3, &ticket) && ticket.number == 1);
+  CHECK(cordyceps_queue_change_unchecked(&queue, first, 4) && cordyceps_queue_len(&queue) == 3);
+  CHECK(cordyceps_queue_remove_unchecked(&queue, second, &item) && item.key == 2 && item.payload == 2);
+  CHECK(cordyceps_queue_pop(&queue, &item) && item.key == 3 && item.payload == 3);
+  CHECK(cordyceps_queue_pop(&queue, &item) && item.key == 4 && item.payload == 1);
+  CHECK(!cordyceps_queue_remove(&queue, ticket, &item) && cordyceps_queue_len(&queue) == 0);
+  CHECK(cordyceps_queue_free(&queue));
+}
+
 enum { WAITING = 64 };
 
 /* Calls by chance, beside an array that is searched. */
@@ -90,6 +106,7 @@ static void beside_an_array(size_t calls) {
 int main(int argc, char **argv) {
   each_answer();
   ticket_of_another();
+  by_spot();
   beside_an_array(argc > 1 ? strtoul(argv[1], NULL, 10) : 1000000);
   return 0;
 }

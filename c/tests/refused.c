@@ -47,6 +47,9 @@ static void timers_refused(void) {
   CHECK(fired.deadline == 3 && fired.payload == 2 && was_granted());
   CHECK(cordyceps_timers_start(&timers, 1, 4, &ticket));
   refuse(0);
+  cordyceps_spot spot = {NULL};
+  CHECK(!cordyceps_timers_start_unchecked(&timers, 1, 5, &spot) && !spot.at && !was_granted());
+  refuse(0);
   CHECK(cordyceps_timers_pop_due(&timers, 1, &fired) && fired.payload == 4);
   CHECK(cordyceps_timers_free(&timers) && was_granted());
 }
@@ -63,6 +66,9 @@ static void queue_refused(void) {
     CHECK(!cordyceps_queue_push(&queue, 1, 2, &ticket) && !was_granted());
     CHECK(cordyceps_queue_len(&queue) == 0 && ticket.number == 3);
   }
+  cordyceps_spot spot = {NULL};
+  refuse(0);
+  CHECK(!cordyceps_queue_push_unchecked(&queue, 1, 3, &spot) && !spot.at && !was_granted());
   CHECK(cordyceps_queue_push(&queue, 1, 2, &ticket) && ticket.number == 1);
   refuse(0);
   CHECK(cordyceps_queue_change(&queue, ticket, 9) && cordyceps_queue_front(&queue, &item) && item.key == 9);

@@ -108,6 +108,23 @@ static void ticket_of_another(void) {
   CHECK(cordyceps_timers_free(&other) && cordyceps_timers_free(&own));
 }
 
+static void by_spot(void) {
+  cordyceps_timers timers = {0};
+  cordyceps_spot first, second;
+  cordyceps_ticket ticket;
+  cordyceps_fired fired;
+  CHECK(cordyceps_timers_new(0, &timers));
+  CHECK(cordyceps_timers_start_unchecked(&timers, 10, 1, &first));
+  CHECK(cordyceps_timers_start_unchecked(&timers, 20, 2, &second));
+  CHECK(cordyceps_timers_start(&timers, 15, 3, &ticket) && ticket.number == 1);
+  CHECK(cordyceps_timers_restart_unchecked(&timers, first, 30) && cordyceps_timers_len(&timers) == 3);
+  CHECK(cordyceps_timers_stop_unchecked(&timers, second, &fired) && fired.deadline == 20 && fired.payload == 2);
+  CHECK(cordyceps_timers_pop_due(&timers, 30, &fired) && fired.deadline == 15 && fired.payload == 3);
+  CHECK(cordyceps_timers_pop_due(&timers, 30, &fired) && fired.deadline == 30 && fired.payload == 1);
+  CHECK(!cordyceps_timers_stop(&timers, ticket, &fired) && cordyceps_timers_len(&timers) == 0);
+  CHECK(cordyceps_timers_free(&timers));
+}
+
 /* What is said to be no time is not one at which a timer fires, and those who wait for it get there. */
 static void until_the_next(void) {
   cordyceps_timers timers = {0};
@@ -181,6 +198,7 @@ int main(int argc, char **argv) {
   passed_deadline();
   by_ticket();
   ticket_of_another();
+  by_spot();
   until_the_next();
   beside_a_sorted_array();
   beside_an_array(argc > 1 ? strtoul(argv[1], NULL, 10) : 1000000);

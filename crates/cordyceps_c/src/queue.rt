@@ -1,7 +1,9 @@
 //! The calls of priority queues.
-ghost use Rattle.std.specs.Prelude.{◌≡◌, [], length, true, false, Some, None, MatchBool, MatchOption};
-ghost use Rattle.cordyceps_c_timers.specs.Queues.{Changes, IsFirst, Pops, Pushes, Queued, Removes};
+ghost use Rattle.std.specs.Prelude.{◌≡◌, [], length, true, false, Some, None, MatchBool, MatchOption, ⊤};
+ghost use Rattle.cordyceps.specs.Spots.BySpot.{HasSpot};
+ghost use Rattle.cordyceps_c_timers.specs.Queues.{Changes, ChangesAt, IsFirst, Pops, Pushes, PushesAt, Queued, Removes, RemovesAt};
 
+use cordyceps::Spot;
 use cordyceps_c_base::out::write_found;
 use cordyceps_c_base::tickets::Ticket;
 use cordyceps_c_timers::queue::{Item, Queue};
@@ -155,6 +157,84 @@ pub extern "C" fn cordyceps_queue_change(
     let is_changed = held.change(item, key);
     queue.put(held);
     is_changed
+}
+
+/// Inserts an item without a ticket, writes its spot to `*out` and returns `true`. It comes out as one that
+/// `cordyceps_queue_push` inserts. Returns `false` if memory is refused, the queue has `SIZE_MAX` items, or the handle is
+/// of nothing, and changes nothing then.
+///
+/// # Complexity
+/// O(1), without a comparison, with one allocation.
+#[unsafe(no_mangle)]
+pub extern "C" fn cordyceps_queue_push_unchecked(
+    alloc: Global,
+    queue: &mut QueueHandle,
+    key: u64,
+    payload: u64,
+    out: &mut Spot,
+) -> bool
+    ensures { MatchOption queue.old.held
+        ((result ≡ false) × (queue.new.held ≡ None) × (out.new ≡ out.old))
+        (λ q. (r : Queued) × (queue.new.held ≡ Some r)
+        × MatchBool result (PushesAt key payload (Some out.new) q r)
+        ((out.new ≡ out.old) × PushesAt key payload None q r)) }
+{
+    let Some(mut held) = queue.take(alloc) else {
+        return false;
+    };
+    let spot = held.push_unchecked(alloc, key, payload);
+    queue.put(held);
+    write_found(out, spot)
+}
+
+/// Removes the item at a spot into `*out` and returns `true`. Returns `false` if the handle is of nothing, and changes
+/// nothing then. Requires that an item of the queue is there.
+///
+/// # Complexity
+/// O(1), without a comparison. Frees one block.
+#[unsafe(no_mangle)]
+pub extern "C" fn cordyceps_queue_remove_unchecked(
+    alloc: Global,
+    queue: &mut QueueHandle,
+    item: Spot,
+    out: &mut Item,
+) -> bool
+    requires { MatchOption queue.old.held ⊤ (λ q. HasSpot q.nodes item) }
+    ensures { MatchOption queue.old.held
+        ((result ≡ false) × (queue.new.held ≡ None) × (out.new ≡ out.old))
+        (λ q. (r : Queued) × (queue.new.held ≡ Some r) × (result ≡ true) × RemovesAt item out.new q r) }
+{
+    let Some(mut held) = queue.take(alloc) else {
+        return false;
+    };
+    *out = held.remove_unchecked(item);
+    queue.put(held);
+    true
+}
+
+/// Gives another key to the item at a spot, as if it were pushed now, and returns `true`. Returns `false` if the handle is
+/// of nothing, and changes nothing then. Requires that an item of the queue is there.
+///
+/// # Complexity
+/// O(1), without a comparison and without an allocation.
+#[unsafe(no_mangle)]
+pub extern "C" fn cordyceps_queue_change_unchecked(
+    alloc: Global,
+    queue: &mut QueueHandle,
+    item: Spot,
+    key: u64,
+) -> bool
+    requires { MatchOption queue.old.held ⊤ (λ q. HasSpot q.nodes item) }
+    ensures { MatchOption queue.old.held
+        ((result ≡ false) × (queue.new.held ≡ None))
+        (λ q. (r : Queued) × (queue.new.held ≡ Some r) × (result ≡ true) × ChangesAt item key q r) }
+{
+    let Some(mut held) = queue.take(alloc) else {
+        return false;
+    };
+    held.change_unchecked(item, key);
+    queue.put(held);
+    true
 }
 
 /// Returns the number of items, which is 0 for the handle of nothing.

@@ -1,7 +1,10 @@
 //! The calls of timers.
-ghost use Rattle.std.specs.Prelude.{◌≡◌, [], length, true, false, Some, None, MatchBool, MatchOption};
+ghost use Rattle.std.specs.Prelude.{◌≡◌, [], length, true, false, Some, None, MatchBool, MatchOption, ⊤};
+ghost use Rattle.cordyceps.specs.Spots.BySpot.{HasSpot};
 ghost use Rattle.cordyceps_c_timers.specs.Timers.{Bounds, Running, Starts, Stops, Restarts, Fires, NoneFires};
+ghost use Rattle.cordyceps_c_timers.specs.Timers.{StartsAt, StopsAt, RestartsAt};
 
+use cordyceps::Spot;
 use cordyceps_c_base::out::write_found;
 use cordyceps_c_base::tickets::Ticket;
 use cordyceps_c_timers::timers::{Fired, Timers};
@@ -111,6 +114,84 @@ pub extern "C" fn cordyceps_timers_restart(
     let is_restarted = held.restart(timer, deadline);
     timers.put(held);
     is_restarted
+}
+
+/// Starts a timer without a ticket, writes its spot to `*out` and returns `true`. It fires as one that
+/// `cordyceps_timers_start` starts. Returns `false` if memory is refused, `SIZE_MAX` timers run, or the handle is of
+/// nothing, and changes nothing then.
+///
+/// # Complexity
+/// O(1), with one allocation.
+#[unsafe(no_mangle)]
+pub extern "C" fn cordyceps_timers_start_unchecked(
+    alloc: Global,
+    timers: &mut TimersHandle,
+    deadline: u64,
+    payload: u64,
+    out: &mut Spot,
+) -> bool
+    ensures { MatchOption timers.old.held
+        ((result ≡ false) × (timers.new.held ≡ None) × (out.new ≡ out.old))
+        (λ t. (u : Running) × (timers.new.held ≡ Some u)
+        × MatchBool result (StartsAt deadline payload (Some out.new) t u)
+        ((out.new ≡ out.old) × StartsAt deadline payload None t u)) }
+{
+    let Some(mut held) = timers.take(alloc) else {
+        return false;
+    };
+    let spot = held.start_unchecked(alloc, deadline, payload);
+    timers.put(held);
+    write_found(out, spot)
+}
+
+/// Removes the timer at a spot into `*out` and returns `true`. Returns `false` if the handle is of nothing, and changes
+/// nothing then. Requires that a timer of these runs there.
+///
+/// # Complexity
+/// O(1). Frees one block.
+#[unsafe(no_mangle)]
+pub extern "C" fn cordyceps_timers_stop_unchecked(
+    alloc: Global,
+    timers: &mut TimersHandle,
+    timer: Spot,
+    out: &mut Fired,
+) -> bool
+    requires { MatchOption timers.old.held ⊤ (λ t. HasSpot t.nodes timer) }
+    ensures { MatchOption timers.old.held
+        ((result ≡ false) × (timers.new.held ≡ None) × (out.new ≡ out.old))
+        (λ t. (u : Running) × (timers.new.held ≡ Some u) × (result ≡ true) × StopsAt timer out.new t u) }
+{
+    let Some(mut held) = timers.take(alloc) else {
+        return false;
+    };
+    *out = held.stop_unchecked(timer);
+    timers.put(held);
+    true
+}
+
+/// Gives another deadline to the timer at a spot, as if it were started now, and returns `true`. Returns `false` if the
+/// handle is of nothing, and changes nothing then. Requires that a timer of these runs there.
+///
+/// # Complexity
+/// O(1), without an allocation.
+#[unsafe(no_mangle)]
+pub extern "C" fn cordyceps_timers_restart_unchecked(
+    alloc: Global,
+    timers: &mut TimersHandle,
+    timer: Spot,
+    deadline: u64,
+) -> bool
+    requires { MatchOption timers.old.held ⊤ (λ t. HasSpot t.nodes timer) }
+    ensures { MatchOption timers.old.held
+        ((result ≡ false) × (timers.new.held ≡ None))
+        (λ t. (u : Running) × (timers.new.held ≡ Some u) × (result ≡ true) × RestartsAt timer deadline t u) }
+{
+    let Some(mut held) = timers.take(alloc) else {
+        return false;
+    };
+    held.restart_unchecked(timer, deadline);
+    timers.put(held);
+    true
 }
 
 /// Removes the first timer into `*out` and returns `true`, if it fires at the time `now` or before. Its time becomes
