@@ -1,0 +1,4 @@
+mod Keeping
+mod ListHandles
+mod ListSent
+mod Naming

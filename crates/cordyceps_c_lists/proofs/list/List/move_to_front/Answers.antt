@@ -1,0 +1,17 @@
+use Rattle.std.proofs.Common.{sym, subst}
+use Rattle.cordyceps.specs.Spots.BySpot.{HasSpot}
+use Rattle.cordyceps.proofs.Spots.Holding.{first_taken}
+use Rattle.cordyceps_c_lists.specs.Lists.{Listed}
+use Rattle.cordyceps_c_lists.proofs.Keeping.{moved_sound}
+use Rattle.cordyceps_c_lists.proofs.Naming.{has_spot}
+use Rattle.cordyceps_c_lists.proofs.list.List.move_to_front.Goals as goal
+
+pub move_to_front-requires : goal.move_to_front-requires
+move_to_front-requires c =
+    let at = c.in-Some.spot in
+    subst (λ (l : Listed). HasSpot l.nodes at) (sym c.self.view_is) (has_spot c.args.self.now c.args.at at c.in-Some.ensures)
+
+pub invariant_of-self : goal.invariant_of-self
+invariant_of-self c =
+    let was = c.self.inside.list in let new = c.move_to_front.new.self in let spot = c.in-Some.spot in let (e, rest, taken, is) = c.move_to_front.ensures.moved in
+    moved_sound c.self.inside.tickets was new rest spot e c.self.invariant taken (first_taken new rest spot e is)

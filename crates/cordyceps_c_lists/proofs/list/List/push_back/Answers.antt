@@ -1,0 +1,25 @@
+use Rattle.std.proofs.Common.{[], ◌∷◌, ◌++◌, ◌∙◌}
+use Rattle.cordyceps.proofs.Spots.Holding.{last_taken}
+use Rattle.cordyceps_c_lists.proofs.Keeping.{gives, put_sound, same_sound}
+use Rattle.cordyceps_c_lists.proofs.list.List.push_back.Goals as goal
+
+pub invariant_of-self : goal.invariant_of-self
+invariant_of-self c = same_sound c.self.inside.tickets c.make.new.tickets c.self.inside.list c.make.ensures.same c.make.ensures.given c.self.invariant
+
+pub invariant_of-self-2 : goal.invariant_of-self-2
+invariant_of-self-2 c =
+    let was = c.self.inside.list in let new = c.push_back-spot.new.self in let spot = c.push_back-spot.result in let member = c.in_ok-ticket.member in
+    let (next, is) = c.in_ok-ticket.ensures.made in
+    let sound = same_sound c.self.inside.tickets c.make.new.tickets was c.make.ensures.same c.make.ensures.given c.self.invariant in
+    put_sound c.make.new.tickets c.give.new.self was new spot c.in_ok-ticket.ticket c.args.payload member sound next is (last_taken new was spot member c.push_back-spot.ensures.holds)
+    c.give.ensures.given c.give.ensures.put
+
+pub returns : goal.returns
+returns c =
+    let spot = c.push_back-spot.result in let (next, is) = c.in_ok-ticket.ensures.made in
+    (
+      spot,
+      c.push_back-spot.ensures.holds ∙ (λ i. (c.self.view_is i).nodes ++ (spot, is i) ∷ []),
+      gives c.self.inside.tickets c.make.new.tickets c.give.new.self c.self.inside.list c.args.self.now c.in_ok-ticket.ticket c.self.view_is c.make.ensures.collection
+      c.make.ensures.given next c.give.ensures.collection c.give.ensures.given,
+    )

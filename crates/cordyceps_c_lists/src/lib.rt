@@ -1,0 +1,5 @@
+//! Ordered lists for C, each behind a handle.
+#![tactic(auto)]
+
+pub mod list;
+pub mod list_handle;
