@@ -1,4 +1,4 @@
-//! The collections for C: timers, priority queues, inboxes and piles, each behind a handle.
+//! The collections for C: lists, timers, priority queues, inboxes and piles, each behind a handle.
 //!
 //! C owns the memory of a handle, and nothing else. A handle is of one collection, or of nothing, and then it is
 //! `{NULL}`. Each call is total on the handle of nothing: it answers `false`, or the number that says so, and changes
@@ -9,6 +9,7 @@
 #![tactic(auto)]
 
 pub mod inbox;
+pub mod list;
 pub mod pile;
 pub mod queue;
 pub mod timers;
