@@ -1,19 +1,20 @@
--- Each element of a list still has its ticket after a call.
-use Rattle.std.proofs.Common.{◌≡◌, ◌+◌, ◌<◌, ◌≤◌, ℕ, Some, None, inl, inr, refl, sym, ap, ◌∙◌, subst, arith}
-use Rattle.slab.specs.Slab.{SameValues, Updates}
+-- Each element of a list still has its ticket after a call, and a stale ticket stays stale.
+use Rattle.std.proofs.Common.{◌≡◌, ◌+◌, ◌<◌, ◌≤◌, ℕ, Some, None, ◌⊎◌, inl, inr, refl, sym, ap, ◌∙◌, subst, arith}
+use Rattle.std.proofs.lemmas.Option.{none-some}
+use Rattle.slab.specs.Slab.{get, SameValues, Updates}
 use denote.RawPtr.{Ptr}
 use Rattle.cordyceps.specs.Elements.Element.{Element}
 use Rattle.cordyceps.specs.Elements.Nodes.{Nodes, spots}
 use Rattle.cordyceps.specs.Spots.Agreeing.{HasElementAt}
 use Rattle.cordyceps.specs.Spots.BySpot.{IsTaken}
 use Rattle.cordyceps.specs.Spots.Spots.{AreDistinct}
-use Rattle.cordyceps.proofs.Spots.Holding.{left_is_at, taken_is_at, taken_or_left}
+use Rattle.cordyceps.proofs.Spots.Holding.{left_is_at, moved_is_at, taken_is_at, taken_or_left}
 use Rattle.cordyceps_c_base.specs.declared.tickets.Ticket.{Ticket}
 use Rattle.cordyceps_c_base.specs.declared.tickets.Tickets.{Tickets}
-use Rattle.cordyceps_c_base.specs.Tickets.{IsGiven, IsNext}
+use Rattle.cordyceps_c_base.specs.Tickets.{IsNext}
 use Rattle.cordyceps_c_base.proofs.Fitting.{changed_fits, put_fits, taken_fits}
 use Rattle.cordyceps_c_lists.specs.declared.list.Item.{Item}
-use Rattle.cordyceps_c_lists.specs.Lists.{Listed, Sound, listed, new_element, slot_of}
+use Rattle.cordyceps_c_lists.specs.Lists.{Ends, Gives, GivesNone, IsStale, Listed, Sound, listed, new_element, slot_of}
 
 -- the same tickets are valid
 pub same_sound : (s t : Tickets) (c : Nodes Item) → SameValues s.slots t.slots → t.given ≡ s.given → Sound s c → Sound t c
@@ -56,13 +57,68 @@ moved_sound s c d rest p e sound was is = record {
   ];
 }
 
--- which tickets were given
-pub gives : (s t u : Tickets) (c : Nodes Item) (l : Listed) (k : Ticket) → listed s c ≡ l → t.collection ≡ s.collection → t.given ≡ s.given → IsNext t k
-    → u.collection ≡ t.collection → u.given ≡ k.number → IsGiven l.collection l.given k × (u.collection ≡ l.collection) × (u.given ≡ k.number)
-gives s t u c l k view collection given next after last =
-    let of : t.collection ≡ l.collection = collection ∙ ap (λ (v : Listed). v.collection) view in
-    ((next.collection ∙ of, next.number ∙ ap (λ n. n + 1) (given ∙ ap (λ (v : Listed). v.given) view)), after ∙ of, last)
+-- ---- which tickets were given, and which are stale
 
-pub gives_none : (s t : Tickets) (c : Nodes Item) (l : Listed) → listed s c ≡ l → t.collection ≡ s.collection → t.given ≡ s.given
-    → (t.collection ≡ l.collection) × (t.given ≡ l.given)
-gives_none s t c l view collection given = (collection ∙ ap (λ (v : Listed). v.collection) view, given ∙ ap (λ (v : Listed). v.given) view)
+-- what was stale is, if each element was there or is new
+stays_stale : (l m : Listed) → m.collection ≡ l.collection → l.given ≤ m.given
+    → ((p : Ptr) (e : Element Item) → HasElementAt m.nodes p e → HasElementAt l.nodes p e ⊎ (l.given < e.id))
+    → (k : Ticket) → IsStale l k → IsStale m k
+stays_stale l m collection more from k (none, before) = (
+  (λ p e there b. elim (from p e there) as (λ _. ⊥) [
+    | inl was ↦ none p e was (record { of = b.of ∙ collection; slot_is = b.slot_is; number = b.number; given = b.given })
+    | inr new ↦ let number = b.number in omega (arith, number, new, before)
+  ]),
+  omega (arith, more, before),
+)
+
+module _ (s : Tickets) (c : Nodes Item) (l : Listed) (view : listed s c ≡ l) where
+  of_list : (t : Tickets) → t.collection ≡ s.collection → t.collection ≡ l.collection
+  of_list t same = same ∙ ap (λ (v : Listed). v.collection) view
+
+  as_many : (t : Tickets) → t.given ≡ s.given → t.given ≡ l.given
+  as_many t same = same ∙ ap (λ (v : Listed). v.given) view
+
+  was_there : (p : Ptr) (e : Element Item) → HasElementAt c p e → HasElementAt l.nodes p e
+  was_there p e there = subst (λ (v : Listed). HasElementAt v.nodes p e) view there
+
+  pub gives : (t u : Tickets) (d : Nodes Item) (p : Ptr) (k : Ticket) (x : ℕ) (e : Element Item) → t.collection ≡ s.collection → t.given ≡ s.given → IsNext t k
+      → e ≡ new_element k x → IsTaken d p e c → u.collection ≡ t.collection → u.given ≡ k.number → Gives k l (listed u d)
+  gives t u d p k x e collection given next is taken after last =
+      let of = of_list t collection in let many = as_many t given in let number = next.number in
+      record {
+        is_new = (next.collection ∙ of, number ∙ ap (λ n. n + 1) many);
+        collection = after ∙ of;
+        given = last;
+        stale = stays_stale l (listed u d) (after ∙ of) (omega (arith, many, number, last)) (λ q o there.
+        elim (taken_or_left d c p q e o taken there) as (λ _. HasElementAt l.nodes q o ⊎ (l.given < o.id)) [
+          | inl (_, same) ↦ let id = ap (λ (n : Element Item). n.id) (same ∙ is) in inr (omega (arith, id, number, many))
+          | inr was ↦ inl (was_there q o was)
+        ]);
+      }
+
+  pub gives_none : (t : Tickets) (d : Nodes Item) → t.collection ≡ s.collection → t.given ≡ s.given
+      → ((p : Ptr) (e : Element Item) → HasElementAt d p e → HasElementAt c p e) → GivesNone l (listed t d)
+  gives_none t d collection given from =
+      let many = as_many t given in
+      record {
+        collection = of_list t collection;
+        given = many;
+        stale = stays_stale l (listed t d) (of_list t collection) (omega (arith, many)) (λ p e there. inl (was_there p e (from p e there)));
+      }
+
+  pub moves : (d rest : Nodes Item) (p : Ptr) (e : Element Item) → IsTaken c p e rest → IsTaken d p e rest → GivesNone l (listed s d)
+  moves d rest p e was is = gives_none s d refl refl (λ q o there. moved_is_at d c rest p q e o is was there)
+
+  pub ends : (t : Tickets) (d : Nodes Item) (p : Ptr) (e : Element Item) → Sound s c → AreDistinct (spots c) → IsTaken c p e d
+      → t.collection ≡ s.collection → t.given ≡ s.given → Updates s.slots t.slots e.value.slot None → Ends e l (listed t d)
+  ends t d p e sound distinct taken collection given up =
+      let there = taken_is_at c d p e taken in let left = taken_sound s t c d p e sound distinct taken given up in
+      let low = sound.fit.given (slot_of e.value) (record { number = e.id; spot = p }) (sound.fit.found p e there (sound.given p e there)) in
+      record {
+        ended = λ k b. (
+          (λ q o stays other.
+          none-some _ (sym up.changed ∙ ap (get t.slots) (b.slot_is ∙ sym other.slot_is) ∙ left.fit.found q o stays (left.given q o stays))),
+          (let number = b.number in omega (arith, number, low, given)),
+        );
+        rest = gives_none t d collection given (λ q o stays. left_is_at c d p q e o taken stays);
+      }

@@ -1,5 +1,5 @@
 -- Lists whose elements have tickets, and what their calls do: l is the list before, and m after.
-use Rattle.std.specs.Prelude.{◌≡◌, ℕ, ◌<◌, [], ◌∷◌, ◌++◌, ◌⊎◌}
+use Rattle.std.specs.Prelude.{◌≡◌, ℕ, ◌<◌, ◌≤◌, [], ◌∷◌, ◌++◌, ◌⊎◌}
 use denote.RawPtr.{Ptr}
 use Rattle.cordyceps.specs.Elements.Element.{Element}
 use Rattle.cordyceps.specs.Elements.Nodes.{Nodes, spots}
@@ -48,12 +48,27 @@ IsAt l k p = (e : Element Item) × Names l k p e
 abbrev pub NamesNone : Listed → Ticket → Type 0
 NamesNone l k = NoneBears slot_of l.collection k l.nodes
 
--- this ticket was given, which no element had before
-abbrev pub Gives : Ticket → Listed → Listed → Type 0
-Gives k l m = IsGiven l.collection l.given k × (m.collection ≡ l.collection) × (m.given ≡ k.number)
+-- no element has the ticket, and none gets it: the next ticket has a number above all that were given
+abbrev pub IsStale : Listed → Ticket → Type 0
+IsStale l k = NamesNone l k × (k.number ≤ l.given)
 
-abbrev pub GivesNone : Listed → Listed → Type 0
-GivesNone l m = (m.collection ≡ l.collection) × (m.given ≡ l.given)
+-- no ticket was given, and what was stale is
+pub record GivesNone (l m : Listed) : Type 0 where
+  pub collection : m.collection ≡ l.collection
+  pub given : m.given ≡ l.given
+  pub stale : (o : Ticket) → IsStale l o → IsStale m o
+
+-- the ticket k was given, a new one, and what was stale is
+pub record Gives (k : Ticket) (l m : Listed) : Type 0 where
+  pub is_new : IsGiven l.collection l.given k
+  pub collection : m.collection ≡ l.collection
+  pub given : m.given ≡ k.number
+  pub stale : (o : Ticket) → IsStale l o → IsStale m o
+
+-- the element e came out: its ticket is stale
+pub record Ends (e : Element Item) (l m : Listed) : Type 0 where
+  pub ended : (k : Ticket) → Bears slot_of l.collection k e → IsStale m k
+  pub rest : GivesNone l m
 
 -- ---- one more element, which gets the ticket k
 
@@ -74,16 +89,16 @@ PutsAfter at x k l m =
 -- ---- one element less, whose payload is x
 
 abbrev pub PopsFront : (payload : ℕ) → Listed → Listed → Type 0
-PopsFront x l m = (p : Ptr) × (e : Element Item) × (l.nodes ≡ (p, e) ∷ m.nodes) × (x ≡ e.value.payload) × GivesNone l m
+PopsFront x l m = (p : Ptr) × (e : Element Item) × (l.nodes ≡ (p, e) ∷ m.nodes) × (x ≡ e.value.payload) × Ends e l m
 
 abbrev pub PopsBack : (payload : ℕ) → Listed → Listed → Type 0
 PopsBack x l m =
-    (p : Ptr) × (e : Element Item) × (l.nodes ≡ m.nodes ++ (p, e) ∷ []) × (x ≡ e.value.payload) × GivesNone l m
+    (p : Ptr) × (e : Element Item) × (l.nodes ≡ m.nodes ++ (p, e) ∷ []) × (x ≡ e.value.payload) × Ends e l m
 
 abbrev pub Removes : (at : Ticket) (payload : ℕ) → Listed → Listed → Type 0
 Removes at x l m =
     (p : Ptr) × (e : Element Item) × Names l at p e × IsTaken l.nodes p e m.nodes × (x ≡ e.value.payload)
-    × GivesNone l m
+    × Ends e l m
 
 -- ---- what is where
 

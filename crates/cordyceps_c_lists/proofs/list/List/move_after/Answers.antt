@@ -2,7 +2,7 @@ use Rattle.std.proofs.Common.{◌≡◌, inr, refl, sym, subst}
 use Rattle.cordyceps.specs.Spots.BySpot.{HasSpot, IsMovedAfter}
 use Rattle.cordyceps.proofs.Spots.Holding.{after_taken}
 use Rattle.cordyceps_c_lists.specs.Lists.{IsAt, Listed}
-use Rattle.cordyceps_c_lists.proofs.Keeping.{gives_none, moved_sound}
+use Rattle.cordyceps_c_lists.proofs.Keeping.{moved_sound, moves}
 use Rattle.cordyceps_c_lists.proofs.Naming.{has_spot, other_spot, same_ticket}
 use Rattle.cordyceps_c_lists.proofs.list.List.move_after.Goals as goal
 
@@ -34,12 +34,12 @@ invariant_of-self c =
 
 pub returns : goal.returns
 returns c =
-    let p = c.in-Some.spot in let q = c.in-Some-find.after in let new = c.move_after.new.self in
+    let p = c.in-Some.spot in let q = c.in-Some-find.after in let new = c.move_after.new.self in let (e, rest, taken, put) = c.move_after.ensures.moved in
     (
       p,
       q,
       c.in-Some.ensures,
       c.in-Some-find.ensures,
       subst (λ (l : Listed). IsMovedAfter l.nodes p q new) c.self.view_is c.move_after.ensures.moved,
-      gives_none c.self.inside.tickets c.self.inside.tickets c.self.inside.list c.args.self.now c.self.view_is refl refl,
+      moves c.self.inside.tickets c.self.inside.list c.args.self.now c.self.view_is new rest p e taken (after_taken new rest q p e put),
     )

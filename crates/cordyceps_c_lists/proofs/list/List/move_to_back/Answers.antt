@@ -1,8 +1,8 @@
 use Rattle.std.proofs.Common.{sym, subst}
-use Rattle.cordyceps.specs.Spots.BySpot.{HasSpot}
+use Rattle.cordyceps.specs.Spots.BySpot.{HasSpot, IsMovedBack}
 use Rattle.cordyceps.proofs.Spots.Holding.{last_taken}
 use Rattle.cordyceps_c_lists.specs.Lists.{Listed}
-use Rattle.cordyceps_c_lists.proofs.Keeping.{moved_sound}
+use Rattle.cordyceps_c_lists.proofs.Keeping.{moved_sound, moves}
 use Rattle.cordyceps_c_lists.proofs.Naming.{has_spot}
 use Rattle.cordyceps_c_lists.proofs.list.List.move_to_back.Goals as goal
 
@@ -15,3 +15,13 @@ pub invariant_of-self : goal.invariant_of-self
 invariant_of-self c =
     let was = c.self.inside.list in let new = c.move_to_back.new.self in let spot = c.in-Some.spot in let (e, rest, taken, is) = c.move_to_back.ensures.moved in
     moved_sound c.self.inside.tickets was new rest spot e c.self.invariant taken (last_taken new rest spot e is)
+
+pub returns : goal.returns
+returns c =
+    let spot = c.in-Some.spot in let new = c.move_to_back.new.self in let (e, rest, taken, is) = c.move_to_back.ensures.moved in
+    (
+      spot,
+      c.in-Some.ensures,
+      subst (λ (l : Listed). IsMovedBack l.nodes spot new) c.self.view_is c.move_to_back.ensures.moved,
+      moves c.self.inside.tickets c.self.inside.list c.args.self.now c.self.view_is new rest spot e taken (last_taken new rest spot e is),
+    )

@@ -1,7 +1,7 @@
 use Rattle.std.proofs.Common.{sym, ap, ◌∙◌, subst}
 use Rattle.cordyceps.proofs.Spots.Holding.{last_taken}
 use Rattle.cordyceps_c_lists.specs.Lists.{Listed, Sound}
-use Rattle.cordyceps_c_lists.proofs.Keeping.{gives_none, taken_sound}
+use Rattle.cordyceps_c_lists.proofs.Keeping.{ends, taken_sound}
 use Rattle.cordyceps_c_lists.proofs.list.List.pop_back.Goals as goal
 
 pub invariant_of-self : goal.invariant_of-self
@@ -15,11 +15,12 @@ invariant_of-self-2 c =
 
 pub returns : goal.returns
 returns c =
-    let (spot, is) = c.in_ok-member.ensures.taken in
+    let was = c.self.inside.list in let new = c.pop_back.new.self in let member = c.in_ok-member.member in let (spot, is) = c.in_ok-member.ensures.taken in
     (
       spot,
-      c.in_ok-member.member,
+      member,
       sym (ap (λ (l : Listed). l.nodes) c.self.view_is) ∙ is,
       c.end.ensures.payload,
-      gives_none c.self.inside.tickets c.end.new.tickets c.self.inside.list c.args.self.now c.self.view_is c.end.ensures.collection c.end.ensures.given,
+      ends c.self.inside.tickets was c.args.self.now c.self.view_is c.end.new.tickets new spot member c.self.invariant c.spots_are_distinct.ensures
+      (last_taken was new spot member is) c.end.ensures.collection c.end.ensures.given c.end.ensures.gone,
     )

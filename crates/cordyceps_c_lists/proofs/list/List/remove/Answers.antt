@@ -3,7 +3,7 @@ use Rattle.cordyceps.specs.Elements.Nodes.{spots}
 use Rattle.cordyceps.specs.Spots.BySpot.{HasSpot, IsTaken}
 use Rattle.cordyceps.specs.Spots.Spots.{AreDistinct}
 use Rattle.cordyceps_c_lists.specs.Lists.{Listed}
-use Rattle.cordyceps_c_lists.proofs.Keeping.{gives_none, taken_sound}
+use Rattle.cordyceps_c_lists.proofs.Keeping.{ends, taken_sound}
 use Rattle.cordyceps_c_lists.proofs.Naming.{has_spot, taken_named}
 use Rattle.cordyceps_c_lists.proofs.list.List.remove.Goals as goal
 
@@ -21,7 +21,8 @@ invariant_of-self c =
 
 pub returns : goal.returns
 returns c =
-    let spot = c.in_ok-spot.spot in let member = c.remove-member.result in let new = c.remove-member.new.self in
+    let spot = c.in_ok-spot.spot in let member = c.remove-member.result in let new = c.remove-member.new.self in let (_, named) = c.in_ok-spot.ensures in
+    let distinct = subst (λ (l : Listed). AreDistinct (spots l.nodes)) (sym c.self.view_is) named.alone in
     let taken = subst (λ (l : Listed). IsTaken l.nodes spot member new) c.self.view_is c.remove-member.ensures.taken in
     (
       spot,
@@ -29,5 +30,6 @@ returns c =
       taken_named c.args.self.now c.args.at spot member new c.in_ok-spot.ensures taken,
       taken,
       c.end.ensures.payload,
-      gives_none c.self.inside.tickets c.end.new.tickets c.self.inside.list c.args.self.now c.self.view_is c.end.ensures.collection c.end.ensures.given,
+      ends c.self.inside.tickets c.self.inside.list c.args.self.now c.self.view_is c.end.new.tickets new spot member c.self.invariant distinct
+      c.remove-member.ensures.taken c.end.ensures.collection c.end.ensures.given c.end.ensures.gone,
     )
