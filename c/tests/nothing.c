@@ -58,6 +58,32 @@ static void queue_made_twice(void) {
   CHECK(cordyceps_queue_free(&queue) && !queue.at && !cordyceps_queue_free(&queue));
 }
 
+static void list_of_nothing(void) {
+  cordyceps_list list = {0};
+  cordyceps_ticket at = {1, 2, 3}, out = {4, 5, 6};
+  uint64_t payload = 7;
+  CHECK(!cordyceps_list_push_front(&list, 1, &out) && !cordyceps_list_push_back(&list, 1, &out));
+  CHECK(!cordyceps_list_insert_before(&list, at, 1, &out) && !cordyceps_list_insert_after(&list, at, 1, &out));
+  CHECK(!cordyceps_list_pop_front(&list, &payload) && !cordyceps_list_pop_back(&list, &payload));
+  CHECK(!cordyceps_list_remove(&list, at, &payload) && !cordyceps_list_get(&list, at, &payload));
+  CHECK(!cordyceps_list_front(&list, &out) && !cordyceps_list_back(&list, &out));
+  CHECK(!cordyceps_list_next(&list, at, &out) && !cordyceps_list_prev(&list, at, &out));
+  CHECK(!cordyceps_list_move_to_front(&list, at) && !cordyceps_list_move_to_back(&list, at));
+  CHECK(!cordyceps_list_move_after(&list, at, out));
+  CHECK(cordyceps_list_len(&list) == 0 && !cordyceps_list_free(&list) && !list.at);
+  CHECK(payload == 7 && out.collection == 4 && out.slot == 5 && out.number == 6);
+}
+
+static void list_made_twice(void) {
+  cordyceps_list list = {0};
+  cordyceps_ticket at;
+  CHECK(cordyceps_list_new(1, &list) && cordyceps_list_push_back(&list, 5, &at));
+  void *there = list.at;
+  CHECK(!cordyceps_list_new(2, &list));
+  CHECK(list.at == there && cordyceps_list_len(&list) == 1 && at.collection == 1);
+  CHECK(cordyceps_list_free(&list) && !list.at && !cordyceps_list_free(&list));
+}
+
 static void inbox_of_nothing(void) {
   cordyceps_inbox inbox = {0}, other = {0};
   uint64_t payload = 7;
@@ -122,6 +148,8 @@ int main(void) {
   timers_made_twice();
   queue_of_nothing();
   queue_made_twice();
+  list_of_nothing();
+  list_made_twice();
   inbox_of_nothing();
   inbox_made_twice();
   pile_of_nothing();

@@ -76,6 +76,32 @@ static void queue_refused(void) {
   CHECK(cordyceps_queue_free(&queue) && was_granted());
 }
 
+static void list_refused(void) {
+  cordyceps_list list = {0};
+  cordyceps_ticket at = {1, 2, 3}, out = {4, 5, 6};
+  uint64_t payload = 0;
+  refuse(0);
+  CHECK(!cordyceps_list_new(1, &list) && !list.at && !was_granted());
+  CHECK(cordyceps_list_new(1, &list));
+  /* the first element takes a block of slots and a node */
+  for (long n = 0; n < 2; n++) {
+    refuse(n);
+    CHECK(!cordyceps_list_push_front(&list, 1, &out) && out.number == 6 && !was_granted());
+    CHECK(cordyceps_list_len(&list) == 0);
+  }
+  refuse(2);
+  CHECK(cordyceps_list_push_back(&list, 1, &at) && at.number == 1 && was_granted());
+  refuse(0);
+  CHECK(!cordyceps_list_insert_after(&list, at, 2, &out) && out.number == 6 && !was_granted());
+  CHECK(cordyceps_list_push_front(&list, 2, &out) && out.number == 2);
+  /* what moves or ends asks for nothing */
+  refuse(0);
+  CHECK(cordyceps_list_move_to_front(&list, at) && cordyceps_list_move_after(&list, at, out));
+  CHECK(cordyceps_list_remove(&list, at, &payload) && payload == 1);
+  CHECK(cordyceps_list_pop_back(&list, &payload) && payload == 2);
+  CHECK(cordyceps_list_free(&list) && was_granted());
+}
+
 static void inbox_refused(void) {
   cordyceps_inbox inbox = {0}, other = {0};
   uint64_t payload = 0;
@@ -138,6 +164,7 @@ static void pile_refused(void) {
 int main(void) {
   timers_refused();
   queue_refused();
+  list_refused();
   inbox_refused();
   pile_refused();
   return 0;
