@@ -1,4 +1,4 @@
-/* Timers and priority queues, and inboxes and piles that threads share. C99, C++17.
+/* Timers, priority queues and lists, and inboxes and piles that threads share. C99, C++17.
  *
  * Each collection is behind a handle, whose memory is the caller's: on the stack, in a struct, or static. A handle
  * is of one collection, or of nothing, and then it is zero. A call on the handle of nothing answers `false` or

@@ -90,10 +90,10 @@ module _ (s : Tickets) (c : Nodes Item) (l : Listed) (view : listed s c ≡ l) w
         collection = after ∙ of;
         given = last;
         stale = stays_stale l (listed u d) (after ∙ of) (omega (arith, many, number, last)) (λ q o there.
-        elim (taken_or_left d c p q e o taken there) as (λ _. HasElementAt l.nodes q o ⊎ (l.given < o.id)) [
-          | inl (_, same) ↦ let id = ap (λ (n : Element Item). n.id) (same ∙ is) in inr (omega (arith, id, number, many))
-          | inr was ↦ inl (was_there q o was)
-        ]);
+            elim (taken_or_left d c p q e o taken there) as (λ _. HasElementAt l.nodes q o ⊎ (l.given < o.id)) [
+              | inl (_, same) ↦ let id = ap (λ (n : Element Item). n.id) (same ∙ is) in inr (omega (arith, id, number, many))
+              | inr was ↦ inl (was_there q o was)
+            ]);
       }
 
   pub gives_none : (t : Tickets) (d : Nodes Item) → t.collection ≡ s.collection → t.given ≡ s.given
@@ -117,7 +117,7 @@ module _ (s : Tickets) (c : Nodes Item) (l : Listed) (view : listed s c ≡ l) w
       record {
         ended = λ k b. (
           (λ q o stays other.
-          none-some _ (sym up.changed ∙ ap (get t.slots) (b.slot_is ∙ sym other.slot_is) ∙ left.fit.found q o stays (left.given q o stays))),
+              none-some _ (sym up.changed ∙ ap (get t.slots) (b.slot_is ∙ sym other.slot_is) ∙ left.fit.found q o stays (left.given q o stays))),
           (let number = b.number in omega (arith, number, low, given)),
         );
         rest = gives_none t d collection given (λ q o stays. left_is_at c d p q e o taken stays);

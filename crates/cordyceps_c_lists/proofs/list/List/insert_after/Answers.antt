@@ -29,12 +29,11 @@ pub returns : goal.returns
 returns c =
     let at = c.in_ok-at.at in
     let was = c.self.inside.list in let new = c.insert_after-spot.new.self in let member = c.in_ok-ticket.member in
-    let spot = c.insert_after-spot.result in let (next, is) = c.in_ok-ticket.ensures.made in
-    (
+    let spot = c.insert_after-spot.result in let (next, is) = c.in_ok-ticket.ensures.made in (
       at,
       spot,
       c.in_ok-at.ensures,
       subst (λ (v : Nodes Item × Element Item). IsPutAfter v.0 at spot v.1 new) (λ i. ((c.self.view_is i).nodes, is i)) c.insert_after-spot.ensures.holds,
       gives c.self.inside.tickets was c.args.self.now c.self.view_is c.make.new.tickets c.give.new.self new spot c.in_ok-ticket.ticket c.args.payload member
-      c.make.ensures.collection c.make.ensures.given next is (after_taken new was c.in_ok-at.at spot member c.insert_after-spot.ensures.holds) c.give.ensures.collection c.give.ensures.given,
+          c.make.ensures.collection c.make.ensures.given next is (after_taken new was c.in_ok-at.at spot member c.insert_after-spot.ensures.holds) c.give.ensures.collection c.give.ensures.given,
     )

@@ -1,4 +1,4 @@
-use Rattle.std.proofs.Common.{◌≡◌, inr, refl, sym, subst}
+use Rattle.std.proofs.Common.{inr, refl, sym, subst}
 use Rattle.cordyceps.specs.Spots.BySpot.{HasSpot, IsMovedAfter}
 use Rattle.cordyceps.proofs.Spots.Holding.{after_taken}
 use Rattle.cordyceps_c_lists.specs.Lists.{IsAt, Listed}
@@ -34,8 +34,7 @@ invariant_of-self c =
 
 pub returns : goal.returns
 returns c =
-    let p = c.in-Some.spot in let q = c.in-Some-find.after in let new = c.move_after.new.self in let (e, rest, taken, put) = c.move_after.ensures.moved in
-    (
+    let p = c.in-Some.spot in let q = c.in-Some-find.after in let new = c.move_after.new.self in let (e, rest, taken, put) = c.move_after.ensures.moved in (
       p,
       q,
       c.in-Some.ensures,

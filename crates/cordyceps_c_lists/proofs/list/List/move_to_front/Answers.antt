@@ -18,8 +18,7 @@ invariant_of-self c =
 
 pub returns : goal.returns
 returns c =
-    let spot = c.in-Some.spot in let new = c.move_to_front.new.self in let (e, rest, taken, is) = c.move_to_front.ensures.moved in
-    (
+    let spot = c.in-Some.spot in let new = c.move_to_front.new.self in let (e, rest, taken, is) = c.move_to_front.ensures.moved in (
       spot,
       c.in-Some.ensures,
       subst (λ (l : Listed). IsMovedFront l.nodes spot new) c.self.view_is c.move_to_front.ensures.moved,

@@ -15,12 +15,11 @@ invariant_of-self-2 c =
 
 pub returns : goal.returns
 returns c =
-    let was = c.self.inside.list in let new = c.pop_front.new.self in let member = c.in_ok-member.member in let (spot, is) = c.in_ok-member.ensures.taken in
-    (
+    let was = c.self.inside.list in let new = c.pop_front.new.self in let member = c.in_ok-member.member in let (spot, is) = c.in_ok-member.ensures.taken in (
       spot,
       member,
       sym (ap (λ (l : Listed). l.nodes) c.self.view_is) ∙ is,
       c.end.ensures.payload,
       ends c.self.inside.tickets was c.args.self.now c.self.view_is c.end.new.tickets new spot member c.self.invariant c.spots_are_distinct.ensures
-      (first_taken was new spot member is) c.end.ensures.collection c.end.ensures.given c.end.ensures.gone,
+          (first_taken was new spot member is) c.end.ensures.collection c.end.ensures.given c.end.ensures.gone,
     )

@@ -17,10 +17,9 @@ invariant_of-self-2 c =
 pub returns : goal.returns
 returns c =
     let was = c.self.inside.list in let new = c.push_back-spot.new.self in let member = c.in_ok-ticket.member in
-    let spot = c.push_back-spot.result in let (next, is) = c.in_ok-ticket.ensures.made in
-    (
+    let spot = c.push_back-spot.result in let (next, is) = c.in_ok-ticket.ensures.made in (
       spot,
       c.push_back-spot.ensures.holds ∙ (λ i. (c.self.view_is i).nodes ++ (spot, is i) ∷ []),
       gives c.self.inside.tickets was c.args.self.now c.self.view_is c.make.new.tickets c.give.new.self new spot c.in_ok-ticket.ticket c.args.payload member
-      c.make.ensures.collection c.make.ensures.given next is (last_taken new was spot member c.push_back-spot.ensures.holds) c.give.ensures.collection c.give.ensures.given,
+          c.make.ensures.collection c.make.ensures.given next is (last_taken new was spot member c.push_back-spot.ensures.holds) c.give.ensures.collection c.give.ensures.given,
     )

@@ -1,4 +1,4 @@
-use Rattle.std.proofs.Common.{[], ◌∷◌, ◌++◌, ◌∙◌}
+use Rattle.std.proofs.Common.{◌∷◌, ◌∙◌}
 use Rattle.cordyceps.proofs.Spots.Holding.{first_taken}
 use Rattle.cordyceps_c_lists.proofs.Keeping.{gives, put_sound, same_sound}
 use Rattle.cordyceps_c_lists.proofs.list.List.push_front.Goals as goal
@@ -17,10 +17,9 @@ invariant_of-self-2 c =
 pub returns : goal.returns
 returns c =
     let was = c.self.inside.list in let new = c.push_front-spot.new.self in let member = c.in_ok-ticket.member in
-    let spot = c.push_front-spot.result in let (next, is) = c.in_ok-ticket.ensures.made in
-    (
+    let spot = c.push_front-spot.result in let (next, is) = c.in_ok-ticket.ensures.made in (
       spot,
       c.push_front-spot.ensures.holds ∙ (λ i. (spot, is i) ∷ (c.self.view_is i).nodes),
       gives c.self.inside.tickets was c.args.self.now c.self.view_is c.make.new.tickets c.give.new.self new spot c.in_ok-ticket.ticket c.args.payload member
-      c.make.ensures.collection c.make.ensures.given next is (first_taken new was spot member c.push_front-spot.ensures.holds) c.give.ensures.collection c.give.ensures.given,
+          c.make.ensures.collection c.make.ensures.given next is (first_taken new was spot member c.push_front-spot.ensures.holds) c.give.ensures.collection c.give.ensures.given,
     )

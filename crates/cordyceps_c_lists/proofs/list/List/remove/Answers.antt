@@ -23,13 +23,12 @@ pub returns : goal.returns
 returns c =
     let spot = c.in_ok-spot.spot in let member = c.remove-member.result in let new = c.remove-member.new.self in let (_, named) = c.in_ok-spot.ensures in
     let distinct = subst (λ (l : Listed). AreDistinct (spots l.nodes)) (sym c.self.view_is) named.alone in
-    let taken = subst (λ (l : Listed). IsTaken l.nodes spot member new) c.self.view_is c.remove-member.ensures.taken in
-    (
+    let taken = subst (λ (l : Listed). IsTaken l.nodes spot member new) c.self.view_is c.remove-member.ensures.taken in (
       spot,
       member,
       taken_named c.args.self.now c.args.at spot member new c.in_ok-spot.ensures taken,
       taken,
       c.end.ensures.payload,
       ends c.self.inside.tickets c.self.inside.list c.args.self.now c.self.view_is c.end.new.tickets new spot member c.self.invariant distinct
-      c.remove-member.ensures.taken c.end.ensures.collection c.end.ensures.given c.end.ensures.gone,
+          c.remove-member.ensures.taken c.end.ensures.collection c.end.ensures.given c.end.ensures.gone,
     )
