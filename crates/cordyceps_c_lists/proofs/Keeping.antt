@@ -1,5 +1,5 @@
 -- Each element of a list still has its ticket after a call, and a stale ticket stays stale.
-use Rattle.std.proofs.Common.{◌≡◌, ◌+◌, ◌<◌, ◌≤◌, ℕ, Some, None, ◌⊎◌, inl, inr, refl, sym, ap, ◌∙◌, subst, arith}
+use Rattle.std.proofs.Common.{◌≡◌, ◌+◌, ◌<◌, ◌≤◌, ℕ, Some, ◌⊎◌, inl, inr, refl, sym, ap, ◌∙◌, subst, arith}
 use Rattle.std.proofs.lemmas.Option.{none-some}
 use Rattle.slab.specs.Slab.{get, SameValues, Updates}
 use denote.RawPtr.{Ptr}
@@ -11,21 +11,14 @@ use Rattle.cordyceps.specs.Spots.Spots.{AreDistinct}
 use Rattle.cordyceps.proofs.Spots.Holding.{left_is_at, moved_is_at, taken_is_at, taken_or_left}
 use Rattle.cordyceps_c_base.specs.declared.tickets.Ticket.{Ticket}
 use Rattle.cordyceps_c_base.specs.declared.tickets.Tickets.{Tickets}
-use Rattle.cordyceps_c_base.specs.Tickets.{IsNext}
-use Rattle.cordyceps_c_base.proofs.Fitting.{changed_fits, put_fits, taken_fits}
+use Rattle.cordyceps_c_base.specs.Tickets.{IsEnded, IsNext}
+use Rattle.cordyceps_c_base.proofs.Fitting.{changed_fits, ended_fits, put_fits, same_fits}
 use Rattle.cordyceps_c_lists.specs.declared.list.Item.{Item}
 use Rattle.cordyceps_c_lists.specs.Lists.{Ends, Gives, GivesNone, IsStale, Listed, Sound, listed, new_element, slot_of}
 
 -- the same tickets are valid
 pub same_sound : (s t : Tickets) (c : Nodes Item) → SameValues s.slots t.slots → t.given ≡ s.given → Sound s c → Sound t c
-same_sound s t c same given sound = record {
-  fit = record {
-    found = λ p e there pos. same (slot_of e.value) ∙ sound.fit.found p e there pos;
-    there = λ k n at. sound.fit.there k n (sym (same k) ∙ at);
-    given = λ k n at. subst (λ g. n.number ≤ g) (sym given) (sound.fit.given k n (sym (same k) ∙ at));
-  };
-  given = sound.given;
-}
+same_sound s t c same given sound = record { fit = same_fits slot_of s t c sound.fit given same; given = sound.given }
 
 -- one was put in, with the next ticket
 pub put_sound : (s t : Tickets) (c d : Nodes Item) (p : Ptr) (k : Ticket) (x : ℕ) (e : Element Item) → Sound s c → IsNext s k
@@ -41,9 +34,9 @@ put_sound s t c d p k x e sound next is taken given up = record {
 
 -- one was taken out, and its ticket was ended
 pub taken_sound : (s t : Tickets) (c d : Nodes Item) (p : Ptr) (e : Element Item) → Sound s c → AreDistinct (spots c) → IsTaken c p e d
-    → t.given ≡ s.given → Updates s.slots t.slots e.value.slot None → Sound t d
-taken_sound s t c d p e sound distinct taken given up = record {
-  fit = taken_fits slot_of s t c d p e sound.fit distinct taken (sound.given p e (taken_is_at c d p e taken)) given up;
+    → IsEnded e.id (slot_of e.value) s t → Sound t d
+taken_sound s t c d p e sound distinct taken ended = record {
+  fit = ended_fits slot_of s t c d p e sound.fit distinct taken ended;
   given = λ q o there. sound.given q o (left_is_at c d p q e o taken there);
 }
 
@@ -110,15 +103,15 @@ module _ (s : Tickets) (c : Nodes Item) (l : Listed) (view : listed s c ≡ l) w
   moves d rest p e was is = gives_none s d refl refl (λ q o there. moved_is_at d c rest p q e o is was there)
 
   pub ends : (t : Tickets) (d : Nodes Item) (p : Ptr) (e : Element Item) → Sound s c → AreDistinct (spots c) → IsTaken c p e d
-      → t.collection ≡ s.collection → t.given ≡ s.given → Updates s.slots t.slots e.value.slot None → Ends e l (listed t d)
-  ends t d p e sound distinct taken collection given up =
-      let there = taken_is_at c d p e taken in let left = taken_sound s t c d p e sound distinct taken given up in
-      let low = sound.fit.given (slot_of e.value) (record { number = e.id; spot = p }) (sound.fit.found p e there (sound.given p e there)) in
+      → IsEnded e.id (slot_of e.value) s t → Ends e l (listed t d)
+  ends t d p e sound distinct taken ended =
+      let there = taken_is_at c d p e taken in let some = sound.given p e there in let left = taken_sound s t c d p e sound distinct taken ended in
+      let low = sound.fit.given (slot_of e.value) (record { number = e.id; spot = p }) (sound.fit.found p e there some) in
       record {
         ended = λ k b. (
           (λ q o stays other.
-              none-some _ (sym up.changed ∙ ap (get t.slots) (b.slot_is ∙ sym other.slot_is) ∙ left.fit.found q o stays (left.given q o stays))),
-          (let number = b.number in omega (arith, number, low, given)),
+              none-some _ (sym (ended.gone some).changed ∙ ap (get t.slots) (b.slot_is ∙ sym other.slot_is) ∙ left.fit.found q o stays (left.given q o stays))),
+          (let number = b.number in let given = ended.given in omega (arith, number, low, given)),
         );
-        rest = gives_none t d collection given (λ q o stays. left_is_at c d p q e o taken stays);
+        rest = gives_none t d ended.collection ended.given (λ q o stays. left_is_at c d p q e o taken stays);
       }

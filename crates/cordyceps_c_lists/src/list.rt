@@ -1,11 +1,8 @@
 //! Ordered lists whose elements are named by tickets.
-ghost use Rattle.std.specs.Prelude.{◌≡◌, ◌<◌, ◌⊎◌, [], length, MatchBool, MatchOption, IfSome, None};
-ghost use denote.RawPtr.{Ptr};
-ghost use Rattle.cordyceps.specs.Elements.Nodes.{spots};
+ghost use Rattle.std.specs.Prelude.{◌≡◌, ◌⊎◌, [], length, MatchBool, MatchOption, IfSome};
 ghost use Rattle.cordyceps.specs.Spots.BySpot.{HasSpot};
-ghost use Rattle.cordyceps.specs.Spots.Spots.{AreDistinct};
-ghost use Rattle.slab.specs.Slab.{SameValues, Updates};
-ghost use Rattle.cordyceps_c_base.specs.Tickets.{IsNext};
+ghost use Rattle.slab.specs.Slab.{SameValues};
+ghost use Rattle.cordyceps_c_base.specs.Tickets.{IsEnded, IsNext};
 ghost use Rattle.cordyceps_c_lists.specs.Lists.{new_element, IsAt, NamesNone, PushesFront, PushesBack, PutsBefore};
 ghost use Rattle.cordyceps_c_lists.specs.Lists.{PutsAfter, PopsFront, PopsBack, Removes, Holds, NamesFirst, NamesLast};
 ghost use Rattle.cordyceps_c_lists.specs.Lists.{NamesNext, MovesFront, MovesBack, MovesAfter, HasNoPair};
@@ -64,12 +61,11 @@ fn make(alloc: Global, tickets: &mut Tickets, payload: u64) -> Option<(Ticket, M
 /// Ends the ticket of an element that came out, frees its node and returns its payload.
 fn end(tickets: &mut Tickets, member: Member) -> u64
     ensures payload { result ≡ member.value.payload }
-    ensures collection { tickets.new.collection ≡ tickets.old.collection }
-    ensures given { tickets.new.given ≡ tickets.old.given }
-    ensures gone { Updates tickets.old.slots tickets.new.slots member.value.slot None }
+    ensures ended { IsEnded member.id member.value.slot tickets.old tickets.new }
 {
+    let number = member.id();
     let Item { payload, slot } = member.into_value();
-    tickets.end(slot);
+    tickets.end(number, slot);
     payload
 }
 

@@ -11,7 +11,7 @@ pub invariant_of-self-2 : goal.invariant_of-self-2
 invariant_of-self-2 c =
     let was = c.self.inside.list in let new = c.pop_front.new.self in let member = c.in_ok-member.member in let (spot, is) = c.in_ok-member.ensures.taken in
     taken_sound c.self.inside.tickets c.end.new.tickets was new spot member c.self.invariant c.spots_are_distinct.ensures (first_taken was new spot member is)
-    c.end.ensures.given c.end.ensures.gone
+    c.end.ensures.ended
 
 pub returns : goal.returns
 returns c =
@@ -21,5 +21,5 @@ returns c =
       sym (ap (λ (l : Listed). l.nodes) c.self.view_is) ∙ is,
       c.end.ensures.payload,
       ends c.self.inside.tickets was c.args.self.now c.self.view_is c.end.new.tickets new spot member c.self.invariant c.spots_are_distinct.ensures
-          (first_taken was new spot member is) c.end.ensures.collection c.end.ensures.given c.end.ensures.gone,
+          (first_taken was new spot member is) c.end.ensures.ended,
     )

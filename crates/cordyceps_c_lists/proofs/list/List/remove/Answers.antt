@@ -17,7 +17,7 @@ invariant_of-self c =
     let was = c.self.inside.list in let (_, named) = c.in_ok-spot.ensures in
     let distinct = subst (λ (l : Listed). AreDistinct (spots l.nodes)) (sym c.self.view_is) named.alone in
     taken_sound c.self.inside.tickets c.end.new.tickets was c.remove-member.new.self c.in_ok-spot.spot c.remove-member.result c.self.invariant distinct
-    c.remove-member.ensures.taken c.end.ensures.given c.end.ensures.gone
+    c.remove-member.ensures.taken c.end.ensures.ended
 
 pub returns : goal.returns
 returns c =
@@ -30,5 +30,5 @@ returns c =
       taken,
       c.end.ensures.payload,
       ends c.self.inside.tickets c.self.inside.list c.args.self.now c.self.view_is c.end.new.tickets new spot member c.self.invariant distinct
-          c.remove-member.ensures.taken c.end.ensures.collection c.end.ensures.given c.end.ensures.gone,
+          c.remove-member.ensures.taken c.end.ensures.ended,
     )
