@@ -4,6 +4,7 @@ ghost use Rattle.cordyceps_c_lists.specs.Lists.{Listed, NamesNone, PushesFront, 
 ghost use Rattle.cordyceps_c_lists.specs.Lists.{PopsFront, PopsBack, Removes, Holds, NamesFirst, NamesLast, NamesNext};
 ghost use Rattle.cordyceps_c_lists.specs.Lists.{MovesFront, MovesBack, MovesAfter, HasNoPair};
 
+use cordyceps_c_base::out::write_found;
 use cordyceps_c_base::tickets::Ticket;
 use cordyceps_c_lists::list::List;
 use cordyceps_c_lists::list_handle::ListHandle;
@@ -57,11 +58,7 @@ pub extern "C" fn cordyceps_list_push_front(
     };
     let ticket = held.push_front(alloc, payload);
     list.put(held);
-    let Some(ticket) = ticket else {
-        return false;
-    };
-    *out = ticket;
-    true
+    write_found(out, ticket)
 }
 
 /// Appends a payload as `cordyceps_list_push_front` prepends one.
@@ -85,11 +82,7 @@ pub extern "C" fn cordyceps_list_push_back(
     };
     let ticket = held.push_back(alloc, payload);
     list.put(held);
-    let Some(ticket) = ticket else {
-        return false;
-    };
-    *out = ticket;
-    true
+    write_found(out, ticket)
 }
 
 /// Inserts a payload before the element that has the ticket `at`. Its own ticket becomes `*out`, and it returns `true`.
@@ -115,11 +108,7 @@ pub extern "C" fn cordyceps_list_insert_before(
     };
     let ticket = held.insert_before(alloc, at, payload);
     list.put(held);
-    let Some(ticket) = ticket else {
-        return false;
-    };
-    *out = ticket;
-    true
+    write_found(out, ticket)
 }
 
 /// Inserts a payload after the element that has the ticket `at`. Its own ticket becomes `*out`, and it returns `true`.
@@ -145,11 +134,7 @@ pub extern "C" fn cordyceps_list_insert_after(
     };
     let ticket = held.insert_after(alloc, at, payload);
     list.put(held);
-    let Some(ticket) = ticket else {
-        return false;
-    };
-    *out = ticket;
-    true
+    write_found(out, ticket)
 }
 
 /// Removes the first element, whose payload becomes `*out`, and returns `true`. Its ticket is of no element from then
@@ -166,18 +151,14 @@ pub extern "C" fn cordyceps_list_pop_front(
     ensures { MatchOption list.old.held
         ((result ≡ false) × (list.new.held ≡ None) × (out.new ≡ out.old))
         (λ l. (m : Listed) × (list.new.held ≡ Some m)
-        × MatchBool result (PopsFront out.new l m) ((out.new ≡ out.old) × (l.nodes ≡ []) × (m ≡ l))) }
+        × MatchBool result (PopsFront out.new l m) ((out.new ≡ out.old) × ((l.nodes ≡ []) × (m ≡ l)))) }
 {
     let Some(mut held) = list.take(alloc) else {
         return false;
     };
     let payload = held.pop_front();
     list.put(held);
-    let Some(payload) = payload else {
-        return false;
-    };
-    *out = payload;
-    true
+    write_found(out, payload)
 }
 
 /// Removes the last element as `cordyceps_list_pop_front` removes the first.
@@ -193,18 +174,14 @@ pub extern "C" fn cordyceps_list_pop_back(
     ensures { MatchOption list.old.held
         ((result ≡ false) × (list.new.held ≡ None) × (out.new ≡ out.old))
         (λ l. (m : Listed) × (list.new.held ≡ Some m)
-        × MatchBool result (PopsBack out.new l m) ((out.new ≡ out.old) × (l.nodes ≡ []) × (m ≡ l))) }
+        × MatchBool result (PopsBack out.new l m) ((out.new ≡ out.old) × ((l.nodes ≡ []) × (m ≡ l)))) }
 {
     let Some(mut held) = list.take(alloc) else {
         return false;
     };
     let payload = held.pop_back();
     list.put(held);
-    let Some(payload) = payload else {
-        return false;
-    };
-    *out = payload;
-    true
+    write_found(out, payload)
 }
 
 /// Removes the element that has the ticket `at`, whose payload becomes `*out`, and returns `true`. The ticket is of no
@@ -222,18 +199,14 @@ pub extern "C" fn cordyceps_list_remove(
     ensures { MatchOption list.old.held
         ((result ≡ false) × (list.new.held ≡ None) × (out.new ≡ out.old))
         (λ l. (m : Listed) × (list.new.held ≡ Some m)
-        × MatchBool result (Removes at out.new l m) ((out.new ≡ out.old) × NamesNone l at × (m ≡ l))) }
+        × MatchBool result (Removes at out.new l m) ((out.new ≡ out.old) × (NamesNone l at × (m ≡ l)))) }
 {
     let Some(mut held) = list.take(alloc) else {
         return false;
     };
     let payload = held.remove(at);
     list.put(held);
-    let Some(payload) = payload else {
-        return false;
-    };
-    *out = payload;
-    true
+    write_found(out, payload)
 }
 
 /// Copies the payload of the element that has the ticket `at` to `*out` and returns `true`. Returns `false` if no
@@ -258,11 +231,7 @@ pub extern "C" fn cordyceps_list_get(
     };
     let payload = held.get(at);
     list.put(held);
-    let Some(payload) = payload else {
-        return false;
-    };
-    *out = payload;
-    true
+    write_found(out, payload)
 }
 
 /// Copies the ticket of the first element to `*out` and returns `true`. Returns `false` if the list is empty, or the
@@ -286,11 +255,7 @@ pub extern "C" fn cordyceps_list_front(
     };
     let ticket = held.front();
     list.put(held);
-    let Some(ticket) = ticket else {
-        return false;
-    };
-    *out = ticket;
-    true
+    write_found(out, ticket)
 }
 
 /// Copies the ticket of the last element as `cordyceps_list_front` copies that of the first.
@@ -313,11 +278,7 @@ pub extern "C" fn cordyceps_list_back(
     };
     let ticket = held.back();
     list.put(held);
-    let Some(ticket) = ticket else {
-        return false;
-    };
-    *out = ticket;
-    true
+    write_found(out, ticket)
 }
 
 /// Copies the ticket of the element after the one that has the ticket `at` to `*out` and returns `true`. Returns
@@ -342,11 +303,7 @@ pub extern "C" fn cordyceps_list_next(
     };
     let ticket = held.next(at);
     list.put(held);
-    let Some(ticket) = ticket else {
-        return false;
-    };
-    *out = ticket;
-    true
+    write_found(out, ticket)
 }
 
 /// Copies the ticket of the element before the one that has the ticket `at` to `*out` and returns `true`. Returns
@@ -371,11 +328,7 @@ pub extern "C" fn cordyceps_list_prev(
     };
     let ticket = held.prev(at);
     list.put(held);
-    let Some(ticket) = ticket else {
-        return false;
-    };
-    *out = ticket;
-    true
+    write_found(out, ticket)
 }
 
 /// Moves the element that has the ticket `at` to the front and returns `true`. It keeps its ticket, and the others
