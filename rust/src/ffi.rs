@@ -1,0 +1,57 @@
+//! The static library as `c/cordyceps.h` declares it, to which `tools/documents` holds this file.
+#![allow(dead_code, non_camel_case_types)]
+
+use std::os::raw::c_void;
+
+pub const CORDYCEPS_DONE: u32 = 0;
+pub const CORDYCEPS_EMPTY: u32 = 1;
+pub const CORDYCEPS_UNLINKED: u32 = 2;
+pub const CORDYCEPS_BUSY: u32 = 3;
+pub const CORDYCEPS_FULL: u32 = 4;
+pub const CORDYCEPS_NO_MEMORY: u32 = 5;
+pub const CORDYCEPS_NO_INBOX: u32 = 6;
+
+#[repr(C)]
+#[derive(Clone, Copy, Debug, Default, PartialEq, Eq, Hash)]
+pub struct cordyceps_ticket {
+    pub collection: u32,
+    pub slot: u32,
+    pub number: u64,
+}
+
+#[repr(C)]
+pub struct cordyceps_timers {
+    pub at: *mut c_void,
+}
+
+#[repr(C)]
+#[derive(Default)]
+pub struct cordyceps_fired {
+    pub deadline: u64,
+    pub payload: u64,
+}
+
+#[repr(C)]
+pub struct cordyceps_inbox {
+    pub at: *mut c_void,
+}
+
+#[rustfmt::skip]
+extern "C" {
+    pub fn cordyceps_timers_new(collection: u32, out: *mut cordyceps_timers) -> bool;
+    pub fn cordyceps_timers_start(timers: *mut cordyceps_timers, deadline: u64, payload: u64, out: *mut cordyceps_ticket) -> bool;
+    pub fn cordyceps_timers_stop(timers: *mut cordyceps_timers, timer: cordyceps_ticket, out: *mut cordyceps_fired) -> bool;
+    pub fn cordyceps_timers_restart(timers: *mut cordyceps_timers, timer: cordyceps_ticket, deadline: u64) -> bool;
+    pub fn cordyceps_timers_pop_due(timers: *mut cordyceps_timers, now: u64, out: *mut cordyceps_fired) -> bool;
+    pub fn cordyceps_timers_not_before(timers: *mut cordyceps_timers, out: *mut u64) -> bool;
+    pub fn cordyceps_timers_len(timers: *mut cordyceps_timers) -> usize;
+    pub fn cordyceps_timers_free(timers: *mut cordyceps_timers) -> bool;
+
+    pub fn cordyceps_inbox_new(rooms: usize, out: *mut cordyceps_inbox) -> bool;
+    pub fn cordyceps_inbox_split(inbox: *mut cordyceps_inbox, out: *mut cordyceps_inbox) -> bool;
+    pub fn cordyceps_inbox_send(inbox: *mut cordyceps_inbox, payload: u64) -> u32;
+    pub fn cordyceps_inbox_receive(inbox: *mut cordyceps_inbox, out: *mut u64) -> u32;
+    pub fn cordyceps_inbox_absorb(inbox: *mut cordyceps_inbox, other: *mut cordyceps_inbox) -> bool;
+    pub fn cordyceps_inbox_give_back(inbox: *mut cordyceps_inbox) -> bool;
+    pub fn cordyceps_inbox_free(inbox: *mut cordyceps_inbox) -> bool;
+}

@@ -1,0 +1,369 @@
+//! Inboxes: many threads send, and one at a time receives.
+
+use std::cell::Cell;
+use std::error::Error;
+use std::fmt;
+use std::marker::PhantomData;
+use std::mem;
+use std::ptr;
+use std::sync::{Arc, Mutex, PoisonError};
+use std::thread;
+
+use crate::error::NoMemory;
+use crate::ffi;
+use crate::payload::{drop_each, from_payload, into_payload};
+
+/// The most rooms that an inbox can have.
+pub const MAX_ROOMS: usize = 1 << 20;
+
+/// A handle of an inbox, to which many threads send, and from which one at a time receives.
+///
+/// Each thread has a handle of its own, made by [`split`]. Sending and receiving never wait: where a thread is to sleep
+/// until a value is there, use means of your own, such as [`thread::park`]. The values of one handle come out in the
+/// order in which it sent them.
+///
+/// A room is a permit to send one value, so the rooms bound how many values are in the inbox. Sending takes a room of
+/// the handle, which first takes some of the inbox's pool if it has none, and receiving gives one to the handle that
+/// receives. So the receiver calls [`give_back`] now and then, at the latest when it finds nothing.
+///
+/// Each value takes one block of memory of the library, and one of its own. The values that are left in the inbox are
+/// dropped with its last handle. A handle that is dropped takes a lock of the inbox for a moment, as no other call but
+/// `split` does.
+///
+/// # Examples
+///
+/// ```
+/// use cordyceps_proved::Inbox;
+/// use std::thread;
+///
+/// let mut inbox = Inbox::new(64)?;
+/// let mut sender = inbox.split()?;
+/// let thread = thread::spawn(move || {
+///     for number in 0..10 {
+///         sender.send(number).unwrap();
+///     }
+/// });
+/// thread.join().unwrap();
+/// for number in 0..10 {
+///     assert_eq!(inbox.receive(), Ok(number));
+/// }
+/// assert!(inbox.receive().is_err());
+/// inbox.give_back();
+/// # Ok::<(), Box<dyn std::error::Error>>(())
+/// ```
+///
+/// [`split`]: Inbox::split
+/// [`give_back`]: Inbox::give_back
+pub struct Inbox<T> {
+    /// Of nothing once another handle has absorbed this one.
+    handle: Handle,
+    shared: Arc<Shared<T>>,
+}
+
+/// What the handles of an inbox share: two handles are of one inbox if and only if this is the same.
+///
+/// The first handle that is dropped is kept here, and absorbs each later one, before that one's reference to this goes.
+/// So when the last reference goes, the handle that is kept is the only one of the inbox: it finds all values that are
+/// left, and is freed with the inbox.
+///
+/// That exactly one thread drops this is what `Arc` is for. Handles that called `Arc::try_unwrap` instead could all miss
+/// that they are the last: of two that try at the same time, neither may succeed.
+///
+/// It is invariant in `T`, since one handle may receive what another has sent. Else a handle of an inbox of `&'static`
+/// references could be taken for one to which shorter ones are sent:
+///
+/// ```compile_fail
+/// # use cordyceps_proved::Inbox;
+/// let mut inbox: Inbox<&'static str> = Inbox::new(1).unwrap();
+/// {
+///     let short = String::from("short");
+///     let mut other: Inbox<&str> = inbox.split().unwrap();
+///     other.send(&short).unwrap();
+/// }
+/// inbox.receive().unwrap();
+/// ```
+struct Shared<T> {
+    dropped: Mutex<Option<Handle>>,
+    values: PhantomData<Cell<T>>,
+}
+
+// SAFETY: the values, which go from thread to thread, are `Send`. `Handle` says why a handle may do so too.
+unsafe impl<T: Send> Send for Inbox<T> {}
+// SAFETY: as for `Inbox`.
+unsafe impl<T: Send> Send for Shared<T> {}
+// SAFETY: as for `Inbox`; the handle in it is behind a lock.
+unsafe impl<T: Send> Sync for Shared<T> {}
+
+impl<T> Inbox<T> {
+    /// Makes an inbox of so many rooms, all of which are in its pool.
+    ///
+    /// # Errors
+    ///
+    /// [`NoMemory`], if memory is refused to the library.
+    ///
+    /// # Panics
+    ///
+    /// Panics if there are more rooms than [`MAX_ROOMS`].
+    ///
+    /// # Complexity
+    ///
+    /// O(`rooms`), with seven allocations.
+    pub fn new(rooms: usize) -> Result<Self, NoMemory> {
+        assert!(rooms <= MAX_ROOMS, "an inbox has at most {MAX_ROOMS} rooms, and not {rooms}");
+        let mut handle = Handle::new(rooms).ok_or(NoMemory)?;
+        handle.give_back();
+        let shared = Shared { dropped: Mutex::new(None), values: PhantomData };
+        Ok(Self { handle, shared: Arc::new(shared) })
+    }
+
+    /// Makes a further handle of the same inbox, for another thread.
+    ///
+    /// # Errors
+    ///
+    /// [`NoMemory`], if memory is refused.
+    ///
+    /// # Complexity
+    ///
+    /// O(1), with one allocation.
+    pub fn split(&mut self) -> Result<Self, NoMemory> {
+        let handle = self.handle.split().ok_or(NoMemory)?;
+        Ok(Self { handle, shared: Arc::clone(&self.shared) })
+    }
+
+    /// Sends a value. The values of one handle come out in the order in which it sent them.
+    ///
+    /// # Errors
+    ///
+    /// [`SendError::Full`], if neither the handle nor the pool has a room, and [`SendError::NoMemory`], if memory is
+    /// refused. The value comes back in the error.
+    ///
+    /// # Complexity
+    ///
+    /// O(1), with two allocations.
+    pub fn send(&mut self, value: T) -> Result<(), SendError<T>> {
+        let payload = into_payload(value).map_err(SendError::NoMemory)?;
+        let why = match self.handle.send(payload) {
+            ffi::CORDYCEPS_DONE => return Ok(()),
+            ffi::CORDYCEPS_FULL => SendError::Full,
+            ffi::CORDYCEPS_NO_MEMORY => SendError::NoMemory,
+            other => unreachable!("cordyceps_inbox_send answered {other}"),
+        };
+        // SAFETY: the payload is the one made above, and was not sent.
+        Err(why(unsafe { from_payload(payload) }))
+    }
+
+    /// Receives the next value. The handle then has its room.
+    ///
+    /// # Errors
+    ///
+    /// A [`ReceiveError`] says why there is none. It is [`ReceiveError::Empty`] once all other handles of the inbox were
+    /// absorbed.
+    ///
+    /// # Complexity
+    ///
+    /// O(1).
+    pub fn receive(&mut self) -> Result<T, ReceiveError> {
+        let payload = self.handle.receive()?;
+        // SAFETY: all handles of the inbox are of this type, so the payload was made of a `T`; it comes out once.
+        Ok(unsafe { from_payload(payload) })
+    }
+
+    /// Takes over the rooms of another handle of the same inbox, which ends by this.
+    ///
+    /// # Errors
+    ///
+    /// A handle of another inbox comes back.
+    ///
+    /// # Complexity
+    ///
+    /// O(1).
+    pub fn absorb(&mut self, mut other: Self) -> Result<(), Self> {
+        if !Arc::ptr_eq(&self.shared, &other.shared) {
+            return Err(other);
+        }
+        // SAFETY: the two are of one inbox, since they share the same.
+        unsafe { self.handle.absorb(&mut other.handle) };
+        Ok(())
+    }
+
+    /// Gives all rooms of the handle to the pool, from which each handle may take them. Returns `false` if others gave
+    /// rooms back in between at each of its tries; the handle has rooms still then.
+    ///
+    /// # Complexity
+    ///
+    /// O(1).
+    pub fn give_back(&mut self) -> bool {
+        self.handle.give_back()
+    }
+}
+
+impl<T> fmt::Debug for Inbox<T> {
+    fn fmt(&self, f: &mut fmt::Formatter<'_>) -> fmt::Result {
+        f.debug_struct("Inbox").finish_non_exhaustive()
+    }
+}
+
+impl<T> Drop for Inbox<T> {
+    /// Gives the rooms back, and drops what is left in the inbox if this is its last handle.
+    fn drop(&mut self) {
+        if self.handle.is_of_nothing() {
+            return;
+        }
+        while !self.handle.give_back() {
+            thread::yield_now();
+        }
+        let mut dropped = self.shared.dropped.lock().unwrap_or_else(PoisonError::into_inner);
+        match dropped.as_mut() {
+            // SAFETY: the two are of one inbox, since both were dropped with a reference to the same `Shared`.
+            Some(first) => unsafe { first.absorb(&mut self.handle) },
+            None => *dropped = Some(mem::replace(&mut self.handle, Handle::NOTHING)),
+        }
+    }
+}
+
+impl<T> Drop for Shared<T> {
+    fn drop(&mut self) {
+        let dropped = self.dropped.get_mut().unwrap_or_else(PoisonError::into_inner);
+        if let Some(last) = dropped.as_mut() {
+            // SAFETY: as in `Inbox::receive`.
+            drop_each(|| last.receive().map(|it| drop(unsafe { from_payload::<T>(it) })).is_ok());
+        }
+    }
+}
+
+/// A handle of the library, which is of an inbox, or of nothing.
+///
+/// The header's conditions hold for each call that is made on it:
+///
+/// - It is zero before the call that makes it, and only the calls write it. It may move, and Rust never uses the place
+///   that it was moved from, so there is no copy.
+/// - A pointer to it is not null. Where a call gets two pointers, they are of two `&mut`, or the other leads to a local
+///   variable, so they lead to different memory.
+/// - It is borrowed mutably for each call, so one call at a time is made on it. Another thread can have it only by a
+///   move or by a lock, and safe Rust moves a value to another thread only where all that was done with it before
+///   happens before what that thread does. The header asks for a lock, the start or the join of a thread, or a
+///   sequentially consistent atomic in between; a `Release` and an `Acquire`, by which a channel may do it, order the
+///   calls as well.
+struct Handle(ffi::cordyceps_inbox);
+
+impl Handle {
+    const NOTHING: Self = Self(ffi::cordyceps_inbox { at: ptr::null_mut() });
+
+    fn new(rooms: usize) -> Option<Self> {
+        let mut made = Self::NOTHING;
+        // SAFETY: as `Handle` says.
+        unsafe { ffi::cordyceps_inbox_new(rooms, &mut made.0) }.then_some(made)
+    }
+
+    fn is_of_nothing(&self) -> bool {
+        self.0.at.is_null()
+    }
+
+    fn split(&mut self) -> Option<Self> {
+        let mut made = Self::NOTHING;
+        // SAFETY: as `Handle` says.
+        unsafe { ffi::cordyceps_inbox_split(&mut self.0, &mut made.0) }.then_some(made)
+    }
+
+    fn send(&mut self, payload: u64) -> u32 {
+        // SAFETY: as `Handle` says.
+        unsafe { ffi::cordyceps_inbox_send(&mut self.0, payload) }
+    }
+
+    fn receive(&mut self) -> Result<u64, ReceiveError> {
+        let mut payload = 0;
+        // SAFETY: as `Handle` says.
+        match unsafe { ffi::cordyceps_inbox_receive(&mut self.0, &mut payload) } {
+            ffi::CORDYCEPS_DONE => Ok(payload),
+            ffi::CORDYCEPS_EMPTY => Err(ReceiveError::Empty),
+            ffi::CORDYCEPS_UNLINKED => Err(ReceiveError::Unlinked),
+            ffi::CORDYCEPS_BUSY => Err(ReceiveError::Busy),
+            other => unreachable!("cordyceps_inbox_receive answered {other}"),
+        }
+    }
+
+    fn give_back(&mut self) -> bool {
+        // SAFETY: as `Handle` says.
+        unsafe { ffi::cordyceps_inbox_give_back(&mut self.0) }
+    }
+
+    /// Takes over the rooms of another handle, which is of nothing then.
+    ///
+    /// # Safety
+    ///
+    /// The two are of one inbox.
+    unsafe fn absorb(&mut self, other: &mut Self) {
+        // SAFETY: as `Handle` says; the caller keeps that the two are of one inbox.
+        unsafe { ffi::cordyceps_inbox_absorb(&mut self.0, &mut other.0) };
+    }
+}
+
+impl Drop for Handle {
+    /// Frees the handle, with the inbox if it is its only one. Others are absorbed before they are dropped, so it is
+    /// that, or of nothing, and needs no second try.
+    fn drop(&mut self) {
+        // SAFETY: as `Handle` says. No call follows.
+        unsafe { ffi::cordyceps_inbox_free(&mut self.0) };
+    }
+}
+
+/// The error of [`Inbox::send`], with the value that was not sent.
+#[derive(Clone, Copy, PartialEq, Eq)]
+pub enum SendError<T> {
+    /// Neither the handle nor the pool has a room.
+    Full(T),
+    /// Memory was refused.
+    NoMemory(T),
+}
+
+impl<T> SendError<T> {
+    /// Returns the value that was not sent.
+    pub fn into_inner(self) -> T {
+        match self {
+            Self::Full(value) | Self::NoMemory(value) => value,
+        }
+    }
+}
+
+impl<T> fmt::Debug for SendError<T> {
+    fn fmt(&self, f: &mut fmt::Formatter<'_>) -> fmt::Result {
+        f.write_str(match self {
+            Self::Full(_) => "Full(..)",
+            Self::NoMemory(_) => "NoMemory(..)",
+        })
+    }
+}
+
+impl<T> fmt::Display for SendError<T> {
+    fn fmt(&self, f: &mut fmt::Formatter<'_>) -> fmt::Result {
+        f.write_str(match self {
+            Self::Full(_) => "the inbox has no free room",
+            Self::NoMemory(_) => "memory was refused",
+        })
+    }
+}
+
+impl<T> Error for SendError<T> {}
+
+/// The error of [`Inbox::receive`], which says why there is no value.
+#[derive(Clone, Copy, Debug, PartialEq, Eq)]
+pub enum ReceiveError {
+    /// No value was there.
+    Empty,
+    /// A thread that sends is between two steps, before the next value: try again.
+    Unlinked,
+    /// Another handle receives: try again.
+    Busy,
+}
+
+impl fmt::Display for ReceiveError {
+    fn fmt(&self, f: &mut fmt::Formatter<'_>) -> fmt::Result {
+        f.write_str(match self {
+            Self::Empty => "the inbox is empty",
+            Self::Unlinked => "a thread is sending the next value",
+            Self::Busy => "another handle receives",
+        })
+    }
+}
+
+impl Error for ReceiveError {}

@@ -1,0 +1,15 @@
+#![doc = include_str!("../README.md")]
+#![warn(missing_docs, unsafe_op_in_unsafe_fn, clippy::undocumented_unsafe_blocks)]
+
+mod error;
+mod ffi;
+mod payload;
+mod ticket;
+
+pub mod inbox;
+pub mod timers;
+
+pub use error::NoMemory;
+pub use inbox::Inbox;
+pub use ticket::Ticket;
+pub use timers::Timers;

@@ -1,0 +1,213 @@
+//! Timers, which fire by their deadlines.
+
+use std::cell::UnsafeCell;
+use std::fmt;
+use std::marker::PhantomData;
+use std::ptr;
+
+use crate::error::NoMemory;
+use crate::ffi;
+use crate::payload::{drop_each, from_payload, into_payload};
+use crate::ticket::{next_collection, Ticket};
+
+/// Timers, each with a value, which fire by their deadlines.
+///
+/// Times are numbers of any unit, such as milliseconds since the start of the program. The clock is 0 at first, is
+/// moved by [`pop_due`] alone, and never goes back. A timer fires at its deadline, or at the clock if the deadline has
+/// passed when it is started. Timers that fire at the same time fire in the order of their starts.
+///
+/// Each timer takes one block of memory of the library, and one for its value.
+///
+/// # Examples
+///
+/// ```
+/// use cordyceps_proved::Timers;
+///
+/// let mut timers = Timers::new()?;
+/// timers.start(20, "close").unwrap();
+/// let poll = timers.start(10, "poll").unwrap();
+/// timers.start(10, "flush").unwrap();
+/// assert_eq!(timers.len(), 3);
+///
+/// // A timer is stopped by its ticket, which is stale from then on.
+/// assert_eq!(timers.stop(poll).unwrap().value, "poll");
+/// assert!(timers.stop(poll).is_none());
+///
+/// assert_eq!(timers.pop_due(15).unwrap().value, "flush");
+/// assert!(timers.pop_due(15).is_none());
+/// # Ok::<(), cordyceps_proved::NoMemory>(())
+/// ```
+///
+/// [`pop_due`]: Timers::pop_due
+pub struct Timers<T> {
+    handle: Handle,
+    values: PhantomData<T>,
+}
+
+/// A timer that fired or was stopped.
+#[derive(Clone, Copy, Debug, PartialEq, Eq)]
+pub struct Fired<T> {
+    /// The deadline with which the timer was started, or restarted at last.
+    pub deadline: u64,
+    /// The value with which the timer was started.
+    pub value: T,
+}
+
+/// A handle of the library, which is of timers, and whose payloads are those of `into_payload::<T>`, each once, for the
+/// `T` of the [`Timers`] that have it.
+///
+/// The header's conditions hold for each call that is made on it. The handle is zero before `cordyceps_timers_new`, and
+/// only the calls write it. It moves with the `Timers`, and Rust never uses the place that it was moved from. A pointer
+/// to it is not null, and leads to other memory than the local variable that is the other pointer of a call. One call at
+/// a time is made on it: none calls back, and no other thread makes one, since the cell is not `Sync`. Another thread
+/// has the handle after a move, as `Send` says below.
+struct Handle(UnsafeCell<ffi::cordyceps_timers>);
+
+// SAFETY: the library's calls may be made by any thread, one at a time and in an order. By safe Rust a value goes to
+// another thread only where all that was done with it before happens before what that thread does. The header asks for
+// a lock, the start or the join of a thread, or a sequentially consistent atomic in between; a `Release` and an
+// `Acquire`, by which a channel may do it, order the two as well.
+unsafe impl<T: Send> Send for Timers<T> {}
+
+impl<T> Timers<T> {
+    /// Makes timers of which none runs. The clock is 0.
+    ///
+    /// # Errors
+    ///
+    /// [`NoMemory`], if memory is refused.
+    ///
+    /// # Complexity
+    ///
+    /// O(1), with one allocation.
+    pub fn new() -> Result<Self, NoMemory> {
+        let mut handle = ffi::cordyceps_timers { at: ptr::null_mut() };
+        // SAFETY: the handle is zero, the pointer is not null, and nothing else has the handle.
+        if !unsafe { ffi::cordyceps_timers_new(next_collection(), &mut handle) } {
+            return Err(NoMemory);
+        }
+        Ok(Self { handle: Handle(UnsafeCell::new(handle)), values: PhantomData })
+    }
+
+    /// Starts a timer, which fires at its deadline, or at the clock if the deadline has passed, after all that do not
+    /// fire later. Returns its ticket, by which it can be stopped or restarted until it has fired.
+    ///
+    /// # Errors
+    ///
+    /// If memory is refused, or there can be no more timers, the value comes back, and nothing has changed.
+    ///
+    /// # Complexity
+    ///
+    /// O(1) amortized, with two allocations.
+    pub fn start(&mut self, deadline: u64, value: T) -> Result<Ticket, T> {
+        let payload = into_payload(value)?;
+        let mut ticket = ffi::cordyceps_ticket::default();
+        // SAFETY: as `Handle` says; the ticket is a variable of this function.
+        if unsafe { ffi::cordyceps_timers_start(self.handle.0.get(), deadline, payload, &mut ticket) } {
+            Ok(Ticket(ticket))
+        } else {
+            // SAFETY: the payload was made above, and the library has not taken it.
+            Err(unsafe { from_payload(payload) })
+        }
+    }
+
+    /// Stops a timer and returns it. Returns `None` if the ticket is not of a timer that runs here: it has fired or was
+    /// stopped, or it is of another collection.
+    ///
+    /// # Complexity
+    ///
+    /// O(1).
+    pub fn stop(&mut self, timer: Ticket) -> Option<Fired<T>> {
+        let mut out = ffi::cordyceps_fired::default();
+        // SAFETY: as `Handle` says; `out` is a variable of this function.
+        let is_stopped = unsafe { ffi::cordyceps_timers_stop(self.handle.0.get(), timer.0, &mut out) };
+        // SAFETY: a timer with this payload ran here, and runs no more.
+        is_stopped.then(|| unsafe { Fired::from_c(out) })
+    }
+
+    /// Gives a timer another deadline, as if it were stopped and started again, and keeps its ticket. Returns `false` if
+    /// the ticket is not of a timer that runs here, and nothing has changed then.
+    ///
+    /// # Complexity
+    ///
+    /// O(1).
+    pub fn restart(&mut self, timer: Ticket, deadline: u64) -> bool {
+        // SAFETY: as `Handle` says.
+        unsafe { ffi::cordyceps_timers_restart(self.handle.0.get(), timer.0, deadline) }
+    }
+
+    /// Removes the first timer and returns it, if it fires at the time `now` or before. The clock is then the time at
+    /// which it fired. Returns `None` if none fires by then; the clock is then `now`, unless it is later.
+    ///
+    /// # Complexity
+    ///
+    /// O(1) amortized: a timer is moved at most 64 times before it comes out.
+    pub fn pop_due(&mut self, now: u64) -> Option<Fired<T>> {
+        let mut out = ffi::cordyceps_fired::default();
+        // SAFETY: as `Handle` says; `out` is a variable of this function.
+        let is_due = unsafe { ffi::cordyceps_timers_pop_due(self.handle.0.get(), now, &mut out) };
+        // SAFETY: a timer with this payload ran here, and runs no more.
+        is_due.then(|| unsafe { Fired::from_c(out) })
+    }
+
+    /// Returns a time before which no timer fires, or `None` if none runs. Sleep until then, and call
+    /// [`pop_due`](Timers::pop_due): a timer may fire later than this time, and not before.
+    ///
+    /// # Complexity
+    ///
+    /// O(1).
+    pub fn not_before(&self) -> Option<u64> {
+        let mut out = 0;
+        // SAFETY: as `Handle` says; `out` is a variable of this function.
+        unsafe { ffi::cordyceps_timers_not_before(self.handle.0.get(), &mut out) }.then_some(out)
+    }
+
+    /// Returns how many timers run.
+    ///
+    /// # Complexity
+    ///
+    /// O(1).
+    pub fn len(&self) -> usize {
+        // SAFETY: as `Handle` says.
+        unsafe { ffi::cordyceps_timers_len(self.handle.0.get()) }
+    }
+
+    /// Returns whether no timer runs.
+    ///
+    /// # Complexity
+    ///
+    /// O(1).
+    pub fn is_empty(&self) -> bool {
+        self.len() == 0
+    }
+}
+
+impl<T> Fired<T> {
+    /// # Safety
+    ///
+    /// The payload is of `into_payload::<T>`, and its value was not taken before.
+    unsafe fn from_c(fired: ffi::cordyceps_fired) -> Self {
+        // SAFETY: the caller keeps the same.
+        let value = unsafe { from_payload(fired.payload) };
+        Self { deadline: fired.deadline, value }
+    }
+}
+
+impl<T> fmt::Debug for Timers<T> {
+    fn fmt(&self, f: &mut fmt::Formatter<'_>) -> fmt::Result {
+        f.debug_struct("Timers").field("len", &self.len()).finish_non_exhaustive()
+    }
+}
+
+impl<T> Drop for Timers<T> {
+    /// Drops the values of all timers that run, in the order in which they would fire.
+    fn drop(&mut self) {
+        drop_each(|| self.pop_due(u64::MAX).is_some());
+    }
+}
+
+impl Drop for Handle {
+    fn drop(&mut self) {
+        // SAFETY: as `Handle` says. No call follows.
+        unsafe { ffi::cordyceps_timers_free(self.0.get()) };
+    }
+}
