@@ -185,6 +185,14 @@ def build_libraries(crate):
             stop(f"{below.name} could not be built")
 
 
+def left_out(what, needs):
+    """Says what is left out for want of a command, and answers whether that is so."""
+    lacks = [it for it in needs if not shutil.which(it)]
+    if lacks:
+        print(f"{NAME}: left out {what}: there is no {' and no '.join(lacks)}", flush=True)
+    return bool(lacks)
+
+
 def verdict(passed, failed):
     """Writes the last line of a script that judges, and answers its status."""
     print(f"{passed} passed, {failed} failed")
