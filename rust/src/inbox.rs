@@ -1,16 +1,15 @@
 //! Inboxes: many threads send, and one at a time receives.
 
-use std::cell::Cell;
 use std::error::Error;
 use std::fmt;
 use std::marker::PhantomData;
-use std::mem;
 use std::ptr;
 use std::sync::{Arc, Mutex, PoisonError};
 use std::thread;
 
 use crate::error::NoMemory;
 use crate::ffi;
+use crate::handle::{Handle, Raw};
 use crate::payload::{drop_each, from_payload, into_payload};
 
 /// The most rooms that an inbox can have.
@@ -55,8 +54,9 @@ pub const MAX_ROOMS: usize = 1 << 20;
 /// [`split`]: Inbox::split
 /// [`give_back`]: Inbox::give_back
 pub struct Inbox<T> {
-    /// Of nothing once another handle has absorbed this one.
-    handle: Handle,
+    /// Of nothing once another handle has absorbed this one. The payloads of an inbox are those of `into_payload::<T>`,
+    /// each once, of the same type by all handles.
+    handle: Handle<ffi::cordyceps_inbox>,
     shared: Arc<Shared<T>>,
 }
 
@@ -83,16 +83,10 @@ pub struct Inbox<T> {
 /// inbox.receive().unwrap();
 /// ```
 struct Shared<T> {
-    dropped: Mutex<Option<Handle>>,
-    values: PhantomData<Cell<T>>,
+    dropped: Mutex<Option<Handle<ffi::cordyceps_inbox>>>,
+    // (the handles pass values as a lock does, so they are `Send` and variant as it is)
+    values: PhantomData<Mutex<T>>,
 }
-
-// SAFETY: the values, which go from thread to thread, are `Send`. `Handle` says why a handle may do so too.
-unsafe impl<T: Send> Send for Inbox<T> {}
-// SAFETY: as for `Inbox`.
-unsafe impl<T: Send> Send for Shared<T> {}
-// SAFETY: as for `Inbox`; the handle in it is behind a lock.
-unsafe impl<T: Send> Sync for Shared<T> {}
 
 impl<T> Inbox<T> {
     /// Makes an inbox of so many rooms, all of which are in its pool.
@@ -216,7 +210,7 @@ impl<T> Drop for Inbox<T> {
         match dropped.as_mut() {
             // SAFETY: the two are of one inbox, since both were dropped with a reference to the same `Shared`.
             Some(first) => unsafe { first.absorb(&mut self.handle) },
-            None => *dropped = Some(mem::replace(&mut self.handle, Handle::NOTHING)),
+            None => *dropped = Some(self.handle.take()),
         }
     }
 }
@@ -231,49 +225,41 @@ impl<T> Drop for Shared<T> {
     }
 }
 
-/// A handle of the library, which is of an inbox, or of nothing.
-///
-/// The header's conditions hold for each call that is made on it:
-///
-/// - It is zero before the call that makes it, and only the calls write it. It may move, and Rust never uses the place
-///   that it was moved from, so there is no copy.
-/// - A pointer to it is not null. Where a call gets two pointers, they are of two `&mut`, or the other leads to a local
-///   variable, so they lead to different memory.
-/// - It is borrowed mutably for each call, so one call at a time is made on it. Another thread can have it only by a
-///   move or by a lock, and safe Rust moves a value to another thread only where all that was done with it before
-///   happens before what that thread does. The header asks for a lock, the start or the join of a thread, or a
-///   sequentially consistent atomic in between; a `Release` and an `Acquire`, by which a channel may do it, order the
-///   calls as well.
-struct Handle(ffi::cordyceps_inbox);
-
-impl Handle {
-    const NOTHING: Self = Self(ffi::cordyceps_inbox { at: ptr::null_mut() });
-
-    fn new(rooms: usize) -> Option<Self> {
-        let mut made = Self::NOTHING;
-        // SAFETY: as `Handle` says.
-        unsafe { ffi::cordyceps_inbox_new(rooms, &mut made.0) }.then_some(made)
-    }
+impl Raw for ffi::cordyceps_inbox {
+    const NOTHING: Self = Self { at: ptr::null_mut() };
 
     fn is_of_nothing(&self) -> bool {
-        self.0.at.is_null()
+        self.at.is_null()
+    }
+
+    /// Frees the handle, with the inbox if it is its only one. It is that, or of nothing, since others are absorbed
+    /// before. So it needs no second try.
+    unsafe fn free(this: *mut Self) {
+        // SAFETY: as the caller keeps.
+        unsafe { ffi::cordyceps_inbox_free(this) };
+    }
+}
+
+impl Handle<ffi::cordyceps_inbox> {
+    fn new(rooms: usize) -> Option<Self> {
+        // SAFETY: as `Handle` says.
+        Self::made_by(|it| unsafe { ffi::cordyceps_inbox_new(rooms, it) })
     }
 
     fn split(&mut self) -> Option<Self> {
-        let mut made = Self::NOTHING;
         // SAFETY: as `Handle` says.
-        unsafe { ffi::cordyceps_inbox_split(&mut self.0, &mut made.0) }.then_some(made)
+        Self::made_by(|it| unsafe { ffi::cordyceps_inbox_split(self.raw(), it) })
     }
 
     fn send(&mut self, payload: u64) -> u32 {
         // SAFETY: as `Handle` says.
-        unsafe { ffi::cordyceps_inbox_send(&mut self.0, payload) }
+        unsafe { ffi::cordyceps_inbox_send(self.raw(), payload) }
     }
 
     fn receive(&mut self) -> Result<u64, ReceiveError> {
         let mut payload = 0;
         // SAFETY: as `Handle` says.
-        match unsafe { ffi::cordyceps_inbox_receive(&mut self.0, &mut payload) } {
+        match unsafe { ffi::cordyceps_inbox_receive(self.raw(), &mut payload) } {
             ffi::CORDYCEPS_DONE => Ok(payload),
             ffi::CORDYCEPS_EMPTY => Err(ReceiveError::Empty),
             ffi::CORDYCEPS_UNLINKED => Err(ReceiveError::Unlinked),
@@ -284,7 +270,7 @@ impl Handle {
 
     fn give_back(&mut self) -> bool {
         // SAFETY: as `Handle` says.
-        unsafe { ffi::cordyceps_inbox_give_back(&mut self.0) }
+        unsafe { ffi::cordyceps_inbox_give_back(self.raw()) }
     }
 
     /// Takes over the rooms of another handle, which is of nothing then.
@@ -294,16 +280,7 @@ impl Handle {
     /// The two are of one inbox.
     unsafe fn absorb(&mut self, other: &mut Self) {
         // SAFETY: as `Handle` says; the caller keeps that the two are of one inbox.
-        unsafe { ffi::cordyceps_inbox_absorb(&mut self.0, &mut other.0) };
-    }
-}
-
-impl Drop for Handle {
-    /// Frees the handle, with the inbox if it is its only one. Others are absorbed before they are dropped, so it is
-    /// that, or of nothing, and needs no second try.
-    fn drop(&mut self) {
-        // SAFETY: as `Handle` says. No call follows.
-        unsafe { ffi::cordyceps_inbox_free(&mut self.0) };
+        unsafe { ffi::cordyceps_inbox_absorb(self.raw(), other.raw()) };
     }
 }
 

@@ -3,6 +3,7 @@
 
 mod error;
 mod ffi;
+mod handle;
 mod payload;
 mod ticket;
 

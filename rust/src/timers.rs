@@ -1,12 +1,12 @@
 //! Timers, which fire by their deadlines.
 
-use std::cell::UnsafeCell;
 use std::fmt;
 use std::marker::PhantomData;
 use std::ptr;
 
 use crate::error::NoMemory;
 use crate::ffi;
+use crate::handle::{Handle, Raw};
 use crate::payload::{drop_each, from_payload, into_payload};
 use crate::ticket::{next_collection, Ticket};
 
@@ -40,7 +40,8 @@ use crate::ticket::{next_collection, Ticket};
 ///
 /// [`pop_due`]: Timers::pop_due
 pub struct Timers<T> {
-    handle: Handle,
+    /// Its payloads are those of `into_payload::<T>`, each once.
+    handle: Handle<ffi::cordyceps_timers>,
     values: PhantomData<T>,
 }
 
@@ -53,21 +54,18 @@ pub struct Fired<T> {
     pub value: T,
 }
 
-/// A handle of the library, which is of timers, and whose payloads are those of `into_payload::<T>`, each once, for the
-/// `T` of the [`Timers`] that have it.
-///
-/// The header's conditions hold for each call that is made on it. The handle is zero before `cordyceps_timers_new`, and
-/// only the calls write it. It moves with the `Timers`, and Rust never uses the place that it was moved from. A pointer
-/// to it is not null, and leads to other memory than the local variable that is the other pointer of a call. One call at
-/// a time is made on it: none calls back, and no other thread makes one, since the cell is not `Sync`. Another thread
-/// has the handle after a move, as `Send` says below.
-struct Handle(UnsafeCell<ffi::cordyceps_timers>);
+impl Raw for ffi::cordyceps_timers {
+    const NOTHING: Self = Self { at: ptr::null_mut() };
 
-// SAFETY: the library's calls may be made by any thread, one at a time and in an order. By safe Rust a value goes to
-// another thread only where all that was done with it before happens before what that thread does. The header asks for
-// a lock, the start or the join of a thread, or a sequentially consistent atomic in between; a `Release` and an
-// `Acquire`, by which a channel may do it, order the two as well.
-unsafe impl<T: Send> Send for Timers<T> {}
+    fn is_of_nothing(&self) -> bool {
+        self.at.is_null()
+    }
+
+    unsafe fn free(this: *mut Self) {
+        // SAFETY: as the caller keeps.
+        unsafe { ffi::cordyceps_timers_free(this) };
+    }
+}
 
 impl<T> Timers<T> {
     /// Makes timers of which none runs. The clock is 0.
@@ -80,12 +78,9 @@ impl<T> Timers<T> {
     ///
     /// O(1), with one allocation.
     pub fn new() -> Result<Self, NoMemory> {
-        let mut handle = ffi::cordyceps_timers { at: ptr::null_mut() };
-        // SAFETY: the handle is zero, the pointer is not null, and nothing else has the handle.
-        if !unsafe { ffi::cordyceps_timers_new(next_collection(), &mut handle) } {
-            return Err(NoMemory);
-        }
-        Ok(Self { handle: Handle(UnsafeCell::new(handle)), values: PhantomData })
+        // SAFETY: as `Handle` says.
+        let made = Handle::made_by(|it| unsafe { ffi::cordyceps_timers_new(next_collection(), it) });
+        made.map(|handle| Self { handle, values: PhantomData }).ok_or(NoMemory)
     }
 
     /// Starts a timer, which fires at its deadline, or at the clock if the deadline has passed, after all that do not
@@ -101,8 +96,8 @@ impl<T> Timers<T> {
     pub fn start(&mut self, deadline: u64, value: T) -> Result<Ticket, T> {
         let payload = into_payload(value)?;
         let mut ticket = ffi::cordyceps_ticket::default();
-        // SAFETY: as `Handle` says; the ticket is a variable of this function.
-        if unsafe { ffi::cordyceps_timers_start(self.handle.0.get(), deadline, payload, &mut ticket) } {
+        // SAFETY: as `Handle` says.
+        if unsafe { ffi::cordyceps_timers_start(self.handle.raw(), deadline, payload, &mut ticket) } {
             Ok(Ticket(ticket))
         } else {
             // SAFETY: the payload was made above, and the library has not taken it.
@@ -118,8 +113,8 @@ impl<T> Timers<T> {
     /// O(1).
     pub fn stop(&mut self, timer: Ticket) -> Option<Fired<T>> {
         let mut out = ffi::cordyceps_fired::default();
-        // SAFETY: as `Handle` says; `out` is a variable of this function.
-        let is_stopped = unsafe { ffi::cordyceps_timers_stop(self.handle.0.get(), timer.0, &mut out) };
+        // SAFETY: as `Handle` says.
+        let is_stopped = unsafe { ffi::cordyceps_timers_stop(self.handle.raw(), timer.0, &mut out) };
         // SAFETY: a timer with this payload ran here, and runs no more.
         is_stopped.then(|| unsafe { Fired::from_c(out) })
     }
@@ -132,7 +127,7 @@ impl<T> Timers<T> {
     /// O(1).
     pub fn restart(&mut self, timer: Ticket, deadline: u64) -> bool {
         // SAFETY: as `Handle` says.
-        unsafe { ffi::cordyceps_timers_restart(self.handle.0.get(), timer.0, deadline) }
+        unsafe { ffi::cordyceps_timers_restart(self.handle.raw(), timer.0, deadline) }
     }
 
     /// Removes the first timer and returns it, if it fires at the time `now` or before. The clock is then the time at
@@ -143,8 +138,8 @@ impl<T> Timers<T> {
     /// O(1) amortized: a timer is moved at most 64 times before it comes out.
     pub fn pop_due(&mut self, now: u64) -> Option<Fired<T>> {
         let mut out = ffi::cordyceps_fired::default();
-        // SAFETY: as `Handle` says; `out` is a variable of this function.
-        let is_due = unsafe { ffi::cordyceps_timers_pop_due(self.handle.0.get(), now, &mut out) };
+        // SAFETY: as `Handle` says.
+        let is_due = unsafe { ffi::cordyceps_timers_pop_due(self.handle.raw(), now, &mut out) };
         // SAFETY: a timer with this payload ran here, and runs no more.
         is_due.then(|| unsafe { Fired::from_c(out) })
     }
@@ -157,8 +152,8 @@ impl<T> Timers<T> {
     /// O(1).
     pub fn not_before(&self) -> Option<u64> {
         let mut out = 0;
-        // SAFETY: as `Handle` says; `out` is a variable of this function.
-        unsafe { ffi::cordyceps_timers_not_before(self.handle.0.get(), &mut out) }.then_some(out)
+        // SAFETY: as `Handle` says.
+        unsafe { ffi::cordyceps_timers_not_before(self.handle.raw(), &mut out) }.then_some(out)
     }
 
     /// Returns how many timers run.
@@ -168,7 +163,7 @@ impl<T> Timers<T> {
     /// O(1).
     pub fn len(&self) -> usize {
         // SAFETY: as `Handle` says.
-        unsafe { ffi::cordyceps_timers_len(self.handle.0.get()) }
+        unsafe { ffi::cordyceps_timers_len(self.handle.raw()) }
     }
 
     /// Returns whether no timer runs.
@@ -202,12 +197,5 @@ impl<T> Drop for Timers<T> {
     /// Drops the values of all timers that run, in the order in which they would fire.
     fn drop(&mut self) {
         drop_each(|| self.pop_due(u64::MAX).is_some());
-    }
-}
-
-impl Drop for Handle {
-    fn drop(&mut self) {
-        // SAFETY: as `Handle` says. No call follows.
-        unsafe { ffi::cordyceps_timers_free(self.0.get()) };
     }
 }

@@ -1,0 +1,69 @@
+//! Handles of the library, and how they keep the conditions of its header.
+
+use std::cell::UnsafeCell;
+
+/// A handle as the library has it, which is of a collection, or of nothing.
+pub(crate) trait Raw {
+    /// The handle of nothing.
+    const NOTHING: Self;
+
+    /// Whether it is of nothing.
+    fn is_of_nothing(&self) -> bool;
+
+    /// Frees the handle at `this`.
+    ///
+    /// # Safety
+    ///
+    /// The header's conditions hold, as for each call.
+    unsafe fn free(this: *mut Self);
+}
+
+/// A handle of the library, which is freed when it is dropped.
+///
+/// The header asks for this of each call, and it holds for each that gets [`raw`](Handle::raw):
+///
+/// - A handle is zero before its first call, only the calls write it, and no copy of it is used: this begins as
+///   [`Raw::NOTHING`], and nothing else writes it. Rust never uses the place that it was moved from.
+/// - No pointer is null, and two pointers of a call lead to different memory: one is that of a handle, and the other
+///   that of another handle, by two `&mut`, or of a local variable.
+/// - One call at a time is made on a handle: the calls do not call back, and no two threads have a reference to this,
+///   which is not `Sync`.
+/// - Another thread may make the next call, if a lock, the start or the join of a thread, or a sequentially consistent
+///   atomic lies in between. Safe Rust hands a value to another thread only where what was done with it happens before
+///   what that thread does with it. So it is by one of these, or by something that orders the two calls as they do, such
+///   as the `Release` and the `Acquire` of a channel.
+pub(crate) struct Handle<H: Raw>(UnsafeCell<H>);
+
+// SAFETY: the library lets each thread make calls on a handle, if they are ordered as above. What the payloads stand
+// for is a matter of the types that have the handle.
+unsafe impl<H: Raw> Send for Handle<H> {}
+
+impl<H: Raw> Handle<H> {
+    /// Makes a handle by a call that makes a collection in a handle of nothing, or answers `false`.
+    pub(crate) fn made_by(new: impl FnOnce(*mut H) -> bool) -> Option<Self> {
+        let made = Self(UnsafeCell::new(H::NOTHING));
+        new(made.raw()).then_some(made)
+    }
+
+    /// The pointer that the calls get.
+    pub(crate) fn raw(&self) -> *mut H {
+        self.0.get()
+    }
+
+    /// Whether it is of nothing.
+    pub(crate) fn is_of_nothing(&mut self) -> bool {
+        self.0.get_mut().is_of_nothing()
+    }
+
+    /// Takes the handle, and leaves one of nothing.
+    pub(crate) fn take(&mut self) -> Self {
+        std::mem::replace(self, Self(UnsafeCell::new(H::NOTHING)))
+    }
+}
+
+impl<H: Raw> Drop for Handle<H> {
+    fn drop(&mut self) {
+        // SAFETY: as `Handle` says. No call follows.
+        unsafe { H::free(self.raw()) };
+    }
+}
