@@ -26,8 +26,9 @@ pub const MAX_ROOMS: usize = 1 << 20;
 /// receives. So the receiver calls [`give_back`] now and then, at the latest when it finds nothing.
 ///
 /// Each value takes one block of memory of the library, and one of its own. The values that are left in the inbox are
-/// dropped with its last handle. A handle that is dropped takes a lock of the inbox for a moment, as no other call but
-/// `split` does.
+/// dropped with its last handle. A handle that is dropped takes a lock of the inbox for a moment, as no other call does.
+///
+/// A handle is `Send` if the values are, and not `Sync`.
 ///
 /// # Examples
 ///
