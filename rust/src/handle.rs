@@ -32,6 +32,28 @@ pub(crate) trait Raw {
 ///   atomic lies in between. Safe Rust hands a value to another thread only where what was done with it happens before
 ///   what that thread does with it. So it is by one of these, or by something that orders the two calls as they do, such
 ///   as the `Release` and the `Acquire` of a channel.
+///
+/// So no collection is `Sync`, and one is `Send` only if its values are:
+///
+/// ```compile_fail,E0277
+/// fn is_sync<T: Sync>() {}
+/// is_sync::<cordyceps_proved::Timers<u8>>();
+/// ```
+///
+/// ```compile_fail,E0277
+/// fn is_sync<T: Sync>() {}
+/// is_sync::<cordyceps_proved::Inbox<u8>>();
+/// ```
+///
+/// ```compile_fail,E0277
+/// fn is_send<T: Send>() {}
+/// is_send::<cordyceps_proved::Timers<std::rc::Rc<u8>>>();
+/// ```
+///
+/// ```compile_fail,E0277
+/// fn is_send<T: Send>() {}
+/// is_send::<cordyceps_proved::Inbox<std::rc::Rc<u8>>>();
+/// ```
 pub(crate) struct Handle<H: Raw>(UnsafeCell<H>);
 
 // SAFETY: the library lets each thread make calls on a handle, if they are ordered as above. What the payloads stand

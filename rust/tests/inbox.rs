@@ -2,11 +2,12 @@
 
 mod common;
 
+use std::collections::VecDeque;
 use std::panic::{catch_unwind, AssertUnwindSafe};
 use std::sync::{Arc, Barrier};
 use std::thread;
 
-use common::{Drops, Panics};
+use common::{Drops, Panics, Random};
 use cordyceps_proved::inbox::{ReceiveError, SendError, MAX_ROOMS};
 use cordyceps_proved::Inbox;
 
@@ -48,6 +49,40 @@ fn values_of_four_threads_come_in_their_order() {
     }
     threads.into_iter().for_each(|it| it.join().unwrap());
     assert!(inbox.receive().is_err());
+}
+
+#[test]
+fn random_calls_agree_with_a_queue() {
+    let mut random = Random::new(4);
+    for _ in 0..100 {
+        let drops = Drops::new(500);
+        let mut handles = vec![Inbox::new(ROOMS).unwrap()];
+        let mut held = VecDeque::new();
+        for number in 0..500 {
+            let one = random.below(handles.len() as u64) as usize;
+            match random.below(12) {
+                0 if handles.len() < 9 => {
+                    let handle = handles[one].split().unwrap();
+                    handles.push(handle);
+                }
+                1 if handles.len() > 1 => drop(handles.swap_remove(one)),
+                2 if handles.len() > 1 => {
+                    let other = handles.swap_remove(one);
+                    let into = random.below(handles.len() as u64) as usize;
+                    handles[into].absorb(other).unwrap();
+                }
+                3 => assert!(handles[one].give_back()),
+                4..=7 => match handles[one].send(drops.value(number)) {
+                    Ok(()) => held.push_back(number),
+                    Err(why) => assert!(matches!(why, SendError::Full(back) if back.number == number)),
+                },
+                _ => assert_eq!(handles[one].receive().ok().map(|it| it.number), held.pop_front()),
+            }
+            assert!(held.len() <= ROOMS && held.iter().all(|&it| drops.of(it) == 0));
+        }
+        drop(handles);
+        assert!(held.iter().all(|&it| drops.of(it) == 1) && (0..500).all(|it| drops.of(it) <= 1));
+    }
 }
 
 #[test]
