@@ -10,7 +10,9 @@ use crate::ffi;
 /// Each call with a ticket checks it. A ticket is stale once its element has left the collection, and stays so: it names
 /// no later element. A stale ticket, or one of another collection, is refused, and nothing has changed then. All
 /// collections of a program differ in this, up to 2³² of them, after which their numbers begin anew.
-#[derive(Clone, Copy, PartialEq, Eq, Hash)]
+///
+/// The default is a ticket of no element.
+#[derive(Clone, Copy, Default, PartialEq, Eq, Hash)]
 pub struct Ticket(pub(crate) ffi::cordyceps_ticket);
 
 impl fmt::Debug for Ticket {

@@ -136,6 +136,16 @@ fn stale_tickets_are_refused() {
 }
 
 #[test]
+fn the_default_ticket_is_of_no_timer() {
+    // (one of these may be the first collection of the program)
+    for _ in 0..20 {
+        let mut timers = Timers::new().unwrap();
+        timers.start(1, 1).unwrap();
+        assert!(timers.stop(Ticket::default()).is_none() && !timers.restart(Ticket::default(), 2));
+    }
+}
+
+#[test]
 fn tickets_of_other_timers_are_refused() {
     let mut ours = Timers::new().unwrap();
     let mut others = Timers::new().unwrap();
