@@ -20,7 +20,7 @@ pub(crate) trait Raw {
 
 /// A handle of the library, which is freed when it is dropped.
 ///
-/// The header asks for this of each call, and it holds for each that gets [`raw`](Handle::raw):
+/// The header asks for this, and it holds for each call that gets [`raw`](Handle::raw):
 ///
 /// - A handle is zero before its first call, only the calls write it, and no copy of it is used: this begins as
 ///   [`Raw::NOTHING`], and nothing else writes it. Rust never uses the place that it was moved from.
@@ -32,6 +32,8 @@ pub(crate) trait Raw {
 ///   atomic lies in between. Safe Rust hands a value to another thread only where what was done with it happens before
 ///   what that thread does with it. So it is by one of these, or by something that orders the two calls as they do, such
 ///   as the `Release` and the `Acquire` of a channel.
+/// - No call is made from a signal handler, or in the child of a fork of a process with threads: safe Rust runs nothing
+///   there. Nor does it replace `malloc`, `realloc` or `free`.
 ///
 /// So no collection is `Sync`, and one is `Send` only if its values are:
 ///
@@ -85,7 +87,7 @@ impl<H: Raw> Handle<H> {
 
 impl<H: Raw> Drop for Handle<H> {
     fn drop(&mut self) {
-        // SAFETY: as `Handle` says. No call follows.
+        // SAFETY: the header's conditions hold, as `Handle` says. No call follows.
         unsafe { H::free(self.raw()) };
     }
 }

@@ -236,30 +236,30 @@ impl Raw for ffi::cordyceps_inbox {
     /// Frees the handle, with the inbox if it is its only one. It is that, or of nothing, since others are absorbed
     /// before. So it needs no second try.
     unsafe fn free(this: *mut Self) {
-        // SAFETY: as the caller keeps.
+        // SAFETY: the header's conditions hold, as the caller keeps.
         unsafe { ffi::cordyceps_inbox_free(this) };
     }
 }
 
 impl Handle<ffi::cordyceps_inbox> {
     fn new(rooms: usize) -> Option<Self> {
-        // SAFETY: as `Handle` says.
+        // SAFETY: the header's conditions hold, as `Handle` says.
         Self::made_by(|it| unsafe { ffi::cordyceps_inbox_new(rooms, it) })
     }
 
     fn split(&mut self) -> Option<Self> {
-        // SAFETY: as `Handle` says.
+        // SAFETY: the header's conditions hold, as `Handle` says.
         Self::made_by(|it| unsafe { ffi::cordyceps_inbox_split(self.raw(), it) })
     }
 
     fn send(&mut self, payload: u64) -> u32 {
-        // SAFETY: as `Handle` says.
+        // SAFETY: the header's conditions hold, as `Handle` says.
         unsafe { ffi::cordyceps_inbox_send(self.raw(), payload) }
     }
 
     fn receive(&mut self) -> Result<u64, ReceiveError> {
         let mut payload = 0;
-        // SAFETY: as `Handle` says.
+        // SAFETY: the header's conditions hold, as `Handle` says.
         match unsafe { ffi::cordyceps_inbox_receive(self.raw(), &mut payload) } {
             ffi::CORDYCEPS_DONE => Ok(payload),
             ffi::CORDYCEPS_EMPTY => Err(ReceiveError::Empty),
@@ -270,7 +270,7 @@ impl Handle<ffi::cordyceps_inbox> {
     }
 
     fn give_back(&mut self) -> bool {
-        // SAFETY: as `Handle` says.
+        // SAFETY: the header's conditions hold, as `Handle` says.
         unsafe { ffi::cordyceps_inbox_give_back(self.raw()) }
     }
 
@@ -280,7 +280,7 @@ impl Handle<ffi::cordyceps_inbox> {
     ///
     /// The two are of one inbox.
     unsafe fn absorb(&mut self, other: &mut Self) {
-        // SAFETY: as `Handle` says; the caller keeps that the two are of one inbox.
+        // SAFETY: the header's conditions hold, as `Handle` says; the caller keeps that the two are of one inbox.
         unsafe { ffi::cordyceps_inbox_absorb(self.raw(), other.raw()) };
     }
 }

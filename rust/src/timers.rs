@@ -62,7 +62,7 @@ impl Raw for ffi::cordyceps_timers {
     }
 
     unsafe fn free(this: *mut Self) {
-        // SAFETY: as the caller keeps.
+        // SAFETY: the header's conditions hold, as the caller keeps.
         unsafe { ffi::cordyceps_timers_free(this) };
     }
 }
@@ -78,7 +78,7 @@ impl<T> Timers<T> {
     ///
     /// O(1), with one allocation.
     pub fn new() -> Result<Self, NoMemory> {
-        // SAFETY: as `Handle` says.
+        // SAFETY: the header's conditions hold, as `Handle` says.
         let made = Handle::made_by(|it| unsafe { ffi::cordyceps_timers_new(next_collection(), it) });
         made.map(|handle| Self { handle, values: PhantomData }).ok_or(NoMemory)
     }
@@ -96,7 +96,7 @@ impl<T> Timers<T> {
     pub fn start(&mut self, deadline: u64, value: T) -> Result<Ticket, T> {
         let payload = into_payload(value)?;
         let mut ticket = ffi::cordyceps_ticket::default();
-        // SAFETY: as `Handle` says.
+        // SAFETY: the header's conditions hold, as `Handle` says.
         if unsafe { ffi::cordyceps_timers_start(self.handle.raw(), deadline, payload, &mut ticket) } {
             Ok(Ticket(ticket))
         } else {
@@ -113,7 +113,7 @@ impl<T> Timers<T> {
     /// O(1).
     pub fn stop(&mut self, timer: Ticket) -> Option<Fired<T>> {
         let mut out = ffi::cordyceps_fired::default();
-        // SAFETY: as `Handle` says.
+        // SAFETY: the header's conditions hold, as `Handle` says.
         let is_stopped = unsafe { ffi::cordyceps_timers_stop(self.handle.raw(), timer.0, &mut out) };
         // SAFETY: a timer with this payload ran here, and runs no more.
         is_stopped.then(|| unsafe { Fired::from_c(out) })
@@ -126,7 +126,7 @@ impl<T> Timers<T> {
     ///
     /// O(1).
     pub fn restart(&mut self, timer: Ticket, deadline: u64) -> bool {
-        // SAFETY: as `Handle` says.
+        // SAFETY: the header's conditions hold, as `Handle` says.
         unsafe { ffi::cordyceps_timers_restart(self.handle.raw(), timer.0, deadline) }
     }
 
@@ -138,7 +138,7 @@ impl<T> Timers<T> {
     /// O(1) amortized: a timer is moved at most 64 times before it comes out.
     pub fn pop_due(&mut self, now: u64) -> Option<Fired<T>> {
         let mut out = ffi::cordyceps_fired::default();
-        // SAFETY: as `Handle` says.
+        // SAFETY: the header's conditions hold, as `Handle` says.
         let is_due = unsafe { ffi::cordyceps_timers_pop_due(self.handle.raw(), now, &mut out) };
         // SAFETY: a timer with this payload ran here, and runs no more.
         is_due.then(|| unsafe { Fired::from_c(out) })
@@ -152,7 +152,7 @@ impl<T> Timers<T> {
     /// O(1).
     pub fn not_before(&self) -> Option<u64> {
         let mut out = 0;
-        // SAFETY: as `Handle` says.
+        // SAFETY: the header's conditions hold, as `Handle` says.
         unsafe { ffi::cordyceps_timers_not_before(self.handle.raw(), &mut out) }.then_some(out)
     }
 
@@ -162,7 +162,7 @@ impl<T> Timers<T> {
     ///
     /// O(1).
     pub fn len(&self) -> usize {
-        // SAFETY: as `Handle` says.
+        // SAFETY: the header's conditions hold, as `Handle` says.
         unsafe { ffi::cordyceps_timers_len(self.handle.raw()) }
     }
 
