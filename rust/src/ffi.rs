@@ -9,7 +9,7 @@ pub const CORDYCEPS_UNLINKED: u32 = 2;
 pub const CORDYCEPS_BUSY: u32 = 3;
 pub const CORDYCEPS_FULL: u32 = 4;
 pub const CORDYCEPS_NO_MEMORY: u32 = 5;
-pub const CORDYCEPS_NO_INBOX: u32 = 6;
+pub const CORDYCEPS_NOTHING: u32 = 6;
 
 #[repr(C)]
 #[derive(Clone, Copy, Debug, Default, PartialEq, Eq, Hash)]
@@ -36,6 +36,11 @@ pub struct cordyceps_inbox {
     pub at: *mut c_void,
 }
 
+#[repr(C)]
+pub struct cordyceps_pile {
+    pub at: *mut c_void,
+}
+
 #[rustfmt::skip]
 extern "C" {
     pub fn cordyceps_timers_new(collection: u32, out: *mut cordyceps_timers) -> bool;
@@ -54,4 +59,12 @@ extern "C" {
     pub fn cordyceps_inbox_absorb(inbox: *mut cordyceps_inbox, other: *mut cordyceps_inbox) -> bool;
     pub fn cordyceps_inbox_give_back(inbox: *mut cordyceps_inbox) -> bool;
     pub fn cordyceps_inbox_free(inbox: *mut cordyceps_inbox) -> bool;
+
+    pub fn cordyceps_pile_new(rooms: usize, out: *mut cordyceps_pile) -> bool;
+    pub fn cordyceps_pile_split(pile: *mut cordyceps_pile, out: *mut cordyceps_pile) -> bool;
+    pub fn cordyceps_pile_push(pile: *mut cordyceps_pile, payload: u64) -> u32;
+    pub fn cordyceps_pile_pop(pile: *mut cordyceps_pile, out: *mut u64) -> bool;
+    pub fn cordyceps_pile_absorb(pile: *mut cordyceps_pile, other: *mut cordyceps_pile) -> bool;
+    pub fn cordyceps_pile_give_back(pile: *mut cordyceps_pile) -> bool;
+    pub fn cordyceps_pile_free(pile: *mut cordyceps_pile) -> bool;
 }

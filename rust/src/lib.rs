@@ -8,9 +8,11 @@ mod payload;
 mod ticket;
 
 pub mod inbox;
+pub mod pile;
 pub mod timers;
 
 pub use error::NoMemory;
 pub use inbox::Inbox;
+pub use pile::Pile;
 pub use ticket::Ticket;
 pub use timers::Timers;

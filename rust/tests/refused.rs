@@ -9,7 +9,8 @@ use std::ptr;
 
 use common::{Counted, Drops};
 use cordyceps_proved::inbox::SendError;
-use cordyceps_proved::{Inbox, NoMemory, Timers};
+use cordyceps_proved::pile::PushError;
+use cordyceps_proved::{Inbox, NoMemory, Pile, Timers};
 
 thread_local! {
     /// How many requests of this thread are granted before one is refused.
@@ -115,6 +116,30 @@ fn values_come_back_from_an_inbox() {
     }
     for number in 0..10 {
         assert_eq!(inbox.receive().unwrap().number, number);
+    }
+    assert!(drops.are_all(1));
+}
+
+#[test]
+fn values_come_back_from_a_pile() {
+    let drops = Drops::new(10);
+    // (the last request of `new` is of `Arc`, which ends the program if it is refused)
+    for granted in 0..6 {
+        assert!(matches!(refused(granted, || Pile::<u8>::new(10)), (Err(NoMemory), true)));
+    }
+    let mut pile = Pile::new(10).unwrap();
+    assert!(refused(0, || pile.split()).0.is_err());
+    for number in 0..10 {
+        let push = |it| {
+            pile.push(it).map_err(|why| {
+                assert!(matches!(why, PushError::NoMemory(_)));
+                why.into_inner()
+            })
+        };
+        assert!(insert(&drops, number, push) >= 2);
+    }
+    for number in (0..10).rev() {
+        assert_eq!(pile.pop().unwrap().number, number);
     }
     assert!(drops.are_all(1));
 }
