@@ -32,6 +32,18 @@ pub struct cordyceps_fired {
 }
 
 #[repr(C)]
+pub struct cordyceps_queue {
+    pub at: *mut c_void,
+}
+
+#[repr(C)]
+#[derive(Default)]
+pub struct cordyceps_item {
+    pub key: u64,
+    pub payload: u64,
+}
+
+#[repr(C)]
 pub struct cordyceps_inbox {
     pub at: *mut c_void,
 }
@@ -51,6 +63,15 @@ extern "C" {
     pub fn cordyceps_timers_not_before(timers: *mut cordyceps_timers, out: *mut u64) -> bool;
     pub fn cordyceps_timers_len(timers: *mut cordyceps_timers) -> usize;
     pub fn cordyceps_timers_free(timers: *mut cordyceps_timers) -> bool;
+
+    pub fn cordyceps_queue_new(collection: u32, out: *mut cordyceps_queue) -> bool;
+    pub fn cordyceps_queue_push(queue: *mut cordyceps_queue, key: u64, payload: u64, out: *mut cordyceps_ticket) -> bool;
+    pub fn cordyceps_queue_pop(queue: *mut cordyceps_queue, out: *mut cordyceps_item) -> bool;
+    pub fn cordyceps_queue_front(queue: *mut cordyceps_queue, out: *mut cordyceps_item) -> bool;
+    pub fn cordyceps_queue_remove(queue: *mut cordyceps_queue, item: cordyceps_ticket, out: *mut cordyceps_item) -> bool;
+    pub fn cordyceps_queue_change(queue: *mut cordyceps_queue, item: cordyceps_ticket, key: u64) -> bool;
+    pub fn cordyceps_queue_len(queue: *mut cordyceps_queue) -> usize;
+    pub fn cordyceps_queue_free(queue: *mut cordyceps_queue) -> bool;
 
     pub fn cordyceps_inbox_new(rooms: usize, out: *mut cordyceps_inbox) -> bool;
     pub fn cordyceps_inbox_split(inbox: *mut cordyceps_inbox, out: *mut cordyceps_inbox) -> bool;

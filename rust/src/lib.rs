@@ -9,10 +9,12 @@ mod ticket;
 
 pub mod inbox;
 pub mod pile;
+pub mod queue;
 pub mod timers;
 
 pub use error::NoMemory;
 pub use inbox::Inbox;
 pub use pile::Pile;
+pub use queue::Queue;
 pub use ticket::Ticket;
 pub use timers::Timers;

@@ -35,6 +35,16 @@ pub(crate) unsafe fn from_payload<T>(payload: u64) -> T {
     *unsafe { Box::from_raw(block) }
 }
 
+/// The value that a payload stands for, where it is.
+///
+/// # Safety
+///
+/// The payload is of `into_payload::<T>`, and its value is not taken, nor borrowed mutably, as long as `'a` lasts.
+pub(crate) unsafe fn value_at<'a, T>(payload: u64) -> &'a T {
+    // SAFETY: the block has a `T`, which stays and is not written for `'a`.
+    unsafe { &*(payload as usize as *const T) }
+}
+
 /// Calls `drop_next` until it returns `false`, also where a call panics, since the drop of a value may panic.
 pub(crate) fn drop_each(drop_next: impl FnMut() -> bool) {
     struct Rest<F: FnMut() -> bool>(F);

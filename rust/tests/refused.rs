@@ -10,7 +10,7 @@ use std::ptr;
 use common::{Counted, Drops};
 use cordyceps_proved::inbox::SendError;
 use cordyceps_proved::pile::PushError;
-use cordyceps_proved::{Inbox, NoMemory, Pile, Timers};
+use cordyceps_proved::{Inbox, NoMemory, Pile, Queue, Timers};
 
 thread_local! {
     /// How many requests of this thread are granted before one is refused.
@@ -118,6 +118,21 @@ fn values_come_back_from_an_inbox() {
         assert_eq!(inbox.receive().unwrap().number, number);
     }
     assert!(drops.are_all(1));
+}
+
+#[test]
+fn values_come_back_from_a_queue() {
+    let drops = Drops::new(100);
+    assert_eq!(refused(0, Queue::<u8>::new).0.unwrap_err(), NoMemory);
+    let mut queue = Queue::new().unwrap();
+    for number in 0..100 {
+        let refusals = insert(&drops, number, |it| queue.push(number as u64, it));
+        assert!(refusals >= 2 && queue.len() == number + 1);
+    }
+    for number in 0..100 {
+        assert_eq!(queue.pop().unwrap().value.number, number);
+    }
+    assert!(queue.is_empty() && drops.are_all(1));
 }
 
 #[test]
