@@ -30,8 +30,8 @@ pub(crate) trait Raw {
 ///   which is not `Sync`.
 /// - Another thread may make the next call, if a lock, the start or the join of a thread, or a sequentially consistent
 ///   atomic lies in between. Safe Rust hands a value to another thread only where what was done with it happens before
-///   what that thread does with it. So it is by one of these, or by something that orders the two calls as they do, such
-///   as the `Release` and the `Acquire` of a channel.
+///   what that thread does with it. So it is by one of these, or by something that orders the two calls as they do,
+///   such as the `Release` and the `Acquire` of a channel.
 /// - No call is made from a signal handler, or in the child of a fork of a process with threads: safe Rust runs nothing
 ///   there. Nor does it replace `malloc`, `realloc` or `free`.
 ///

@@ -26,7 +26,8 @@ pub const MAX_ROOMS: usize = 1 << 20;
 /// receives. So the receiver calls [`give_back`] now and then, at the latest when it finds nothing.
 ///
 /// Each value takes one block of memory of the library, and one of its own. The values that are left in the inbox are
-/// dropped with its last handle. A handle that is dropped takes a lock of the inbox for a moment, as no other call does.
+/// dropped with its last handle. A handle that is dropped takes a lock of the inbox for a moment, as no other call
+/// does.
 ///
 /// A handle is `Send` if the values are, and not `Sync`.
 ///
@@ -67,8 +68,8 @@ pub struct Inbox<T> {
 /// So when the last reference goes, the handle that is kept is the only one of the inbox: it finds all values that are
 /// left, and is freed with the inbox.
 ///
-/// That exactly one thread drops this is what `Arc` is for. Handles that called `Arc::try_unwrap` instead could all miss
-/// that they are the last: of two that try at the same time, neither may succeed.
+/// That exactly one thread drops this is what `Arc` is for. Handles that called `Arc::try_unwrap` instead could all
+/// miss that they are the last: of two that try at the same time, neither may succeed.
 ///
 /// It is invariant in `T`, since one handle may receive what another has sent. Else a handle of an inbox of `&'static`
 /// references could be taken for one to which shorter ones are sent:
@@ -151,8 +152,8 @@ impl<T> Inbox<T> {
     ///
     /// # Errors
     ///
-    /// A [`ReceiveError`] says why there is none. It is [`ReceiveError::Empty`] once all other handles of the inbox were
-    /// absorbed.
+    /// A [`ReceiveError`] says why there is none. It is [`ReceiveError::Empty`] once all other handles of the inbox
+    /// were absorbed.
     ///
     /// # Complexity
     ///

@@ -31,7 +31,8 @@ pub(crate) fn into_payload<T>(value: T) -> Result<u64, T> {
 /// The payload is of `into_payload::<T>`, and its value was not taken before.
 pub(crate) unsafe fn from_payload<T>(payload: u64) -> T {
     let block = payload as usize as *mut T;
-    // SAFETY: the block is that of the global allocator for a `T`, as a `Box` has it, or of size 0; nothing else owns it.
+    // SAFETY: the block is that of the global allocator for a `T`, as a `Box` has it, or of size 0; nothing else owns
+    // it.
     *unsafe { Box::from_raw(block) }
 }
 

@@ -17,12 +17,13 @@ pub const MAX_ROOMS: usize = 1 << 20;
 
 /// A handle of a pile, onto which many threads push, and of which each may take all values at once.
 ///
-/// Each thread has a handle of its own, made by [`split`]. No call waits. A handle that pops takes all that the pile has
-/// at that moment, hands these values out one by one, the one pushed last first, and only then takes all again.
+/// Each thread has a handle of its own, made by [`split`]. No call waits. A handle that pops takes all that the pile
+/// has at that moment, hands these values out one by one, the one pushed last first, and only then takes all again.
 ///
-/// A room is a permit to push one value, so the rooms bound how many values are in the pile. Pushing takes a room of the
-/// handle, which first takes some of the pile's pool if it has none, and taking gives the rooms of all that was taken to
-/// the handle that takes. So a handle that pops calls [`give_back`] now and then, at the latest when it finds nothing.
+/// A room is a permit to push one value, so the rooms bound how many values are in the pile. Pushing takes a room of
+/// the handle, which first takes some of the pile's pool if it has none, and taking gives the rooms of all that was
+/// taken to the handle that takes. So a handle that pops calls [`give_back`] now and then, at the latest when it finds
+/// nothing.
 ///
 /// Each value takes one block of memory of the library, and one of its own. A handle that is dropped drops the values
 /// that it took and has not handed out, and takes a lock of the pile for a moment, as no other call does. The values
@@ -133,8 +134,8 @@ impl<T> Pile<T> {
         Err(why(unsafe { from_payload(payload) }))
     }
 
-    /// Hands out the next value of those that the handle took. If none is left, the handle first takes all that the pile
-    /// has at that moment, of which the one pushed last comes first. Returns `None` if there was none.
+    /// Hands out the next value of those that the handle took. If none is left, the handle first takes all that the
+    /// pile has at that moment, of which the one pushed last comes first. Returns `None` if there was none.
     ///
     /// # Complexity
     ///
@@ -187,8 +188,8 @@ impl<T> fmt::Debug for Pile<T> {
 }
 
 impl<T> Drop for Pile<T> {
-    /// Drops the values that the handle took and has not handed out, gives the rooms back, and drops what is left in the
-    /// pile if this is its last handle.
+    /// Drops the values that the handle took and has not handed out, gives the rooms back, and drops what is left in
+    /// the pile if this is its last handle.
     fn drop(&mut self) {
         if self.handle.is_of_nothing() {
             return;

@@ -7,8 +7,8 @@ use crate::ffi;
 
 /// Names an element of the collection that returned it, as long as the element is in it.
 ///
-/// Each call with a ticket checks it. A ticket is stale once its element has left the collection, and stays so: it names
-/// no later element. A stale ticket, or one of another collection, is refused, and nothing has changed then. All
+/// Each call with a ticket checks it. A ticket is stale once its element has left the collection, and stays so: it
+/// names no later element. A stale ticket, or one of another collection, is refused, and nothing has changed then. All
 /// collections of a program differ in this, up to 2³² of them, after which their numbers begin anew.
 ///
 /// The default is a ticket of no element.

@@ -119,8 +119,8 @@ impl<T> Timers<T> {
         is_stopped.then(|| unsafe { Fired::from_c(out) })
     }
 
-    /// Gives a timer another deadline, as if it were stopped and started again, and keeps its ticket. Returns `false` if
-    /// the ticket is not of a timer that runs here, and nothing has changed then.
+    /// Gives a timer another deadline, as if it were stopped and started again, and keeps its ticket. Returns `false`
+    /// if the ticket is not of a timer that runs here, and nothing has changed then.
     ///
     /// # Complexity
     ///
@@ -144,8 +144,8 @@ impl<T> Timers<T> {
         is_due.then(|| unsafe { Fired::from_c(out) })
     }
 
-    /// Returns a time before which no timer fires, or `None` if none runs. Sleep until then, and call
-    /// [`pop_due`](Timers::pop_due): a timer may fire later than this time, and not before.
+    /// Returns a time before which no timer fires, or `None` if none runs. Whoever sleeps until then and calls
+    /// [`pop_due`](Timers::pop_due) wakes at most 64 times before the first timer fires.
     ///
     /// # Complexity
     ///
