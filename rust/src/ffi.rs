@@ -44,6 +44,11 @@ pub struct cordyceps_item {
 }
 
 #[repr(C)]
+pub struct cordyceps_list {
+    pub at: *mut c_void,
+}
+
+#[repr(C)]
 pub struct cordyceps_inbox {
     pub at: *mut c_void,
 }
@@ -72,6 +77,25 @@ extern "C" {
     pub fn cordyceps_queue_change(queue: *mut cordyceps_queue, item: cordyceps_ticket, key: u64) -> bool;
     pub fn cordyceps_queue_len(queue: *mut cordyceps_queue) -> usize;
     pub fn cordyceps_queue_free(queue: *mut cordyceps_queue) -> bool;
+
+    pub fn cordyceps_list_new(collection: u32, out: *mut cordyceps_list) -> bool;
+    pub fn cordyceps_list_push_front(list: *mut cordyceps_list, payload: u64, out: *mut cordyceps_ticket) -> bool;
+    pub fn cordyceps_list_push_back(list: *mut cordyceps_list, payload: u64, out: *mut cordyceps_ticket) -> bool;
+    pub fn cordyceps_list_insert_before(list: *mut cordyceps_list, at: cordyceps_ticket, payload: u64, out: *mut cordyceps_ticket) -> bool;
+    pub fn cordyceps_list_insert_after(list: *mut cordyceps_list, at: cordyceps_ticket, payload: u64, out: *mut cordyceps_ticket) -> bool;
+    pub fn cordyceps_list_pop_front(list: *mut cordyceps_list, out: *mut u64) -> bool;
+    pub fn cordyceps_list_pop_back(list: *mut cordyceps_list, out: *mut u64) -> bool;
+    pub fn cordyceps_list_remove(list: *mut cordyceps_list, at: cordyceps_ticket, out: *mut u64) -> bool;
+    pub fn cordyceps_list_get(list: *mut cordyceps_list, at: cordyceps_ticket, out: *mut u64) -> bool;
+    pub fn cordyceps_list_front(list: *mut cordyceps_list, out: *mut cordyceps_ticket) -> bool;
+    pub fn cordyceps_list_back(list: *mut cordyceps_list, out: *mut cordyceps_ticket) -> bool;
+    pub fn cordyceps_list_next(list: *mut cordyceps_list, at: cordyceps_ticket, out: *mut cordyceps_ticket) -> bool;
+    pub fn cordyceps_list_prev(list: *mut cordyceps_list, at: cordyceps_ticket, out: *mut cordyceps_ticket) -> bool;
+    pub fn cordyceps_list_move_to_front(list: *mut cordyceps_list, at: cordyceps_ticket) -> bool;
+    pub fn cordyceps_list_move_to_back(list: *mut cordyceps_list, at: cordyceps_ticket) -> bool;
+    pub fn cordyceps_list_move_after(list: *mut cordyceps_list, at: cordyceps_ticket, to: cordyceps_ticket) -> bool;
+    pub fn cordyceps_list_len(list: *mut cordyceps_list) -> usize;
+    pub fn cordyceps_list_free(list: *mut cordyceps_list) -> bool;
 
     pub fn cordyceps_inbox_new(rooms: usize, out: *mut cordyceps_inbox) -> bool;
     pub fn cordyceps_inbox_split(inbox: *mut cordyceps_inbox, out: *mut cordyceps_inbox) -> bool;

@@ -8,12 +8,14 @@ mod payload;
 mod ticket;
 
 pub mod inbox;
+pub mod list;
 pub mod pile;
 pub mod queue;
 pub mod timers;
 
 pub use error::NoMemory;
 pub use inbox::Inbox;
+pub use list::List;
 pub use pile::Pile;
 pub use queue::Queue;
 pub use ticket::Ticket;

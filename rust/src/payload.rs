@@ -46,6 +46,16 @@ pub(crate) unsafe fn value_at<'a, T>(payload: u64) -> &'a T {
     unsafe { &*(payload as usize as *const T) }
 }
 
+/// The value that a payload stands for, to be changed where it is.
+///
+/// # Safety
+///
+/// The payload is of `into_payload::<T>`, and its value is not taken, nor borrowed elsewhere, as long as `'a` lasts.
+pub(crate) unsafe fn value_at_mut<'a, T>(payload: u64) -> &'a mut T {
+    // SAFETY: the block has a `T`, which stays, and which nothing else reads or writes for `'a`.
+    unsafe { &mut *(payload as usize as *mut T) }
+}
+
 /// Calls `drop_next` until it returns `false`, also where a call panics, since the drop of a value may panic.
 pub(crate) fn drop_each(drop_next: impl FnMut() -> bool) {
     struct Rest<F: FnMut() -> bool>(F);

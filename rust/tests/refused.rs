@@ -10,7 +10,7 @@ use std::ptr;
 use common::{Counted, Drops};
 use cordyceps_proved::inbox::SendError;
 use cordyceps_proved::pile::PushError;
-use cordyceps_proved::{Inbox, NoMemory, Pile, Queue, Timers};
+use cordyceps_proved::{Inbox, List, NoMemory, Pile, Queue, Timers};
 
 thread_local! {
     /// How many requests of this thread are granted before one is refused.
@@ -133,6 +133,23 @@ fn values_come_back_from_a_queue() {
         assert_eq!(queue.pop().unwrap().value.number, number);
     }
     assert!(queue.is_empty() && drops.are_all(1));
+}
+
+#[test]
+fn values_come_back_from_a_list() {
+    let drops = Drops::new(100);
+    assert_eq!(refused(0, List::<u8>::new).0.unwrap_err(), NoMemory);
+    let mut list = List::new().unwrap();
+    for number in 0..100 {
+        let refusals = match list.back().filter(|_| number % 2 == 1) {
+            None => insert(&drops, number, |it| list.push_back(it)),
+            Some(last) => insert(&drops, number, |it| list.insert_after(last, it)),
+        };
+        assert!(refusals >= 2 && list.len() == number + 1);
+    }
+    assert!(list.iter().map(|it| it.1.number).eq(0..100));
+    drop(list);
+    assert!(drops.are_all(1));
 }
 
 #[test]
