@@ -1,4 +1,5 @@
-//! The static library as `c/cordyceps.h` declares it, to which `tools/documents` holds this file.
+//! The static library as `c/cordyceps.h` declares it, to which `tools/documents` holds this file. The safe types use no
+//! call whose name ends in `_unchecked`.
 #![allow(dead_code, non_camel_case_types)]
 
 use std::os::raw::c_void;
@@ -17,6 +18,12 @@ pub struct cordyceps_ticket {
     pub collection: u32,
     pub slot: u32,
     pub number: u64,
+}
+
+#[repr(C)]
+#[derive(Clone, Copy)]
+pub struct cordyceps_spot {
+    pub at: *mut c_void,
 }
 
 #[repr(C)]
@@ -64,6 +71,9 @@ extern "C" {
     pub fn cordyceps_timers_start(timers: *mut cordyceps_timers, deadline: u64, payload: u64, out: *mut cordyceps_ticket) -> bool;
     pub fn cordyceps_timers_stop(timers: *mut cordyceps_timers, timer: cordyceps_ticket, out: *mut cordyceps_fired) -> bool;
     pub fn cordyceps_timers_restart(timers: *mut cordyceps_timers, timer: cordyceps_ticket, deadline: u64) -> bool;
+    pub fn cordyceps_timers_start_unchecked(timers: *mut cordyceps_timers, deadline: u64, payload: u64, out: *mut cordyceps_spot) -> bool;
+    pub fn cordyceps_timers_stop_unchecked(timers: *mut cordyceps_timers, timer: cordyceps_spot, out: *mut cordyceps_fired) -> bool;
+    pub fn cordyceps_timers_restart_unchecked(timers: *mut cordyceps_timers, timer: cordyceps_spot, deadline: u64) -> bool;
     pub fn cordyceps_timers_pop_due(timers: *mut cordyceps_timers, now: u64, out: *mut cordyceps_fired) -> bool;
     pub fn cordyceps_timers_not_before(timers: *mut cordyceps_timers, out: *mut u64) -> bool;
     pub fn cordyceps_timers_len(timers: *mut cordyceps_timers) -> usize;
@@ -75,6 +85,9 @@ extern "C" {
     pub fn cordyceps_queue_front(queue: *mut cordyceps_queue, out: *mut cordyceps_item) -> bool;
     pub fn cordyceps_queue_remove(queue: *mut cordyceps_queue, item: cordyceps_ticket, out: *mut cordyceps_item) -> bool;
     pub fn cordyceps_queue_change(queue: *mut cordyceps_queue, item: cordyceps_ticket, key: u64) -> bool;
+    pub fn cordyceps_queue_push_unchecked(queue: *mut cordyceps_queue, key: u64, payload: u64, out: *mut cordyceps_spot) -> bool;
+    pub fn cordyceps_queue_remove_unchecked(queue: *mut cordyceps_queue, item: cordyceps_spot, out: *mut cordyceps_item) -> bool;
+    pub fn cordyceps_queue_change_unchecked(queue: *mut cordyceps_queue, item: cordyceps_spot, key: u64) -> bool;
     pub fn cordyceps_queue_len(queue: *mut cordyceps_queue) -> usize;
     pub fn cordyceps_queue_free(queue: *mut cordyceps_queue) -> bool;
 
