@@ -92,9 +92,10 @@ bool cordyceps_timers_stop(cordyceps_timers *timers, cordyceps_ticket timer, cor
  * timer has it, or the handle is of nothing; nothing has changed. O(1). */
 bool cordyceps_timers_restart(cordyceps_timers *timers, cordyceps_ticket timer, uint64_t deadline);
 
-/* As cordyceps_timers_start, without a ticket: writes the spot of the timer to *out. false: memory was refused, SIZE_MAX
- * timers run, or the handle is of nothing; nothing has changed. O(1), one malloc. */
-bool cordyceps_timers_start_unchecked(cordyceps_timers *timers, uint64_t deadline, uint64_t payload, cordyceps_spot *out);
+/* As cordyceps_timers_start, without a ticket: writes the spot of the timer to *out. false: memory was refused,
+ * SIZE_MAX timers run, or the handle is of nothing; nothing has changed. O(1), one malloc. */
+bool cordyceps_timers_start_unchecked(
+    cordyceps_timers *timers, uint64_t deadline, uint64_t payload, cordyceps_spot *out);
 
 /* Removes the timer at a spot into *out. false: the handle is of nothing; nothing has changed. O(1), one free. The
  * caller keeps that the spot is of these timers and that its timer still runs. */
@@ -165,8 +166,8 @@ bool cordyceps_queue_change(cordyceps_queue *queue, cordyceps_ticket item, uint6
  * has SIZE_MAX items, or the handle is of nothing; nothing has changed. O(1), one malloc. */
 bool cordyceps_queue_push_unchecked(cordyceps_queue *queue, uint64_t key, uint64_t payload, cordyceps_spot *out);
 
-/* Removes the item at a spot into *out. false: the handle is of nothing; nothing has changed. O(1), one free. The caller
- * keeps that the spot is of this queue and that its item is still in it. */
+/* Removes the item at a spot into *out. false: the handle is of nothing; nothing has changed. O(1), one free. The
+ * caller keeps that the spot is of this queue and that its item is still in it. */
 bool cordyceps_queue_remove_unchecked(cordyceps_queue *queue, cordyceps_spot item, cordyceps_item *out);
 
 /* Gives another key to the item at a spot, as if it were pushed now. The spot stays the same. false: the handle is of

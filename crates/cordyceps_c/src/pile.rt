@@ -1,7 +1,8 @@
 //! The calls of piles.
 ghost use Rattle.std.specs.Prelude.{◌≡◌, ◌≢◌, [], true, false, Option, Some, None, MatchBool, MatchOption, is_some};
 ghost use Rattle.cordyceps.specs.Elements.Element.{Element};
-ghost use Rattle.cordyceps_c_shared.specs.Piles.{IsNew, SplitsOff, TakesOver, KeepsOrRejoins, TriesToPush, Pops, GivesRooms};
+ghost use Rattle.cordyceps_c_shared.specs.Piles.{IsNew, SplitsOff, TakesOver, KeepsOrRejoins, TriesToPush, Pops};
+ghost use Rattle.cordyceps_c_shared.specs.Piles.{GivesRooms};
 ghost use Rattle.cordyceps_c_shared.specs.Piles.{number_of_pushed, payload_after};
 ghost use Rattle.cordyceps_c_shared.specs.declared.inbox.Message.{Message};
 ghost use Rattle.cordyceps_c_shared.specs.declared.pile.Pile.{Pile};

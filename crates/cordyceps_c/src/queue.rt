@@ -1,7 +1,8 @@
 //! The calls of priority queues.
 ghost use Rattle.std.specs.Prelude.{◌≡◌, [], length, true, false, Some, None, MatchBool, MatchOption, ⊤};
 ghost use Rattle.cordyceps.specs.Spots.BySpot.{HasSpot};
-ghost use Rattle.cordyceps_c_timers.specs.Queues.{Changes, ChangesAt, IsFirst, Pops, Pushes, PushesAt, Queued, Removes, RemovesAt};
+ghost use Rattle.cordyceps_c_timers.specs.Queues.{Changes, ChangesAt, IsFirst, Pops, Pushes, PushesAt, Queued};
+ghost use Rattle.cordyceps_c_timers.specs.Queues.{Removes, RemovesAt};
 
 use cordyceps::Spot;
 use cordyceps_c_base::out::write_found;
@@ -18,7 +19,9 @@ use std::alloc::Global;
 #[unsafe(no_mangle)]
 pub extern "C" fn cordyceps_queue_new(alloc: Global, collection: u32, out: &mut QueueHandle) -> bool
     ensures { MatchOption out.old.held
-        (MatchBool result (out.new.held ≡ Some (record { nodes = []; collection = collection; given = 0 })) (out.new.held ≡ None))
+        (MatchBool result
+        (out.new.held ≡ Some (record { nodes = []; collection = collection; given = 0 }))
+        (out.new.held ≡ None))
         (λ q. (result ≡ false) × (out.new.held ≡ Some q)) }
 {
     if let Some(held) = out.take(alloc) {
@@ -160,8 +163,8 @@ pub extern "C" fn cordyceps_queue_change(
 }
 
 /// Inserts an item without a ticket, writes its spot to `*out` and returns `true`. It comes out as one that
-/// `cordyceps_queue_push` inserts. Returns `false` if memory is refused, the queue has `SIZE_MAX` items, or the handle is
-/// of nothing, and changes nothing then.
+/// `cordyceps_queue_push` inserts. Returns `false` if memory is refused, the queue has `SIZE_MAX` items, or the handle
+/// is of nothing, and changes nothing then.
 ///
 /// # Complexity
 /// O(1), without a comparison, with one allocation.
@@ -212,8 +215,8 @@ pub extern "C" fn cordyceps_queue_remove_unchecked(
     true
 }
 
-/// Gives another key to the item at a spot, as if it were pushed now, and returns `true`. Returns `false` if the handle is
-/// of nothing, and changes nothing then. Requires that an item of the queue is there.
+/// Gives another key to the item at a spot, as if it were pushed now, and returns `true`. Returns `false` if the handle
+/// is of nothing, and changes nothing then. Requires that an item of the queue is there.
 ///
 /// # Complexity
 /// O(1), without a comparison and without an allocation.

@@ -11,8 +11,9 @@ use cordyceps_c_timers::timers::{Fired, Timers};
 use cordyceps_c_timers::timers_handle::TimersHandle;
 use std::alloc::Global;
 
-/// Makes timers of which none runs, at the time 0, in a handle of nothing, and returns `true`. Their tickets have the number `collection`.
-/// Returns `false` if memory is refused, or if the handle is not of nothing, and changes nothing then.
+/// Makes timers of which none runs, at the time 0, in a handle of nothing, and returns `true`. Their tickets have the
+/// number `collection`. Returns `false` if memory is refused, or if the handle is not of nothing, and changes nothing
+/// then.
 ///
 /// # Complexity
 /// O(1), with one allocation.
@@ -23,7 +24,9 @@ pub extern "C" fn cordyceps_timers_new(
     out: &mut TimersHandle,
 ) -> bool
     ensures { MatchOption out.old.held
-        (MatchBool result (out.new.held ≡ Some (record { nodes = []; clock = 0; collection = collection; given = 0 })) (out.new.held ≡ None))
+        (MatchBool result
+        (out.new.held ≡ Some (record { nodes = []; clock = 0; collection = collection; given = 0 }))
+        (out.new.held ≡ None))
         (λ t. (result ≡ false) × (out.new.held ≡ Some t)) }
 {
     if let Some(held) = out.take(alloc) {

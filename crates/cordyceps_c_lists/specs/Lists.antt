@@ -4,7 +4,8 @@ use denote.RawPtr.{Ptr}
 use Rattle.cordyceps.specs.Elements.Element.{Element}
 use Rattle.cordyceps.specs.Elements.Nodes.{Nodes, spots}
 use Rattle.cordyceps.specs.Spots.Agreeing.{HasElementAt}
-use Rattle.cordyceps.specs.Spots.BySpot.{IsTaken, IsPutBefore, IsPutAfter, IsMovedFront, IsMovedBack, IsMovedAfter, IsFirst, IsLast, AreNext}
+use Rattle.cordyceps.specs.Spots.BySpot.{IsTaken, IsPutBefore, IsPutAfter, IsMovedFront, IsMovedBack, IsMovedAfter}
+use Rattle.cordyceps.specs.Spots.BySpot.{IsFirst, IsLast, AreNext}
 use Rattle.cordyceps.specs.Spots.Spots.{AreDistinct}
 use Rattle.cordyceps_c_base.specs.declared.tickets.Ticket.{Ticket}
 use Rattle.cordyceps_c_base.specs.declared.tickets.Tickets.{Tickets}

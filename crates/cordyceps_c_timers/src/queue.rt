@@ -6,7 +6,8 @@ ghost use Rattle.cordyceps.specs.Orders.ByKey.{by_key};
 ghost use Rattle.cordyceps.specs.Orders.Preorder.{IsPreorder, by_number_lawful};
 ghost use Rattle.cordyceps.specs.Spots.BySpot.{HasSpot};
 ghost use Rattle.cordyceps_c_base.specs.Tickets.{IsEnded};
-ghost use Rattle.cordyceps_c_timers.specs.Queues.{Changes, ChangesAt, IsFirst, Pops, Pushes, PushesAt, Removes, RemovesAt};
+ghost use Rattle.cordyceps_c_timers.specs.Queues.{Changes, ChangesAt, IsFirst, Pops, Pushes, PushesAt, Removes};
+ghost use Rattle.cordyceps_c_timers.specs.Queues.{RemovesAt};
 ghost use Rattle.cordyceps_c_timers.specs.Queues.{item_of, key_of};
 
 use cordyceps::list::Links;

@@ -2,7 +2,8 @@
 ghost use Rattle.std.specs.Prelude.{◌≡◌, ℕ, [], length, MatchOption, refl, ⊤};
 ghost use Rattle.cordyceps.specs.Spots.BySpot.{HasSpot};
 ghost use Rattle.cordyceps_c_base.specs.Tickets.{IsEnded};
-ghost use Rattle.cordyceps_c_timers.specs.Timers.{Bounds, Starts, Stops, Restarts, StartsAt, StopsAt, RestartsAt, Fires, NoneFires, fired_of};
+ghost use Rattle.cordyceps_c_timers.specs.Timers.{Bounds, Starts, Stops, Restarts, StartsAt, StopsAt, RestartsAt};
+ghost use Rattle.cordyceps_c_timers.specs.Timers.{Fires, NoneFires, fired_of};
 
 use cordyceps::clock_queue::Times;
 use cordyceps::list::Links;
@@ -195,8 +196,8 @@ impl Timers {
         true
     }
 
-    /// Starts a timer without a ticket and returns its spot, which stays the same while it runs. Returns `None` if memory
-    /// is refused or `usize::MAX` timers run, and the timers are unchanged. Allocates one node.
+    /// Starts a timer without a ticket and returns its spot, which stays the same while it runs. Returns `None` if
+    /// memory is refused or `usize::MAX` timers run, and the timers are unchanged. Allocates one node.
     ///
     /// # Complexity
     /// O(1).
