@@ -12,21 +12,15 @@ static bool same(cordyceps_ticket a, cordyceps_ticket b) {
 /* The list has these payloads, by each way through it. */
 static void has(cordyceps_list *list, const char *payloads) {
   size_t count = strlen(payloads), i = 0;
-  cordyceps_ticket at, next;
+  cordyceps_ticket at, last;
   uint64_t payload = 0;
   CHECK(cordyceps_list_len(list) == count);
-  CHECK(cordyceps_list_front(list, &at) == (count > 0));
-  for (bool more = count > 0; more; i++) {
+  CHECK(cordyceps_list_front(list, &at) == (count > 0) && cordyceps_list_back(list, &last) == (count > 0));
+  for (bool more = count > 0; more; more = cordyceps_list_next(list, at, &at), i++)
     CHECK(cordyceps_list_get(list, at, &payload) && payload == (uint64_t)payloads[i]);
-    more = cordyceps_list_next(list, at, &next);
-    at = more ? next : at;
-  }
-  CHECK(i == count && cordyceps_list_back(list, &next) == (count > 0) && (!count || same(at, next)));
-  for (bool more = count > 0; more; i--) {
+  CHECK(i == count && (!count || same(at, last)));
+  for (bool more = count > 0; more; more = cordyceps_list_prev(list, at, &at), i--)
     CHECK(cordyceps_list_get(list, at, &payload) && payload == (uint64_t)payloads[i - 1]);
-    more = cordyceps_list_prev(list, at, &next);
-    at = more ? next : at;
-  }
   CHECK(i == 0);
 }
 
