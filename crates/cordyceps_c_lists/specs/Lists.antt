@@ -22,6 +22,7 @@ pub record Listed : Type 0 where
 abbrev pub listed : Tickets → Nodes Item → Listed
 listed s c = record { nodes = c; collection = s.collection; given = s.given }
 
+-- in which slot the ticket of an element is
 abbrev pub slot_of : Item → ℕ
 slot_of i = i.slot
 
@@ -42,6 +43,7 @@ pub record Names (l : Listed) (k : Ticket) (p : Ptr) (e : Element Item) : Type 0
   pub bears : Bears slot_of l.collection k e
   pub alone : AreDistinct (spots l.nodes)
 
+-- it is of an element that is at p
 abbrev pub IsAt : Listed → Ticket → Ptr → Type 0
 IsAt l k p = (e : Element Item) × Names l k p e
 
@@ -49,24 +51,24 @@ IsAt l k p = (e : Element Item) × Names l k p e
 abbrev pub NamesNone : Listed → Ticket → Type 0
 NamesNone l k = NoneBears slot_of l.collection k l.nodes
 
--- no element has the ticket, and none gets it: the next ticket has a number above all that were given
+-- no element has the ticket, and none will, since those to come have numbers above all that were given
 abbrev pub IsStale : Listed → Ticket → Type 0
 IsStale l k = NamesNone l k × (k.number ≤ l.given)
 
--- no ticket was given, and what was stale is
+-- no ticket was given, and each stale one is stale still
 pub record GivesNone (l m : Listed) : Type 0 where
   pub collection : m.collection ≡ l.collection
   pub given : m.given ≡ l.given
   pub stale : (o : Ticket) → IsStale l o → IsStale m o
 
--- the ticket k was given, a new one, and what was stale is
+-- the ticket k was given, a new one, and each stale one is stale still
 pub record Gives (k : Ticket) (l m : Listed) : Type 0 where
   pub is_new : IsGiven l.collection l.given k
   pub collection : m.collection ≡ l.collection
   pub given : m.given ≡ k.number
   pub stale : (o : Ticket) → IsStale l o → IsStale m o
 
--- the element e came out: its ticket is stale
+-- the element e came out, so its ticket is stale; no ticket was given
 pub record Ends (e : Element Item) (l m : Listed) : Type 0 where
   pub ended : (k : Ticket) → Bears slot_of l.collection k e → IsStale m k
   pub rest : GivesNone l m
