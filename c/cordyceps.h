@@ -181,78 +181,78 @@ size_t cordyceps_queue_len(cordyceps_queue *queue);
 /* Frees the queue, with its items. The handle is of nothing then. false: it was of nothing. O(n), for n items. */
 bool cordyceps_queue_free(cordyceps_queue *queue);
 
-/* ---- Lists, whose elements are named by tickets */
+/* ---- Lists, in an order that the calls make */
 
 /* A handle of a list, or of nothing: {0}. Each element has a payload, and a ticket that names it until it comes out,
- * also where it is moved. A ticket is a plain value: it may be copied, kept and compared. No ticket is given twice, so
- * one whose element came out is stale for ever: each call with it answers false and changes nothing. That holds too for
- * a ticket of a list whose number is another one, and for zero: {0} is the ticket of no element. */
+ * also where it is moved. No ticket is given twice: one whose element came out is stale for ever, and each call with it
+ * answers false and changes nothing. */
 typedef struct {
   void *at;
 } cordyceps_list;
 
-/* Makes an empty list of this number, in a handle of nothing. Lists whose tickets may be mistaken for each other get
- * two numbers. false: memory was refused, or the handle is not of nothing; nothing has changed. O(1), one malloc. */
+/* Makes an empty list in a handle of nothing. Its tickets have the number `collection`, as those of timers. false:
+ * memory was refused, or the handle is not of nothing; nothing has changed. O(1), one malloc. */
 bool cordyceps_list_new(uint32_t collection, cordyceps_list *out);
 
-/* Puts a payload in first, and its ticket into *out. false: memory was refused, 2^32 or SIZE_MAX elements are there,
- * 2^64 - 1 tickets were given, or the handle is of nothing; nothing has changed, also not *out. O(1) amortized: one
- * malloc, and now and then a malloc or realloc for the slots of tickets, which are moved then. */
+/* Puts a payload in first, and writes its ticket to *out. false: memory was refused, the list has SIZE_MAX elements, no
+ * ticket is left, or the handle is of nothing; nothing has changed. O(1) amortized, one malloc, and at times a larger
+ * table of tickets. */
 bool cordyceps_list_push_front(cordyceps_list *list, uint64_t payload, cordyceps_ticket *out);
 
-/* Puts a payload in last, and its ticket into *out. false: as cordyceps_list_push_front. */
+/* Puts a payload in last, and writes its ticket to *out. false: as cordyceps_list_push_front. Costs as much as that. */
 bool cordyceps_list_push_back(cordyceps_list *list, uint64_t payload, cordyceps_ticket *out);
 
-/* Puts a payload in right before the element of a ticket, and its own ticket into *out. false: no element has the
- * ticket `at`, or as cordyceps_list_push_front; nothing has changed, also not *out. Costs as much as that. */
+/* Puts a payload in right before the element that has the ticket `at`, and writes its own ticket to *out. false: no
+ * element has `at`, or as cordyceps_list_push_front; nothing has changed. Costs as much as that. */
 bool cordyceps_list_insert_before(cordyceps_list *list, cordyceps_ticket at, uint64_t payload, cordyceps_ticket *out);
 
-/* Puts a payload in right after the element of a ticket, and its own ticket into *out. false: as
- * cordyceps_list_insert_before. */
+/* Puts a payload in right after the element that has the ticket `at`, and writes its own ticket to *out. false: no
+ * element has `at`, or as cordyceps_list_push_front; nothing has changed. Costs as much as that. */
 bool cordyceps_list_insert_after(cordyceps_list *list, cordyceps_ticket at, uint64_t payload, cordyceps_ticket *out);
 
-/* Removes the first element, whose ticket is stale then, and puts its payload into *out. false: the list is empty, or
+/* Removes the first element, whose ticket is stale then, and writes its payload to *out. false: the list is empty, or
  * the handle is of nothing; *out is unchanged. O(1), one free. */
 bool cordyceps_list_pop_front(cordyceps_list *list, uint64_t *out);
 
-/* Removes the last element, whose ticket is stale then, and puts its payload into *out. false: as
- * cordyceps_list_pop_front. O(1), one free. */
+/* Removes the last element, whose ticket is stale then, and writes its payload to *out. false: the list is empty, or
+ * the handle is of nothing; *out is unchanged. O(1), one free. */
 bool cordyceps_list_pop_back(cordyceps_list *list, uint64_t *out);
 
-/* Removes the element of a ticket, which is stale then, and puts its payload into *out. false: no element has the
- * ticket, as after a removal, or the handle is of nothing; nothing has changed, also not *out. O(1), one free. */
+/* Removes the element that has the ticket `at`, which is stale then, and writes its payload to *out. false: no element
+ * has it, as after a removal, or the handle is of nothing; nothing has changed. O(1), one free. */
 bool cordyceps_list_remove(cordyceps_list *list, cordyceps_ticket at, uint64_t *out);
 
-/* Puts the payload of the element of a ticket into *out. false: no element has the ticket, or the handle is of
+/* Copies the payload of the element that has the ticket `at` to *out. false: no element has it, or the handle is of
  * nothing; *out is unchanged. O(1). */
 bool cordyceps_list_get(cordyceps_list *list, cordyceps_ticket at, uint64_t *out);
 
-/* Puts the ticket of the first element into *out. false: the list is empty, or the handle is of nothing; *out is
+/* Copies the ticket of the first element to *out. false: the list is empty, or the handle is of nothing; *out is
  * unchanged. O(1). */
 bool cordyceps_list_front(cordyceps_list *list, cordyceps_ticket *out);
 
-/* Puts the ticket of the last element into *out. false: as cordyceps_list_front. O(1). */
+/* Copies the ticket of the last element to *out. false: the list is empty, or the handle is of nothing; *out is
+ * unchanged. O(1). */
 bool cordyceps_list_back(cordyceps_list *list, cordyceps_ticket *out);
 
-/* Puts the ticket of the element after that of a ticket into *out. false: that is the last, no element has the ticket
- * `at`, or the handle is of nothing; *out is unchanged. O(1). */
+/* Copies the ticket of the element after the one that has the ticket `at` to *out. false: that is the last, no element
+ * has `at`, or the handle is of nothing; *out is unchanged. O(1). */
 bool cordyceps_list_next(cordyceps_list *list, cordyceps_ticket at, cordyceps_ticket *out);
 
-/* Puts the ticket of the element before that of a ticket into *out. false: that is the first, no element has the
- * ticket `at`, or the handle is of nothing; *out is unchanged. O(1). */
+/* Copies the ticket of the element before the one that has the ticket `at` to *out. false: that is the first, no
+ * element has `at`, or the handle is of nothing; *out is unchanged. O(1). */
 bool cordyceps_list_prev(cordyceps_list *list, cordyceps_ticket at, cordyceps_ticket *out);
 
-/* Moves the element of a ticket to the front. It keeps the ticket, and the others their order. false: no element has
- * the ticket, or the handle is of nothing; nothing has changed. O(1). */
+/* Moves the element that has the ticket `at` to the front. It keeps the ticket, and the others their order. false: no
+ * element has it, or the handle is of nothing; nothing has changed. O(1). */
 bool cordyceps_list_move_to_front(cordyceps_list *list, cordyceps_ticket at);
 
-/* Moves the element of a ticket to the back. It keeps the ticket, and the others their order. false: as
- * cordyceps_list_move_to_front. O(1). */
+/* Moves the element that has the ticket `at` to the back. It keeps the ticket, and the others their order. false: no
+ * element has it, or the handle is of nothing; nothing has changed. O(1). */
 bool cordyceps_list_move_to_back(cordyceps_list *list, cordyceps_ticket at);
 
-/* Moves the element of the ticket `at` to right after that of the ticket `to`. It keeps its ticket, and the others
- * their order. false: no element has one of the tickets, they are the same, or the handle is of nothing; nothing has
- * changed. O(1). */
+/* Moves the element that has the ticket `at` to right after the one that has the ticket `to`. It keeps its ticket, and
+ * the others their order. false: one of the tickets is of no element, they are the same, or the handle is of nothing;
+ * nothing has changed. O(1). */
 bool cordyceps_list_move_after(cordyceps_list *list, cordyceps_ticket at, cordyceps_ticket to);
 
 /* How many elements the list has; 0 for the handle of nothing. O(1). */
