@@ -3,5 +3,7 @@
 
 pub mod queue;
 pub mod queue_handle;
+pub mod queue_unchecked;
 pub mod timers;
 pub mod timers_handle;
+pub mod timers_unchecked;

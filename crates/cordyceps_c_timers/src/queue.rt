@@ -4,15 +4,13 @@ ghost use Rattle.std.proofs.Common.{subst, sym};
 ghost use Rattle.std.specs.Ordering.{nat_cmp};
 ghost use Rattle.cordyceps.specs.Orders.ByKey.{by_key};
 ghost use Rattle.cordyceps.specs.Orders.Preorder.{IsPreorder, by_number_lawful};
-ghost use Rattle.cordyceps.specs.Spots.BySpot.{HasSpot};
 ghost use Rattle.cordyceps_c_base.specs.Tickets.{IsEnded};
-ghost use Rattle.cordyceps_c_timers.specs.Queues.{Changes, ChangesAt, IsFirst, Pops, Pushes, PushesAt, Removes};
-ghost use Rattle.cordyceps_c_timers.specs.Queues.{RemovesAt};
+ghost use Rattle.cordyceps_c_timers.specs.Queues.{Changes, IsFirst, Pops, Pushes, Removes};
 ghost use Rattle.cordyceps_c_timers.specs.Queues.{item_of, key_of};
 
 use cordyceps::list::Links;
 use cordyceps::sorted_list::Order;
-use cordyceps::{Linked, Node, Spot, StableHeap};
+use cordyceps::{Linked, Node, StableHeap};
 use cordyceps_c_base::tickets::{Ticket, Tickets};
 use std::alloc::Global;
 use std::cmp::Ordering;
@@ -48,7 +46,7 @@ impl Linked<Links<Ranked>> for Ranked {
 
 /// The order of items by their keys.
 #[derive(Drop)]
-struct ByPriority;
+pub(crate) struct ByPriority;
 
 impl Order<Ranked> for ByPriority {
     ghost compares_by = { λ _ cmp. cmp ≡ by_key nat_cmp key_of };
@@ -73,7 +71,7 @@ pub struct Item {
 }
 
 /// Ends the ticket of an item that came out, frees its node, and returns what C sees of it.
-fn into_item(ranked: Queueing, tickets: &mut Tickets) -> Item
+pub(crate) fn into_item(ranked: Queueing, tickets: &mut Tickets) -> Item
     ensures item { result ≡ item_of ranked }
     ensures ended { IsEnded ranked.id ranked.value.slot tickets.old tickets.new }
 {
@@ -92,8 +90,8 @@ fn into_item(ranked: Queueing, tickets: &mut Tickets) -> Item
 /// A contract sees the items in the order in which they come out, and how many tickets were given.
 #[derive(Drop)]
 pub struct Queue {
-    heap: StableHeap<Ranked, ByPriority>,
-    tickets: Tickets,
+    pub(crate) heap: StableHeap<Ranked, ByPriority>,
+    pub(crate) tickets: Tickets,
 }
 
 impl Model for Queue {
@@ -217,62 +215,6 @@ impl Queue {
             },
         );
         true
-    }
-
-    /// Inserts an item without a ticket and returns its spot, which stays the same while it is in the queue. Returns
-    /// `None` if memory is refused or the queue has `usize::MAX` items, and the queue is unchanged. Allocates one node.
-    ///
-    /// # Complexity
-    /// O(1), without a comparison.
-    pub fn push_unchecked(&mut self, alloc: Global, key: u64, payload: u64) -> Option<Spot>
-        ensures { PushesAt key payload result self.old self.new }
-    {
-        if self.heap.len() == usize::MAX {
-            return None;
-        }
-        let none = Ticket::none();
-        let item = Ranked {
-            key,
-            payload,
-            slot: none.slot,
-        };
-        let Ok(item) = Node::new(alloc, none.number, item) else {
-            return None;
-        };
-        Some(self.heap.push(item))
-    }
-
-    /// Removes the item at `at`, frees its node and returns it. Requires that an item is there.
-    ///
-    /// # Complexity
-    /// O(1), without a comparison.
-    pub fn remove_unchecked(&mut self, at: Spot) -> Item
-        requires { HasSpot self.old.nodes at }
-        ensures { RemovesAt at result self.old self.new }
-    {
-        self.heap.spots_are_distinct();
-        let item = self.heap.remove(at);
-        into_item(item, &mut self.tickets)
-    }
-
-    /// Gives another key to the item at `at`, as if it were pushed now. Requires that an item is there.
-    ///
-    /// # Complexity
-    /// O(1), without a comparison.
-    pub fn change_unchecked(&mut self, at: Spot, key: u64)
-        requires { HasSpot self.old.nodes at }
-        ensures { ChangesAt at key self.old self.new }
-    {
-        self.heap.update(
-            at,
-            move |item: &mut Ranked| -> ()
-                ensures key { item.new.key ≡ key }
-                ensures payload { item.new.payload ≡ item.old.payload }
-                ensures slot { item.new.slot ≡ item.old.slot }
-            {
-                item.key = key;
-            },
-        );
     }
 
     /// Returns the number of items.

@@ -1,13 +1,12 @@
 //! Timers that fire by their deadlines.
 ghost use Rattle.std.specs.Prelude.{◌≡◌, ℕ, [], length, MatchOption, refl, ⊤};
-ghost use Rattle.cordyceps.specs.Spots.BySpot.{HasSpot};
 ghost use Rattle.cordyceps_c_base.specs.Tickets.{IsEnded};
-ghost use Rattle.cordyceps_c_timers.specs.Timers.{Bounds, Starts, Stops, Restarts, StartsAt, StopsAt, RestartsAt};
+ghost use Rattle.cordyceps_c_timers.specs.Timers.{Bounds, Starts, Stops, Restarts};
 ghost use Rattle.cordyceps_c_timers.specs.Timers.{Fires, NoneFires, fired_of};
 
 use cordyceps::clock_queue::Times;
 use cordyceps::list::Links;
-use cordyceps::{ClockQueue, Linked, Node, Spot};
+use cordyceps::{ClockQueue, Linked, Node};
 use cordyceps_c_base::tickets::{Ticket, Tickets};
 use std::alloc::Global;
 use std::marker::Model;
@@ -44,7 +43,7 @@ impl Linked<Links<Timer>> for Timer {
 
 /// The times at which timers fire.
 #[derive(Drop)]
-struct ByDue;
+pub(crate) struct ByDue;
 
 impl Times<Timer> for ByDue {
     ghost computes_by = { λ _ of. of ≡ (λ t. t.due) };
@@ -69,7 +68,7 @@ pub struct Fired {
 }
 
 /// Ends the ticket of a timer that came out, frees its node, and returns what C sees of it.
-fn into_fired(timer: Running, tickets: &mut Tickets) -> Fired
+pub(crate) fn into_fired(timer: Running, tickets: &mut Tickets) -> Fired
     ensures fired { result ≡ fired_of timer }
     ensures ended { IsEnded timer.id timer.value.slot tickets.old tickets.new }
 {
@@ -91,8 +90,8 @@ fn into_fired(timer: Running, tickets: &mut Tickets) -> Fired
 /// were given.
 #[derive(Drop)]
 pub struct Timers {
-    queue: ClockQueue<Timer, ByDue>,
-    tickets: Tickets,
+    pub(crate) queue: ClockQueue<Timer, ByDue>,
+    pub(crate) tickets: Tickets,
 }
 
 impl Model for Timers {
@@ -194,66 +193,6 @@ impl Timers {
             },
         );
         true
-    }
-
-    /// Starts a timer without a ticket and returns its spot, which stays the same while it runs. Returns `None` if
-    /// memory is refused or `usize::MAX` timers run, and the timers are unchanged. Allocates one node.
-    ///
-    /// # Complexity
-    /// O(1).
-    pub fn start_unchecked(&mut self, alloc: Global, deadline: u64, payload: u64) -> Option<Spot>
-        ensures { StartsAt deadline payload result self.old self.new }
-    {
-        if self.queue.len() == usize::MAX {
-            return None;
-        }
-        let none = Ticket::none();
-        let timer = Timer {
-            due: deadline.max(self.queue.now()),
-            deadline,
-            payload,
-            slot: none.slot,
-        };
-        let Ok(timer) = Node::new(alloc, none.number, timer) else {
-            return None;
-        };
-        Some(self.queue.push(timer))
-    }
-
-    /// Removes the timer at `at`, frees its node and returns it. Requires that a timer runs there.
-    ///
-    /// # Complexity
-    /// O(1).
-    pub fn stop_unchecked(&mut self, at: Spot) -> Fired
-        requires { HasSpot self.old.nodes at }
-        ensures { StopsAt at result self.old self.new }
-    {
-        self.queue.spots_are_distinct();
-        let timer = self.queue.remove(at);
-        into_fired(timer, &mut self.tickets)
-    }
-
-    /// Gives another deadline to the timer at `at`, as if it were started now. Requires that a timer runs there.
-    ///
-    /// # Complexity
-    /// O(1).
-    pub fn restart_unchecked(&mut self, at: Spot, deadline: u64)
-        requires { HasSpot self.old.nodes at }
-        ensures { RestartsAt at deadline self.old self.new }
-    {
-        let due = deadline.max(self.queue.now());
-        self.queue.update(
-            at,
-            move |timer: &mut Timer| -> ()
-                ensures due { timer.new.due ≡ due }
-                ensures deadline { timer.new.deadline ≡ deadline }
-                ensures payload { timer.new.payload ≡ timer.old.payload }
-                ensures slot { timer.new.slot ≡ timer.old.slot }
-            {
-                timer.due = due;
-                timer.deadline = deadline;
-            },
-        );
     }
 
     /// Removes the first timer, frees its node and returns it, if it fires at the time `now` or before. Its time
