@@ -1,4 +1,5 @@
-// Measures peers of the library's collections, on the rows of cordyceps_speed.
+// Measures peers of the library's collections, on the rows of cordyceps_speed. A program that is built with OF_BORDER
+// measures the calls of the library for C and their peers.
 //
 //   beside rows                        prints each row with a peer, and whether its number counts producers
 //   beside ROW PEER NUMBER ROUNDS      prints the nanoseconds that one operation takes, on the mean
@@ -33,8 +34,12 @@ static int show_meetings() {
 int main(int count, char **words) {
   // (until a process has had a second thread, the C library locks by plain stores)
   std::thread([] {}).join();
+#ifdef OF_BORDER
+  add_border();
+#else
   add_lists();
   add_shared();
+#endif
   std::string asked = count > 1 ? words[1] : "";
   if (asked == "rows" && count == 2) return show_rows();
   if (asked == "meetings" && count == 2) return show_meetings();

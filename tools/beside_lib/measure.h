@@ -106,4 +106,7 @@ extern std::map<std::pair<std::string, std::string>, Row> one_thread, meetings;
 void add_lists();
 void add_shared();
 
+// Adds the rows of the calls for C, to a program that has no others.
+void add_border();
+
 #endif
