@@ -44,10 +44,10 @@ extern "C" {
 
 /* ---- Tickets */
 
-/* Names an element of a collection, from the call that put it in until it comes out. The collection checks a ticket
- * when it gets one, so one that is stale, of another collection, or made up is answered `false` and does no harm. No
- * other element of the collection ever has the same ticket. A ticket is a number: it can be copied and kept anywhere.
- * {0} is a ticket that no element has. */
+/* Names an element of a collection, from the call that put it in until it comes out. No other element of the
+ * collection ever has the same ticket. Each call checks the ticket that it gets: one that is stale, or of a collection
+ * that was made with another number, is answered `false`, and whatever a ticket holds, no call with it is undefined. It
+ * is a plain value, which can be copied and kept anywhere. {0} is a ticket that no element has. */
 typedef struct {
   uint32_t collection; /* the number that the collection was made with */
   uint32_t slot;       /* where the collection finds the element */
