@@ -8,6 +8,7 @@
 #include "peers.h"
 
 #include <malloc.h>
+#include <sys/queue.h>
 
 #include <mutex>
 
@@ -252,6 +253,156 @@ struct LockedRing {
   }
 };
 
+// The library's list. Its names are tickets.
+struct LibraryList {
+  using Name = cordyceps_ticket;
+  cordyceps_list list = {};
+
+  explicit LibraryList(size_t) { require(cordyceps_list_new(1, &list)); }
+  void move_to_back(Name name) { require(cordyceps_list_move_to_back(&list, name)); }
+
+  Name push_back(uint64_t payload) {
+    Name name;
+    require(cordyceps_list_push_back(&list, payload, &name));
+    return name;
+  }
+
+  uint64_t pop_front() {
+    uint64_t payload;
+    require(cordyceps_list_pop_front(&list, &payload));
+    return payload;
+  }
+
+  uint64_t remove(Name name) {
+    uint64_t payload;
+    require(cordyceps_list_remove(&list, name, &payload));
+    return payload;
+  }
+
+  uint64_t sum() {
+    uint64_t sum = 0, payload;
+    Name at;
+    for (bool is_there = cordyceps_list_front(&list, &at); is_there; is_there = cordyceps_list_next(&list, at, &at)) {
+      require(cordyceps_list_get(&list, at, &payload));
+      sum += payload;
+    }
+    return sum;
+  }
+};
+
+struct TailNode {
+  TAILQ_ENTRY(TailNode) links;
+  uint64_t payload;
+};
+
+// A list of the C library's sys/queue.h. Its names are its nodes.
+template <template <class> class Nodes>
+struct TailList {
+  using Name = TailNode *;
+  Nodes<TailNode> nodes;
+  TAILQ_HEAD(, TailNode) list;
+
+  explicit TailList(size_t count) : nodes(count) { TAILQ_INIT(&list); }
+  uint64_t pop_front() { return remove(TAILQ_FIRST(&list)); }
+
+  Name push_back(uint64_t payload) {
+    Name it = nodes.make();
+    it->payload = payload;
+    TAILQ_INSERT_TAIL(&list, it, links);
+    return it;
+  }
+
+  uint64_t remove(Name it) {
+    TAILQ_REMOVE(&list, it, links);
+    uint64_t payload = it->payload;
+    nodes.end(it);
+    return payload;
+  }
+
+  void move_to_back(Name it) {
+    TAILQ_REMOVE(&list, it, links);
+    TAILQ_INSERT_TAIL(&list, it, links);
+  }
+
+  uint64_t sum() {
+    uint64_t sum = 0;
+    Name it;
+    TAILQ_FOREACH(it, &list, links) sum += it->payload;
+    return sum;
+  }
+};
+
+// All go in at the back, and then all come out at the front.
+template <class List>
+static Time list_ends(size_t count, size_t rounds) {
+  List list(count);
+  return measured(rounds, [&] {
+    uint64_t sum = 0;
+    Time time = timed(2.0 * count, [&] {
+      for (size_t number = 0; number < count; number++) list.push_back(number);
+      for (size_t number = 0; number < count; number++) sum += list.pop_front();
+    });
+    expect(sum, sum_below(count));
+    return time;
+  });
+}
+
+// All go in at the back, and then all come out by their names, in no order.
+template <class List>
+static Time list_by_name(size_t count, size_t rounds) {
+  List list(count);
+  vector<typename List::Name> names(count);
+  return measured(rounds, [&] {
+    uint64_t sum = 0;
+    Time time = timed(count, [&] {
+      for (size_t number = 0; number < count; number++) names[number] = list.push_back(number);
+    });
+    shuffle(names);
+    time += timed(count, [&] {
+      for (auto &name : names) sum += list.remove(name);
+    });
+    expect(sum, sum_below(count));
+    return time;
+  });
+}
+
+// Each goes to the back by its name, in no order.
+template <class List>
+static Time list_moved(size_t count, size_t rounds) {
+  List list(count);
+  vector<typename List::Name> names;
+  for (size_t number = 0; number < count; number++) names.push_back(list.push_back(number));
+  shuffle(names);
+  Time time = measured(rounds, [&] {
+    return timed(count, [&] {
+      for (auto &name : names) list.move_to_back(name);
+    });
+  });
+  expect(list.sum(), sum_below(count));
+  return time;
+}
+
+// All are read, from the front on, in the order in which their nodes were made.
+template <class List>
+static Time list_walk(size_t count, size_t rounds) {
+  List list(count);
+  for (size_t number = 0; number < count; number++) list.push_back(number);
+  return measured(rounds, [&] {
+    uint64_t sum = 0;
+    Time time = timed(count, [&] { sum = list.sum(); });
+    expect(sum, sum_below(count));
+    return time;
+  });
+}
+
+template <class List>
+static void add_list(const char *peer) {
+  one_thread[{"list ends", peer}] = list_ends<List>;
+  one_thread[{"list by name", peer}] = list_by_name<List>;
+  one_thread[{"list moved", peer}] = list_moved<List>;
+  one_thread[{"list walk", peer}] = list_walk<List>;
+}
+
 // All payloads are sent, so many at a time, and received.
 template <class Inbox>
 static Time send(size_t count, size_t at_a_time, size_t rounds) {
@@ -314,6 +465,10 @@ void add_border() {
   add_held<Heap<Waiting>>("4-ary heap");
   add_named<StandardTree>("std::multimap");
   add_ordered<StandardHeap>("std::priority_queue");
+  add_list<LibraryList>("cordyceps_list");
+  add_list<TailList<Allocated>>("TAILQ");
+  one_thread[{"list ends, held", "TAILQ"}] = list_ends<TailList<Waiting>>;
+  one_thread[{"list by name, held", "TAILQ"}] = list_by_name<TailList<Waiting>>;
   add_inbox<LibraryInbox>("cordyceps_inbox");
   add_inbox<LockedRing>("mutex, ring");
 #ifdef WITH_BOOST
