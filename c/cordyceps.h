@@ -56,7 +56,7 @@ typedef struct {
 
 /* Where an element of a collection is, for the calls whose names end in _unchecked. The caller keeps that the element
  * is still in that collection: nothing checks it, and a stale spot is as bad as a pointer to freed memory. These calls
- * take no ticket and no table, so they are the quicker ones. A spot stays the same until the element comes out. */
+ * need no ticket and no table. A spot stays the same until the element comes out. */
 typedef struct {
   void *at;
 } cordyceps_spot;
