@@ -1,7 +1,7 @@
 -- What stays linked where double chains are joined and cut.
 use Rattle.std.proofs.Common.{◌≡◌, ℕ, zero, suc, ◌+◌, ◌-◌, ◌<◌, List, [], ◌∷◌, ◌++◌, length, take, drop, slice_get, Some, refl, sym, ap, ◌∙◌, subst, arith, length-append}
 use denote.RawPtr.{Ptr, null_ptr}
-use Rattle.std.specs.declared.alloc.Global.{Global}
+use Rattle.cordyceps_base.specs.declared.boxes.homes.Home.{Home}
 use Rattle.cordyceps_base.specs.declared.boxes.Address.{Address}
 use Rattle.cordyceps_base.specs.declared.node.Block.{Block}
 use Rattle.cordyceps_base.specs.Boxes.{box_addresses, box_values, set_value}
@@ -83,13 +83,13 @@ module _ {X : Type 0} where
     last_here = let long = linked.long in last_on null_ptr h ns t null_ptr (len - 1) (omega (arith, some, long)) linked.segment
 
   -- the only node
-  pub single : (h t : Ptr) (len : ℕ) (ns : List (OwnedNode X)) (a : Global) → IsLinked h t len ns → length (nodes_of ns) ≡ 1 → (x : Block X) × (ns ≡ (h, a, x) ∷ [])
+  pub single : (h t : Ptr) (len : ℕ) (ns : List (OwnedNode X)) (a : Home) → IsLinked h t len ns → length (nodes_of ns) ≡ 1 → (x : Block X) × (ns ≡ (h, a, x) ∷ [])
   single h t len [] a linked e = absurd (omega (arith, e))
   single h t len (n ∷ []) a linked e = (block_of n, λ i. (sym linked.segment.0.0 i, a, block_of n) ∷ [])
   single h t len (n ∷ m ∷ ns) a linked e = absurd (omega (arith, e))
 
   -- a row of one node that leads to nx and back to pr
-  pub linked_one : (p : Ptr) (a : Global) (v : Block X) (nx pr : Address) (b c : Block X) (one : List (OwnedNode X)) → one ≡ (p, a, v) ∷ [] → slice_get (box_values one) 0 ≡ Some b
+  pub linked_one : (p : Ptr) (a : Home) (v : Block X) (nx pr : Address) (b c : Block X) (one : List (OwnedNode X)) → one ≡ (p, a, v) ∷ [] → slice_get (box_values one) 0 ≡ Some b
       → slice_get (box_values (set_value one 0 (with_next b nx))) 0 ≡ Some c → set_value (set_value one 0 (with_next b nx)) 0 (with_prev c pr) ≡ (p, a, with_prev (with_next v nx) pr) ∷ []
   linked_one p a v nx pr b c one e r s =
       let r' : slice_get (box_values ((p, a, v) ∷ [])) 0 ≡ Some b = subst (λ ls. slice_get (box_values ls) 0 ≡ Some b) e r in let is_v : v ≡ b = cc in

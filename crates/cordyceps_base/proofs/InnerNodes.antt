@@ -1,7 +1,7 @@
 -- A row that is parted at one of its nodes, with some before it.
 use Rattle.std.proofs.Common.{◌≡◌, ℕ, zero, suc, ◌+◌, ◌-◌, ◌<◌, List, [], ◌∷◌, ◌++◌, length, take, drop, slice_get, Some, refl, arith}
 use denote.RawPtr.{Ptr, null_ptr}
-use Rattle.std.specs.declared.alloc.Global.{Global}
+use Rattle.cordyceps_base.specs.declared.boxes.homes.Home.{Home}
 use Rattle.cordyceps_base.specs.declared.boxes.Address.{Address}
 use Rattle.cordyceps_base.specs.declared.node.Block.{Block}
 use Rattle.cordyceps_base.specs.Boxes.{box_addresses, box_values, set_value}
@@ -41,7 +41,7 @@ module _ {X : Type 0} (h t : Ptr) (ns : List (OwnedNode X)) (k : ℕ) (at : Ptr)
       let long = length-drop-within k ns (within_values ns k b holds) in let left = length-drop-within 1 (drop k ns) (omega (arith, more, long)) in
       first_on at (next_of b) (drop 1 (drop k ns)) t null_ptr after.1 (omega (arith, more, long, left))
 
-  pub one_there : (a : Global) × (x : Block X) × (take 1 (drop k ns) ≡ (at, a, x) ∷ [])
+  pub one_there : (a : Home) × (x : Block X) × (take 1 (drop k ns) ≡ (at, a, x) ∷ [])
   one_there = first_one (prev_of b) at (drop k ns) t null_ptr some_after parts.1
 
   -- the nodes before it, the last of which leads to another
@@ -56,7 +56,7 @@ module _ {X : Type 0} (h t : Ptr) (ns : List (OwnedNode X)) (k : ℕ) (at : Ptr)
       (front_leads pos o b.links.next e) (relinked_first at (next_of b) (drop 1 (drop k ns)) t null_ptr b.links.prev p after.1 f)
 
   -- another node lies between it and the one before
-  pub linked_with : 0 < k → (new : Address) (a : Global) (w o p : Block X) → prev_of w ≡ prev_of b → next_of w ≡ at → slice_get (box_values (take k ns)) (k - 1) ≡ Some o → slice_get (box_values (drop k ns)) 0 ≡ Some p
+  pub linked_with : 0 < k → (new : Address) (a : Home) (w o p : Block X) → prev_of w ≡ prev_of b → next_of w ≡ at → slice_get (box_values (take k ns)) (k - 1) ≡ Some o → slice_get (box_values (drop k ns)) 0 ≡ Some p
       → Segment null_ptr h (set_value (take k ns) (k - 1) (with_next o new) ++ ((new.ptr, a, w) ∷ [] ++ set_value (drop k ns) 0 (with_prev p new))) t null_ptr
   linked_with pos new a w o p back on e f =
       let later = relinked_first (prev_of b) at (drop k ns) t null_ptr new p parts.1 f in

@@ -1,6 +1,8 @@
 pub mod Crosses
 pub mod DoubleChain
 pub mod DoubleLines
+pub mod Homes
+pub mod InnerNodes
 pub mod LineEnds
 pub mod LineMarks
 pub mod LineNumbers
@@ -9,7 +11,6 @@ pub mod LineReads
 pub mod LineSpots
 pub mod LineTables
 pub mod LineWalks
-pub mod InnerNodes
 pub mod Memory
 pub mod Nodes
 pub mod Places

@@ -2,7 +2,7 @@
 use Rattle.std.proofs.Common.{◌≡◌, ℕ, suc, ◌-◌, ◌<◌, Bool, true, false, not, ◌==◌, T, eqb→eq, [], ◌∷◌, ◌++◌, length, take, drop, slice_get, Some, refl, sym, ap, ◌∙◌, subst, arith, length-append, append_assoc}
 use Rattle.std.specs.Bool.{MatchBool}
 use denote.RawPtr.{Ptr, null_ptr, Testable, InBlock}
-use Rattle.std.specs.declared.alloc.Global.{Global}
+use Rattle.cordyceps_base.specs.declared.boxes.homes.Home.{Home}
 use Rattle.cordyceps_base.specs.declared.boxes.Address.{Address}
 use Rattle.cordyceps_base.specs.declared.node.Block.{Block}
 use Rattle.cordyceps_base.specs.Boxes.{box_addresses, box_values, set_value}
@@ -113,7 +113,7 @@ module _ {X : Type 0} where
   pub rest_line : (h : Ptr) (ns rest : Row X) (b : Block X) → IsDoubleLine h ns → 0 < length ns → slice_get (box_values ns) 0 ≡ Some b → rest ≡ drop 1 ns → AreNullComparable (box_addresses rest) → IsDoubleLine (next_of b) rest
   rest_line h ns rest b l some e is a = let on = rest_led h ns rest b l some e is in record { comparable = a; prev = h; last = on.0; linked = on.1 }
 
-  pub first_alone : (h : Ptr) (ns one : Row X) → IsDoubleLine h ns → 0 < length ns → one ≡ take 1 ns → (a : Global) × (x : Block X) × (one ≡ (h, a, x) ∷ [])
+  pub first_alone : (h : Ptr) (ns one : Row X) → IsDoubleLine h ns → 0 < length ns → one ≡ take 1 ns → (a : Home) × (x : Block X) × (one ≡ (h, a, x) ∷ [])
   first_alone h ns one l some is = let (a, x, e) = first_one l.prev h ns l.last null_ptr some l.linked in (a, x, is ∙ e)
 
   -- the first node, which is cut off and leads back to another
@@ -134,13 +134,13 @@ module _ {X : Type 0} where
       (e, ap nodes_of f ∙ (λ i. (at i, e) ∷ []), sym seen ∙ (λ i. (at i, e) ∷ nodes_of ns) ∙ ap (λ s. (h, e) ∷ s) (ap nodes_of (sym g) ∙ left))
 
   -- the only node of a line
-  pub one_alone : (h : Ptr) (ns : Row X) (c : Nodes X) → nodes_of ns ≡ c → IsDoubleLine h ns → length c ≡ 1 → (a : Global) × (x : Block X) × (ns ≡ (h, a, x) ∷ [])
+  pub one_alone : (h : Ptr) (ns : Row X) (c : Nodes X) → nodes_of ns ≡ c → IsDoubleLine h ns → length c ≡ 1 → (a : Home) × (x : Block X) × (ns ≡ (h, a, x) ∷ [])
   one_alone h [] c seen l one = let long = length_is [] c seen in absurd (omega (arith, one, long))
   one_alone h (n ∷ []) c seen l one = (n.1, block_of n, λ i. (sym l.linked.0.0 i, n.1, block_of n) ∷ [])
   one_alone h (n ∷ m ∷ ns) c seen l one = let long = length_is (n ∷ m ∷ ns) c seen in absurd (omega (arith, one, long))
 
   -- a node that leads to nothing is a line
-  pub alone_led : (p : Ptr) (a : Global) (v : Block X) (nx : Address) (b : Block X) (one : Row X) → one ≡ (p, a, v) ∷ [] → slice_get (box_values one) 0 ≡ Some b
+  pub alone_led : (p : Ptr) (a : Home) (v : Block X) (nx : Address) (b : Block X) (one : Row X) → one ≡ (p, a, v) ∷ [] → slice_get (box_values one) 0 ≡ Some b
       → set_value one 0 (with_next b nx) ≡ (p, a, with_next v nx) ∷ []
   alone_led p a v nx b one e r =
       let r' : slice_get (box_values ((p, a, v) ∷ [])) 0 ≡ Some b = subst (λ ls. slice_get (box_values ls) 0 ≡ Some b) e r in let is : v ≡ b = cc in

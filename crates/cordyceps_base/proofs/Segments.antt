@@ -2,7 +2,7 @@
 use Rattle.std.proofs.Common.{◌≡◌, ℕ, zero, suc, ◌+◌, ◌-◌, ◌<◌, ◌≤◌, Bool, true, false, if◌then◌else◌, List, [], ◌∷◌, ◌++◌, length, take, drop, slice_get, Some, refl, sym, ap, ◌∙◌, subst, arith, length-append, append_assoc}
 use lib.Dec.{lit<}
 use denote.RawPtr.{Ptr, null_ptr, Testable, InBlock}
-use Rattle.std.specs.declared.alloc.Global.{Global}
+use Rattle.cordyceps_base.specs.declared.boxes.homes.Home.{Home}
 use Rattle.cordyceps_base.specs.declared.boxes.Address.{Address}
 use Rattle.cordyceps_base.specs.declared.node.Block.{Block}
 use Rattle.cordyceps_base.specs.Element.{Element}
@@ -100,7 +100,7 @@ module _ {X : Type 0} where
       nodes_of-append (take k ns) (set_value (drop k ns) 0 (with_next b nx)) ∙ ap (λ s. nodes_of (take k ns) ++ s) (nodes_of-set (drop k ns) 0 b (with_next b nx) e refl refl)
       ∙ sym (nodes_of-append (take k ns) (drop k ns)) ∙ ap nodes_of (sym (take-drop k ns))
 
-  pub last_one : (p h : Ptr) (ns : Row X) (t q : Ptr) (j : ℕ) → suc j ≡ length ns → Segment p h ns t q → (a : Global) × (x : Block X) × (drop j ns ≡ (t, a, x) ∷ [])
+  pub last_one : (p h : Ptr) (ns : Row X) (t q : Ptr) (j : ℕ) → suc j ≡ length ns → Segment p h ns t q → (a : Home) × (x : Block X) × (drop j ns ≡ (t, a, x) ∷ [])
   last_one p h [] t q j e f = absurd (omega (arith, e))
   last_one p h (n ∷ []) t q zero e f = (n.1, block_of n, λ i. (sym f.1.1 i, n.1, block_of n) ∷ [])
   last_one p h (n ∷ []) t q (suc j) e f = absurd (omega (arith, e))
@@ -108,7 +108,7 @@ module _ {X : Type 0} where
   last_one p h (n ∷ m ∷ ns) t q (suc j) e f = last_one n.0 (next_of (block_of n)) (m ∷ ns) t q j (omega (arith, e)) f.1
 
   -- ---- the first node
-  pub first_one : (p h : Ptr) (ns : Row X) (t q : Ptr) → 0 < length ns → Segment p h ns t q → (a : Global) × (x : Block X) × (take 1 ns ≡ (h, a, x) ∷ [])
+  pub first_one : (p h : Ptr) (ns : Row X) (t q : Ptr) → 0 < length ns → Segment p h ns t q → (a : Home) × (x : Block X) × (take 1 ns ≡ (h, a, x) ∷ [])
   first_one p h [] t q some f = absurd (omega (arith, some))
   first_one p h (n ∷ ns) t q some f = (n.1, block_of n, λ i. (sym f.0.0 i, n.1, block_of n) ∷ [])
 
@@ -161,7 +161,7 @@ module _ {X : Type 0} where
     pub rest_is : (rest : Row X) → rest ≡ drop 1 back → rest ≡ u.after
     rest_is rest e = e ∙ ap (drop 1) u.here
 
-    pub one_is : (one : Row X) (a : Global) → one ≡ take 1 back → one ≡ (p, a, block_of u.node) ∷ []
+    pub one_is : (one : Row X) (a : Home) → one ≡ take 1 back → one ≡ (p, a, block_of u.node) ∷ []
     one_is one a e = e ∙ ap (take 1) u.here ∙ (λ i. (u.lies i, a, block_of u.node) ∷ [])
 
     pub front_linked : (b : Block X) → slice_get (box_values back) 0 ≡ Some b → (q : Ptr) × Segment null_ptr h front (prev_of b) q

@@ -3,7 +3,7 @@ use Rattle.std.proofs.Common.{◌≡◌, true, false, ℕ, zero, suc, ◌-◌, �
 use Rattle.std.specs.Prelude.{IfSome}
 use Rattle.core.specs.Option.{IsSome, is_some, option_or}
 use denote.RawPtr.{Ptr, block_ptr, null_ptr, InBlock, Testable}
-use Rattle.std.specs.declared.alloc.Global.{Global}
+use Rattle.cordyceps_base.specs.declared.boxes.homes.Home.{Home}
 use Rattle.cordyceps_base.specs.declared.boxes.Address.{Address}
 use Rattle.cordyceps_base.specs.declared.node.Block.{Block}
 use Rattle.cordyceps_base.specs.Boxes.{box_addresses, box_values, set_value}
@@ -84,7 +84,7 @@ module _ {X : Type 0} where
   first_shown [] w e = cc
   first_shown (n ∷ ns) w e = ((n.0, block_element (block_of n)), refl, refl)
 
-  pub first_row : (h : Option Address) (ns : List (OwnedNode X)) (a : Address) (g : Global) → IsLed h ns → h ≡ Some a → (x : Block X) × (take 1 ns ≡ (a.ptr, g, x) ∷ [])
+  pub first_row : (h : Option Address) (ns : List (OwnedNode X)) (a : Address) (g : Home) → IsLed h ns → h ≡ Some a → (x : Block X) × (take 1 ns ≡ (a.ptr, g, x) ∷ [])
   first_row h [] a g f e = cc
   first_row h (n ∷ ns) a g f e = let same : record { ptr = n.0 } ≡ a = cc in (block_of n, ap (λ (p : Address). (p.ptr, g, block_of n) ∷ []) same)
 
@@ -103,7 +103,7 @@ module _ {X : Type 0} where
   item_after (suc k) (n ∷ ns) = item_after k ns
 
   -- the only node
-  pub single : (t : Ptr) (ns : List (OwnedNode X)) (g : Global) → EndsAt ns t → length (nodes_of ns) ≡ 1 → (x : Block X) × (ns ≡ (t, g, x) ∷ [])
+  pub single : (t : Ptr) (ns : List (OwnedNode X)) (g : Home) → EndsAt ns t → length (nodes_of ns) ≡ 1 → (x : Block X) × (ns ≡ (t, g, x) ∷ [])
   single t [] g f e = absurd (omega arith)
   single t (n ∷ []) g f e = (block_of n, λ i. (sym f i, g, block_of n) ∷ [])
   single t (n ∷ m ∷ ns) g f e = absurd (omega arith)

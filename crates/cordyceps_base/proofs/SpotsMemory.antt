@@ -6,11 +6,11 @@ use native.Mathlib.Omega.{arith}
 use mathlib.Core.List.{List, [], ◌∷◌, ◌++◌}
 use seplogic.Ra.Ura.{Ura}
 use base.Fraction.{full_share}
-use mir.Syntax.{Ty}
+use mir.Syntax.{Ty, ty_struct}
 use mir.Val.{Val, vstruct, vnil, of_list}
 use mir.Raw.{raw as bare}
 use base.Logic.{ent, sep, emp, snd∗, via, never, never_e, fst∗, mono∗, ex_e}
-use base.Fml.{Fml}
+use base.Fml.{Fml, ftrue}
 use prog.Model.{Model}
 use prog.Memory.{size}
 use types.Logic.{Logic, sem}
@@ -23,10 +23,13 @@ use denote.Shadow.{makes_shadow}
 use denote.Struct.Struct.{Struct}
 use denote.Struct.Owning.{shape}
 use Rattle.std.specs.declared.alloc.Global.{Global}
-use Rattle.std.specs.contracts.alloc.Global as heap
-use Rattle.std.specs.contracts.impls.GlobalAllocator.TheImpl.{ghosts as heap_ghosts}
+use Rattle.std.specs.contracts.impls.GlobalAllocator.TheImpl.{ghosts as heap}
 use Rattle.std.proofs.GlobalToken.{dealloc_token-Testable}
+use Rattle.cordyceps_base.specs.declared.boxes.homes.Home.{Home}
+use Rattle.cordyceps_base.specs.contracts.boxes.homes.Home as home
+use Rattle.cordyceps_base.specs.contracts.boxes.homes.HomeAllocator.TheImpl.{ghosts as home_ghosts}
 use Rattle.cordyceps_base.specs.contracts.boxes.Boxes as boxes
+use Rattle.cordyceps_base.specs.Homes.{housed, parts_of, right_of}
 use Rattle.cordyceps_base.proofs.Memory.{mark}
 use lib.Dec.{eqb_refl}
 use Rattle.std.proofs.Common.{◌==◌, ◌&&◌, eqb→eq, T, if◌then◌else◌, slice_get, Some}
@@ -128,33 +131,42 @@ module _ {M : Type 1} {𝓤 : Ura M} (𝓛 : Logic 𝓤) (𝓜 : Model 𝓤 𝓛
     pub distinct_if_sized : {Z : Type 0} (holds : Z → Ty → Ptr → Fml) (ns : List (Ptr × Z × Y.Denot)) → ent 𝓤 (sem 𝓛 (boxes_own holds Y ns)) (fact 𝓤 (0 < size (lone Y.mir) → AreDistinct (box_addresses ns)))
     distinct_if_sized holds ns = sized holds ns (size (lone Y.mir)) refl
 
--- what `Global` may free is a block's start
-module _ {M : Type 1} {𝓤 : Ura M} (𝓛 : Logic 𝓤) (R : RattleType) where
-  abbrev pub HeapRow : List (Ptr × Global × R.Denot) → Fml
-  HeapRow = boxes_own heap_ghosts.dealloc_token R
+-- what `Global` may free is a block's start, and of what is lent the right to free says it
+module _ {M : Type 1} {𝓤 : Ura M} (𝓛 : Logic 𝓤) where
+  right_comparable : (n : ℕ) (τ : Ty) (p : Ptr) → ent 𝓤 (sem 𝓛 (right_of n τ p)) (fact 𝓤 (Testable p))
+  right_comparable zero τ p = ex_e 𝓤 (λ (a : Global). sem 𝓛 (heap.dealloc_token a (ty_struct [] (parts_of τ)) p)) (λ a. dealloc_token-Testable 𝓛 a (ty_struct [] (parts_of τ)) p)
+  right_comparable (suc n) τ p = ex_e 𝓤 (λ (t : Testable p). sem 𝓛 ftrue) (λ t. fact_i 𝓤 (Testable p) _ t)
 
-  pub row_comparable : (ns : List (Ptr × Global × R.Denot)) → ent 𝓤 (sem 𝓛 (HeapRow ns)) (fact 𝓤 (AreNullComparable (box_addresses ns)))
+  housed_comparable : (τ : Ty) (p : Ptr) → ent 𝓤 (sem 𝓛 (housed τ p)) (fact 𝓤 (Testable p))
+  housed_comparable τ null_ptr = never_e 𝓤 _
+  housed_comparable τ (block_ptr b o) = qed 𝓛 (‵ (housed τ (block_ptr b o)) ∷ []) ∵ fpick ! (λ n. fsplit ! $ move ! (1 ∷ []) $ fsplit ! $ keep ! (1 ∷ []) $ by ! (right_comparable n τ (block_ptr b o)))
+
+module _ {M : Type 1} {𝓤 : Ura M} (𝓛 : Logic 𝓤) (R : RattleType) where
+  abbrev pub HomeRow : List (Ptr × Home × R.Denot) → Fml
+  HomeRow = boxes_own home_ghosts.dealloc_token R
+
+  pub row_comparable : (ns : List (Ptr × Home × R.Denot)) → ent 𝓤 (sem 𝓛 (HomeRow ns)) (fact 𝓤 (AreNullComparable (box_addresses ns)))
   row_comparable [] = fact_i 𝓤 (AreNullComparable []) _ tt
   row_comparable (n ∷ ns) =
-      let own : Fml = points_to R n.0 (box_value n) in let may : Fml = heap_ghosts.dealloc_token n.1 (bare (lone R.mir)) n.0 in
-      qed 𝓛 (‵ (HeapRow (n ∷ ns)) ∷ []) ∵ fsplit ! $
+      let own : Fml = points_to R n.0 (box_value n) in let may : Fml = housed (bare (lone R.mir)) n.0 in
+      qed 𝓛 (‵ (HomeRow (n ∷ ns)) ∷ []) ∵ fsplit ! $
       learns ! (InBlock n.0) (via 𝓤 (sem 𝓛 own) (fst∗ 𝓤 (sem 𝓛 own) (sem 𝓛 may)) (lies_in_block 𝓛 R full_share n.0 (box_value n))) (λ block.
-      learns ! (Testable n.0) (via 𝓤 (sem 𝓛 may) (snd∗ 𝓤 (sem 𝓛 own) (sem 𝓛 may)) (dealloc_token-Testable 𝓛 n.1 (bare (lone R.mir)) n.0)) (λ test.
+      learns ! (Testable n.0) (via 𝓤 (sem 𝓛 may) (snd∗ 𝓤 (sem 𝓛 own) (sem 𝓛 may)) (housed_comparable 𝓛 (bare (lone R.mir)) n.0)) (λ test.
       move ! (1 ∷ []) $ learns ! (AreNullComparable (box_addresses ns)) (row_comparable ns) (λ rest. by ! (fact_i 𝓤 (AreNullComparable (box_addresses (n ∷ ns))) _ ((block, test), rest)))))
 
-  abbrev pub HeapBoxes : RattleType
-  HeapBoxes = boxes.the_row R heap.the_row heap_ghosts
+  abbrev pub HomeBoxes : RattleType
+  HomeBoxes = boxes.the_row R home.the_row home_ghosts
 
-  abbrev HeapMark : RattleType
-  HeapMark = Struct (shape (boxes.the_type R heap.the_row heap_ghosts))
+  abbrev HomeMark : RattleType
+  HomeMark = Struct (shape (boxes.the_type R home.the_row home_ghosts))
 
-  heap_mark_shown : ent 𝓤 (emp 𝓤) (sem 𝓛 (HeapMark.own_val (tt, tt) (mark ∷ [])))
-  heap_mark_shown = makes_shadow 𝓛 (HeapMark.own_val (tt, tt) (mark ∷ [])) (λ vss. (tt, ((λ uss. (tt, tt)), tt))) ((vstruct vnil ∷ [], tt), (refl, ((tt, (refl, tt)), tt)))
+  home_mark_shown : ent 𝓤 (emp 𝓤) (sem 𝓛 (HomeMark.own_val (tt, tt) (mark ∷ [])))
+  home_mark_shown = makes_shadow 𝓛 (HomeMark.own_val (tt, tt) (mark ∷ [])) (λ vss. (tt, ((λ uss. (tt, tt)), tt))) ((vstruct vnil ∷ [], tt), (refl, ((tt, (refl, tt)), tt)))
 
 module _ {M : Type 1} {𝓤 : Ura M} {𝓛 : Logic 𝓤} {K : Type 0} {Γ : List (Item 𝓤)} {G : Goal 𝓤 𝓛.H} where
-  pub heap_boxes_made : K → (R : RattleType) (d : (HeapBoxes 𝓛 R).Denot) → Step K 𝓛 (‵ ((HeapBoxes 𝓛 R).own_val d (mark ∷ [])) ∷ Γ) G (‵ (HeapRow 𝓛 R d.blocks) ∷ Γ) G
-  heap_boxes_made t R d = step (λ s. use0 𝓛 (‵ ((HeapMark 𝓛 R).own_val (tt, tt) (mark ∷ []))) (heap_mark_shown 𝓛 R) $ fjoin t $ s)
+  pub home_boxes_made : K → (R : RattleType) (d : (HomeBoxes 𝓛 R).Denot) → Step K 𝓛 (‵ ((HomeBoxes 𝓛 R).own_val d (mark ∷ [])) ∷ Γ) G (‵ (HomeRow 𝓛 R d.blocks) ∷ Γ) G
+  home_boxes_made t R d = step (λ s. use0 𝓛 (‵ ((HomeMark 𝓛 R).own_val (tt, tt) (mark ∷ []))) (home_mark_shown 𝓛 R) $ fjoin t $ s)
 
-  pub heap_boxes_had : K → (R : RattleType) (d : (HeapBoxes 𝓛 R).Denot) (vs : List Val) → (vs ≡ mark ∷ [] → Seq K 𝓛 (‵ (HeapRow 𝓛 R d.blocks) ∷ Γ) G) → Seq K 𝓛 (‵ ((HeapBoxes 𝓛 R).own_val d vs) ∷ Γ) G
-  heap_boxes_had t R d vs k = fsplit t $ fpick t (λ vss. fsplit t $ feq_l t (λ ev. fsplit t $ fpick t (λ uss. fsplit t $ feq_l t (λ e. forget t $ forget t $
+  pub home_boxes_had : K → (R : RattleType) (d : (HomeBoxes 𝓛 R).Denot) (vs : List Val) → (vs ≡ mark ∷ [] → Seq K 𝓛 (‵ (HomeRow 𝓛 R d.blocks) ∷ Γ) G) → Seq K 𝓛 (‵ ((HomeBoxes 𝓛 R).own_val d vs) ∷ Γ) G
+  home_boxes_had t R d vs k = fsplit t $ fpick t (λ vss. fsplit t $ feq_l t (λ ev. fsplit t $ fpick t (λ uss. fsplit t $ feq_l t (λ e. forget t $ forget t $
       k (subst (λ (ws : List Val). vs ≡ vstruct (of_list (ws ++ [])) ∷ []) e ev)))))

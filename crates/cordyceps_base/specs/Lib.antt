@@ -5,6 +5,7 @@ pub mod DoubleChain
 pub mod DoubleChainLends
 pub mod DoubleLines
 pub mod Element
+pub mod Homes
 pub mod LineLends
 pub mod NodeLends
 pub mod Nodes

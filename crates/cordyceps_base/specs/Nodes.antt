@@ -1,7 +1,7 @@
 -- What a clause sees of the nodes of a chain, whatever their links.
 use Rattle.std.specs.Prelude.{◌≡◌, ℕ, zero, suc, List, [], ◌∷◌, map, slice_get, Some}
 use denote.RawPtr.{Ptr}
-use Rattle.std.specs.declared.alloc.Global.{Global}
+use Rattle.cordyceps_base.specs.declared.boxes.homes.Home.{Home}
 use Rattle.cordyceps_base.specs.declared.boxes.Address.{Address}
 use Rattle.cordyceps_base.specs.declared.node.Block.{Block}
 use Rattle.cordyceps_base.specs.Boxes.{box_value}
@@ -36,7 +36,7 @@ module _ {X : Type 0} where
 
 -- a node, as a chain owns it: its address, the handle that frees it and its block
 abbrev pub OwnedNode : Type 0 → Type 0
-OwnedNode X = Ptr × Global × Block X
+OwnedNode X = Ptr × Home × Block X
 
 module _ {X : Type 0} where
   -- the block of a node

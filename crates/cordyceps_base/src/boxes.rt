@@ -8,7 +8,10 @@ ghost use Rattle.cordyceps_base.specs.Boxes.{boxes_own, boxes_lent, box_addresse
 ghost use Rattle.cordyceps_base.specs.Spots.{index_of, AreDistinct, AreNullComparable};
 ghost use Rattle.std.specs.Mem.{type_size};
 
-use std::alloc::{Allocator, Global};
+pub mod homes;
+
+use crate::boxes::homes::Home;
+use std::alloc::Allocator;
 use std::marker::{Model, PhantomData, Send, Sync};
 use std::ptr;
 use std::ptr::NonNull;
@@ -34,7 +37,7 @@ impl Address {
     }
 
     /// Returns `true` if the address is not null.
-    pub(crate) fn is_not_null(self) -> bool
+    pub fn is_not_null(self) -> bool
         requires { Testable self.ptr }
         ensures { MatchBool result (InBlock self.ptr) (self.ptr ≡ null_ptr) }
     {
@@ -50,7 +53,7 @@ unsafe impl Sync for Address {}
 pub struct RawBox<B, A: Allocator> {
     at: *mut B,
     alloc: A,
-    ghost value: { B },
+    pub ghost value: { B },
 }
 
 impl<B, A: Allocator> Model for RawBox<B, A> {
@@ -59,7 +62,7 @@ impl<B, A: Allocator> Model for RawBox<B, A> {
 
 impl<B: Drop, A: Allocator> RawBox<B, A> {
     /// Converts a box into its pointer and its allocator.
-    pub(crate) fn from_box(value: Box<B, A>) -> RawBox<B, A>
+    pub fn from_box(value: Box<B, A>) -> RawBox<B, A>
         ensures { result.value ≡ value.value }
     {
         let (at, alloc) = Box::into_raw_with_allocator(value);
@@ -67,7 +70,7 @@ impl<B: Drop, A: Allocator> RawBox<B, A> {
     }
 
     /// Converts the pointer and the allocator back into the box.
-    pub(crate) fn into_box(self) -> Box<B, A>
+    pub fn into_box(self) -> Box<B, A>
         ensures { result.value ≡ self.value }
     {
         let RawBox { at, alloc } = self;
@@ -79,7 +82,7 @@ impl<B: Drop, A: Allocator> RawBox<B, A> {
 /// sees the address, the allocator and the value of each box.
 pub struct Boxes<B, A: Allocator> {
     mark: PhantomData<*mut (B, A)>,
-    ghost blocks: { List (Ptr × A × B) },
+    pub ghost blocks: { List (Ptr × A × B) },
 }
 
 impl<B, A: Allocator> Model for Boxes<B, A> {
@@ -98,7 +101,7 @@ impl<B, A: Allocator> Boxes<B, A> {
     ghost use Rattle.cordyceps_base.specs.BoxesLends.{lends_value};
 
     /// Returns the address and the allocator of a box, and its owner.
-    pub(crate) fn one(block: RawBox<B, A>) -> (Address, A, Boxes<B, A>)
+    pub fn one(block: RawBox<B, A>) -> (Address, A, Boxes<B, A>)
         ensures { result.2.blocks ≡ (result.0.ptr, result.1, block.value) ∷ [] }
     {
         let RawBox { at, alloc } = block;
@@ -107,7 +110,7 @@ impl<B, A: Allocator> Boxes<B, A> {
     }
 
     /// Returns the only box.
-    pub(crate) fn only(self, at: Address, alloc: A) -> RawBox<B, A>
+    pub fn only(self, at: Address, alloc: A) -> RawBox<B, A>
         requires { (x : B) × (self.blocks ≡ (at.ptr, alloc, x) ∷ []) }
         ensures { self.blocks ≡ (at.ptr, alloc, result.value) ∷ [] }
     {
@@ -117,7 +120,7 @@ impl<B, A: Allocator> Boxes<B, A> {
     }
 
     /// Returns a reference to the value of box `k`, which is at `at`. Only the contract needs `k`.
-    pub(crate) fn get(&self, at: Address, k: usize) -> &B
+    pub fn get(&self, at: Address, k: usize) -> &B
         requires { slice_get (box_addresses self.now.blocks) k ≡ Some at.ptr }
         ensures { slice_get (box_values self.now.blocks) k ≡ Some result.now }
     {
@@ -126,7 +129,7 @@ impl<B, A: Allocator> Boxes<B, A> {
     }
 
     /// Returns a mutable reference to the value of box `k`, which is at `at`. Only the contract needs `k`.
-    pub(crate) fn get_mut(&mut self, at: Address, k: usize) -> &mut B
+    pub fn get_mut(&mut self, at: Address, k: usize) -> &mut B
         requires { slice_get (box_addresses self.old.blocks) k ≡ Some at.ptr }
         ensures* writes_back { sem 𝓛 (lends_value B.row A.row A.Allocator self.entry k result) }
         ensures value { slice_get (box_values self.old.blocks) k ≡ Some result.now }
@@ -136,7 +139,7 @@ impl<B, A: Allocator> Boxes<B, A> {
     }
 
     /// Returns a mutable reference to the value of the first box at `at`.
-    pub(crate) fn at_mut(&mut self, at: Address) -> &mut B
+    pub fn at_mut(&mut self, at: Address) -> &mut B
         requires { (k : ℕ) × (slice_get (box_addresses self.old.blocks) k ≡ Some at.ptr) }
         ensures* writes_back { sem 𝓛
             (lends_value B.row A.row A.Allocator self.entry (index_of at.ptr (box_addresses self.old.blocks)) result) }
@@ -152,21 +155,21 @@ impl<B, A: Allocator> Boxes<B, A> {
 // their addresses.
 impl<B, A: Allocator> Boxes<B, A> {
     /// Returns the owner of no box.
-    pub(crate) fn empty() -> Boxes<B, A>
+    pub fn empty() -> Boxes<B, A>
         ensures { result.blocks ≡ [] }
     {
         Boxes { mark: PhantomData }
     }
 
     /// Ends the owner of no box.
-    pub(crate) fn discard(self)
+    pub fn discard(self)
         requires { self.blocks ≡ [] }
     {
         let Boxes { mark: _ } = self;
     }
 
     /// Joins two owners to one of the boxes of both.
-    pub(crate) fn join(self, other: Boxes<B, A>) -> Boxes<B, A>
+    pub fn join(self, other: Boxes<B, A>) -> Boxes<B, A>
         ensures { result.blocks ≡ self.blocks ++ other.blocks }
     {
         let Boxes { mark: _ } = self;
@@ -175,7 +178,7 @@ impl<B, A: Allocator> Boxes<B, A> {
     }
 
     /// Splits the owner into that of the first `count` boxes and that of the others.
-    pub(crate) fn cut(self, count: usize) -> (Boxes<B, A>, Boxes<B, A>)
+    pub fn cut(self, count: usize) -> (Boxes<B, A>, Boxes<B, A>)
         ensures { (result.0.blocks ≡ take count self.blocks) × (result.1.blocks ≡ drop count self.blocks) }
     {
         let Boxes { mark: _ } = self;
@@ -183,7 +186,7 @@ impl<B, A: Allocator> Boxes<B, A> {
     }
 
     /// Splits the owner into that of the boxes before the first one at `at` and that of the others.
-    pub(crate) fn cut_at(self, at: Address) -> (Boxes<B, A>, Boxes<B, A>)
+    pub fn cut_at(self, at: Address) -> (Boxes<B, A>, Boxes<B, A>)
         ensures { let k = index_of at.ptr (box_addresses self.blocks) in
             (result.0.blocks ≡ take k self.blocks) × (result.1.blocks ≡ drop k self.blocks) }
     {
@@ -201,7 +204,7 @@ impl<B, A: Allocator> Boxes<B, A> {
     }
 
     /// Returns the same boxes. Its contract states that their addresses are distinct, if their values have a size.
-    pub(crate) fn distinct(self) -> Boxes<B, A>
+    pub fn distinct(self) -> Boxes<B, A>
         ensures { (result.blocks ≡ self.blocks) × (0 < type_size B.row → AreDistinct (box_addresses self.blocks)) }
     {
         let Boxes { mark: _ } = self;
@@ -216,7 +219,7 @@ impl<B, A: Allocator> Boxes<B, A> {
     }
 
     /// Returns the boxes from the first one at `at` on.
-    pub(crate) fn from_address(&self, at: Address) -> &Boxes<B, A>
+    pub fn from_address(&self, at: Address) -> &Boxes<B, A>
         ensures { result.now.blocks ≡ drop (index_of at.ptr (box_addresses self.now.blocks)) self.now.blocks }
     {
         self
@@ -230,10 +233,10 @@ impl<B, A: Allocator> Boxes<B, A> {
     }
 }
 
-// Nor does this one, for boxes of `Global`.
-impl<B> Boxes<B, Global> {
+// Nor does this one, for boxes with a word behind them.
+impl<B> Boxes<B, Home> {
     /// Returns the same boxes. Its contract states that their addresses may be compared with null.
-    pub(crate) fn null_comparable(self) -> Boxes<B, Global>
+    pub fn null_comparable(self) -> Boxes<B, Home>
         ensures { (result.blocks ≡ self.blocks) × AreNullComparable (box_addresses self.blocks) }
     {
         let Boxes { mark: _ } = self;

@@ -8,11 +8,11 @@ ghost use Rattle.cordyceps_base.specs.Spots.{AreDistinct};
 
 mod by_address;
 
+use crate::boxes::homes::Home;
 use crate::boxes::{Address, Boxes, RawBox};
 use crate::double_row::{Row, cut_out, node_of, put_in};
 use crate::list::Links;
 use crate::node::{Block, Node};
-use std::alloc::Global;
 use std::marker::{Model, PhantomData};
 use std::mem;
 
@@ -100,14 +100,13 @@ impl<T> DoubleChain<T> {
         T: Drop,
         ensures { (address : Ptr) × (result ≡ (address, node) ∷ []) }
     {
-        let Node { block, kind: _ } = node;
-        let (at, _, boxes) = Boxes::one(RawBox::from_box(block));
+        let (at, _, boxes) = Boxes::one(RawBox::from_box(node.into_block()));
         DoubleChain::of_one(at, boxes)
     }
 
     /// Creates a chain of the one node of a row.
     fn of_one(at: Address, row: Row<T>) -> DoubleChain<T>
-        requires { (a : Global) × (x : Block T) × (row.blocks ≡ (at.ptr, a, x) ∷ []) }
+        requires { (a : Home) × (x : Block T) × (row.blocks ≡ (at.ptr, a, x) ∷ []) }
         ensures { result ≡ nodes_of row.blocks }
     {
         let mut boxes = row;
@@ -134,11 +133,7 @@ impl<T> DoubleChain<T> {
             len: _,
             boxes,
         } = self;
-        let alloc = boxes.get(head, 0).alloc;
-        Node {
-            block: boxes.only(head, alloc).into_box(),
-            kind: PhantomData,
-        }
+        Node::from_block(boxes.only(head, Home).into_box())
     }
 
     /// Returns the number of nodes.
@@ -389,8 +384,7 @@ impl<T: Drop> DoubleChain<T> {
             len,
             boxes: mut back,
         } = self;
-        let Node { block, kind: _ } = node;
-        let (at, _, mut new) = Boxes::one(RawBox::from_box(block));
+        let (at, _, mut new) = Boxes::one(RawBox::from_box(node.into_block()));
         // The neighbour is written first, so that no write to another node comes between those to the new one.
         back.get_mut(head, 0).links.prev = at;
         new.get_mut(at, 0).links.next = head;
@@ -416,8 +410,7 @@ impl<T: Drop> DoubleChain<T> {
             len,
             boxes: mut front,
         } = self;
-        let Node { block, kind: _ } = node;
-        let (at, _, mut new) = Boxes::one(RawBox::from_box(block));
+        let (at, _, mut new) = Boxes::one(RawBox::from_box(node.into_block()));
         // As in `with_first`.
         front.get_mut(tail, len - 1).links.next = at;
         new.get_mut(at, 0).links.next = Address::null();

@@ -13,11 +13,11 @@ ghost use Rattle.cordyceps_base.specs.Nodes.{Nodes, OwnedNode, elements, nodes_o
 
 pub mod entries;
 
+use crate::boxes::homes::Home;
 use crate::boxes::{Address, Boxes, RawBox};
 use crate::double_row::{Row, followed_by, node_of};
 use crate::list::Links;
 use crate::node::{Block, Node};
-use std::alloc::Global;
 use std::marker::Model;
 use std::mem;
 
@@ -61,8 +61,7 @@ impl<T> Line<T> {
         T: Drop,
         ensures { result.1 ≡ (result.0.ptr, node) ∷ [] }
     {
-        let Node { block, kind: _ } = node;
-        let (first, _, row) = Boxes::one(RawBox::from_box(block));
+        let (first, _, row) = Boxes::one(RawBox::from_box(node.into_block()));
         (first, alone(first, row))
     }
 
@@ -177,7 +176,7 @@ impl<T> Growing<T> {
     }
 
     /// Appends the first node of a line, and returns what is left of that, too. Requires that it has a node.
-    pub fn with_first(self, line: Line<T>) -> (Growing<T>, Line<T>)
+    pub fn with_first_of(self, line: Line<T>) -> (Growing<T>, Line<T>)
         requires { 0 < length line }
         ensures { (address : Ptr) × (e : Element T) × (result.0 ≡ self ++ (address, e) ∷ [])
             × (line ≡ (address, e) ∷ result.1) }
@@ -417,7 +416,7 @@ fn put_back<T>(row: &mut Row<T>, nodes: Row<T>)
 
 /// Makes a line of the one node of a row.
 fn alone<T>(at: Address, row: Row<T>) -> Line<T>
-    requires { (a : Global) × (x : Block T) × (row.blocks ≡ (at.ptr, a, x) ∷ []) }
+    requires { (a : Home) × (x : Block T) × (row.blocks ≡ (at.ptr, a, x) ∷ []) }
     ensures { result ≡ nodes_of row.blocks }
 {
     let mut row = row;

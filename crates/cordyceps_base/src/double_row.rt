@@ -6,14 +6,14 @@ ghost use Rattle.cordyceps_base.specs.DoubleChain.{Segment};
 ghost use Rattle.cordyceps_base.specs.Nodes.{nodes_of};
 ghost use Rattle.cordyceps_base.specs.Spots.{AreNullComparable};
 
+use crate::boxes::homes::Home;
 use crate::boxes::{Address, Boxes, RawBox};
 use crate::list::Links;
 use crate::node::{Block, Node};
-use std::alloc::Global;
 use std::marker::PhantomData;
 
 /// The nodes of a chain, or of a part of one.
-pub(crate) type Row<T> = Boxes<Block<T>, Global>;
+pub(crate) type Row<T> = Boxes<Block<T>, Home>;
 
 /// A part of a chain: its row, and the addresses of its first and its last node. If it has no node, `first` is the
 /// address of the node after it, and `last` of the one before it.
@@ -25,14 +25,10 @@ pub(crate) struct Part<T> {
 
 /// Returns the one node of a row.
 pub(crate) fn node_of<T: Drop>(at: Address, row: Row<T>) -> Node<T, Links<T>>
-    requires { (a : Global) × (x : Block T) × (row.blocks ≡ (at.ptr, a, x) ∷ []) }
+    requires { (a : Home) × (x : Block T) × (row.blocks ≡ (at.ptr, a, x) ∷ []) }
     ensures { nodes_of row.blocks ≡ (at.ptr, result) ∷ [] }
 {
-    let alloc = row.get(at, 0).alloc;
-    Node {
-        block: row.only(at, alloc).into_box(),
-        kind: PhantomData,
-    }
+    Node::from_block(row.only(at, Home).into_box())
 }
 
 /// Makes the last node of a row lead to `next`. Returns the row and the address of its first node, or `next` if it is
@@ -81,17 +77,16 @@ pub(crate) fn preceded_by<T>(
 
 /// Makes a row of one node, and returns its address too.
 pub(crate) fn row_of<T: Drop>(node: Node<T, Links<T>>) -> (Address, Row<T>)
-    ensures one { (a : Global) × (x : Block T) × (result.1.blocks ≡ (result.0.ptr, a, x) ∷ []) }
+    ensures one { (a : Home) × (x : Block T) × (result.1.blocks ≡ (result.0.ptr, a, x) ∷ []) }
     ensures holds { nodes_of result.1.blocks ≡ (result.0.ptr, node) ∷ [] }
 {
-    let Node { block, kind: _ } = node;
-    let (at, _, row) = Boxes::one(RawBox::from_box(block));
+    let (at, _, row) = Boxes::one(RawBox::from_box(node.into_block()));
     (at, row)
 }
 
 /// Links the one node of a row, which is at `at`, between the front part of a chain and the back part.
 pub(crate) fn between<T>(front: Part<T>, at: Address, one: Row<T>, back: Part<T>) -> Part<T>
-    requires one { (a : Global) × (x : Block T) × (one.blocks ≡ (at.ptr, a, x) ∷ []) }
+    requires one { (a : Home) × (x : Block T) × (one.blocks ≡ (at.ptr, a, x) ∷ []) }
     requires front { (q : Ptr) × Segment null_ptr front.first.ptr front.row.blocks front.last.ptr q }
     requires back { (p : Ptr) × Segment p back.first.ptr back.row.blocks back.last.ptr null_ptr }
     requires front_comparable { AreNullComparable (box_addresses front.row.blocks) }
@@ -150,7 +145,7 @@ pub(crate) fn put_in<T: Drop>(row: Row<T>, at: Address, k: usize, node: Node<T, 
         → Segment null_ptr h result.blocks t null_ptr }
 {
     let prev = row.get(at, k).links.prev;
-    let Node { mut block, kind: _ } = node;
+    let mut block = node.into_block();
     block.links.prev = prev;
     block.links.next = at;
     let (new, _, one) = Boxes::one(RawBox::from_box(block));

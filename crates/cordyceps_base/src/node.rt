@@ -3,6 +3,7 @@ ghost use Rattle.std.specs.Prelude.{◌≡◌, IfOk, IfErr};
 ghost use Rattle.std.specs.Borrow.{sem};
 
 use crate::boxes::Address;
+use crate::boxes::homes::Home;
 use std::alloc::Global;
 use std::marker::{Model, PhantomData};
 
@@ -15,6 +16,7 @@ pub trait Kind: Sealed + Drop {}
 
 /// The addresses of a node's neighbours. Lists, and collections with spots, use both. Stacks, sorted lists and batches
 /// use `next` alone, and nodes in a slot use neither.
+#[repr(C)]
 #[derive(Clone, Copy)]
 pub struct BlockLinks {
     pub(crate) next: Address,
@@ -31,11 +33,12 @@ impl BlockLinks {
     }
 }
 
-/// The block of memory of one node. `alloc` frees it.
+/// The block of memory of one node. `heap` frees it, unless its memory is lent.
+#[repr(C)]
 #[derive(Drop)]
 pub struct Block<T> {
     pub(crate) links: BlockLinks,
-    pub(crate) alloc: Global,
+    pub(crate) heap: Global,
     pub(crate) id: u64,
     pub(crate) value: T,
 }
@@ -46,7 +49,7 @@ impl<T> Block<T> {
     {
         let Block {
             links: _,
-            alloc: _,
+            heap: _,
             id: _,
             value,
         } = self;
@@ -72,9 +75,8 @@ impl<T> Block<T> {
 /// // The node is converted into one for lists, which allocates nothing.
 /// waiting.lock(rt).put(mine, job.into_kind())
 /// ```
-#[derive(Drop)]
 pub struct Node<T, L> {
-    pub(crate) block: Box<Block<T>>,
+    pub(crate) block: Box<Block<T>, Home>,
     pub(crate) kind: PhantomData<L>,
 }
 
@@ -93,7 +95,7 @@ pub struct Refused<T> {
     pub value: T,
 }
 
-impl<T, L: Kind> Node<T, L> {
+impl<T: Drop, L: Kind> Node<T, L> {
     /// Creates a node with a number and a value. The number is the caller's choice, and need not differ from others.
     ///
     /// # Errors
@@ -107,15 +109,12 @@ impl<T, L: Kind> Node<T, L> {
     {
         let block = Block {
             links: BlockLinks::unlinked(),
-            alloc,
+            heap: alloc,
             id,
             value,
         };
-        match Box::new(alloc, block) {
-            Ok(block) => Ok(Node {
-                block,
-                kind: PhantomData,
-            }),
+        match Home::boxed(alloc, block) {
+            Ok(block) => Ok(Node::from_block(block)),
             Err(refused) => Err(Refused {
                 value: refused.value.into_value(),
             }),
@@ -125,6 +124,30 @@ impl<T, L: Kind> Node<T, L> {
 
 impl<T, L> Node<T, L> {
     ghost use Rattle.cordyceps_base.specs.NodeLends.{lends_value};
+    ghost use Rattle.cordyceps_base.specs.Nodes.{block_element};
+
+    /// Creates a node from its block, which is of the heap or lent.
+    ///
+    /// # Complexity
+    /// O(1).
+    pub fn from_block(block: Box<Block<T>, Home>) -> Node<T, L>
+        ensures { result ≡ block_element block.value }
+    {
+        let kind = PhantomData;
+        Node { block, kind }
+    }
+
+    /// Returns the node's block, for code that passes nodes on by their addresses. Dropping the block frees no memory;
+    /// `from_block` makes a node of it again.
+    ///
+    /// # Complexity
+    /// O(1).
+    pub fn into_block(self) -> Box<Block<T>, Home>
+        ensures { block_element result.value ≡ self }
+    {
+        let Node { block, kind: _ } = self;
+        block
+    }
 
     /// Returns the number.
     ///
@@ -176,11 +199,7 @@ impl<T, L> Node<T, L> {
     pub fn into_kind<M: Kind>(self) -> Node<T, M>
         ensures { result ≡ self }
     {
-        let Node { block, kind: _ } = self;
-        Node {
-            block,
-            kind: PhantomData,
-        }
+        Node::from_block(self.into_block())
     }
 
     /// Frees the node and returns its value.
@@ -189,13 +208,28 @@ impl<T, L> Node<T, L> {
     /// O(1).
     pub fn into_value(self) -> T
     where
+        T: Drop,
         L: Kind,
         ensures { result ≡ self.value }
     {
-        let Node {
-            block: boxed,
-            kind: _,
-        } = self;
-        Box::into_inner(boxed).into_value()
+        self.freed().into_value()
+    }
+
+    /// Frees the node's memory, unless it is lent, and returns what it had.
+    fn freed(self) -> Block<T>
+    where
+        T: Drop,
+        ensures { block_element result ≡ self }
+    {
+        let block = self.into_block();
+        let heap = block.heap;
+        Home::unboxed(block, heap)
+    }
+}
+
+/// Frees the node's memory, unless it is lent.
+impl<T: Drop, L> Drop for Node<T, L> {
+    fn drop(self) {
+        drop(self.freed());
     }
 }

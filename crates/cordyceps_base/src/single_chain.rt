@@ -6,14 +6,15 @@ ghost use Rattle.cordyceps_base.specs.Element.{Element, values};
 ghost use Rattle.cordyceps_base.specs.Nodes.{elements};
 ghost use Rattle.cordyceps_base.specs.SingleChain.{EndsAt, with_next_of_last, unless_null};
 
+use crate::boxes::homes::Home;
 use crate::boxes::{Address, Boxes, RawBox};
 use crate::node::{Block, Node};
-use std::alloc::{AllocError, Global};
+use std::alloc::AllocError;
 use std::marker::{Model, PhantomData};
 use std::mem;
 
 /// The nodes of a chain, or of a part of one.
-type Row<T> = Boxes<Block<T>, Global>;
+type Row<T> = Boxes<Block<T>, Home>;
 
 /// Returns the address, or null if there is none.
 fn or_nowhere(next: Option<Address>) -> Address
@@ -138,7 +139,7 @@ impl<T, L> SingleChain<T, L> {
         T: Drop,
         ensures { (address : Ptr) × (result ≡ (address, node) ∷ []) }
     {
-        let Node { mut block, kind: _ } = node;
+        let mut block = node.into_block();
         block.links.next = Address::null();
         let (at, _, boxes) = Boxes::one(RawBox::from_box(block));
         SingleChain {
@@ -162,11 +163,7 @@ impl<T, L> SingleChain<T, L> {
             boxes,
             kind: _,
         } = self;
-        let alloc = boxes.get(tail, 0).alloc;
-        Node {
-            block: boxes.only(tail, alloc).into_box(),
-            kind: PhantomData,
-        }
+        Node::from_block(boxes.only(tail, Home).into_box())
     }
 
     /// Returns a reference to the value of the first node, or `None` if the chain is empty.
@@ -298,17 +295,13 @@ impl<T: Drop, L> SingleChain<T, L> {
         } = self;
         let (front, rest) = boxes.cut(1);
         let block = front.get(head, 0);
-        let alloc = block.alloc;
         let others = SingleChain {
             head: block.links.next,
             tail,
             boxes: rest,
             kind: PhantomData,
         };
-        let node = Node {
-            block: front.only(head, alloc).into_box(),
-            kind: PhantomData,
-        };
+        let node = Node::from_block(front.only(head, Home).into_box());
         (node, others)
     }
 }
@@ -522,7 +515,7 @@ impl<T: Drop, L> Cursor<T, L> {
             rest,
             kind: _,
         } = self;
-        let Node { mut block, kind: _ } = node;
+        let mut block = node.into_block();
         let rest = rest.null_comparable();
         block.links.next = or_nowhere(at);
         let (address, _, new) = Boxes::one(RawBox::from_box(block));

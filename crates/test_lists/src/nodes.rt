@@ -23,7 +23,8 @@ fn keeps_its_number_and_value_in_each_kind(rt: HostRuntime) {
     of_list.set_id(5);
     let of_stack: Node<Counted, stack::Links<Counted>> = of_list.into_kind();
     let of_queue: Node<Counted, mpsc_queue::Links<Counted>> = of_stack.into_kind();
-    let again: Node<Counted, list::Links<Counted>> = of_queue.into_kind();
+    let block = of_queue.into_block();
+    let again: Node<Counted, list::Links<Counted>> = Node::from_block(block);
     same(&rt, (again.id(), again.get().value), (5, 8));
     same(&rt, drops.count(), 0);
     same(&rt, again.into_value().value, 8);

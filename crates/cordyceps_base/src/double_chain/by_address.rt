@@ -12,10 +12,10 @@ ghost use Rattle.cordyceps_base.specs.Spots.{index_of, AreDistinct, AreNullCompa
 
 use super::DoubleChain;
 use crate::boxes::Address;
+use crate::boxes::homes::Home;
 use crate::double_row::{Part, Row, between, followed_by, node_of, preceded_by, row_of};
 use crate::list::Links;
 use crate::node::{Block, Node};
-use std::alloc::Global;
 
 impl<T> DoubleChain<T> {
     ghost use Rattle.cordyceps_base.specs.DoubleChainLends.{lends_item};
@@ -86,7 +86,7 @@ impl<T> DoubleChain<T> {
     /// Separates the node at `at` from the others.
     fn separate(self, at: Address) -> (DoubleChain<T>, Row<T>)
         requires { HasSpot self at.ptr }
-        ensures parts { (a : Global) × (x : Block T) × IsTaken self at.ptr (block_element x) result.0
+        ensures parts { (a : Home) × (x : Block T) × IsTaken self at.ptr (block_element x) result.0
             × (result.1.blocks ≡ (at.ptr, a, x) ∷ []) }
         ensures fits { length result.0 + 1 < 2 ^ 64 }
     {
@@ -141,7 +141,7 @@ impl<T> DoubleChain<T> {
         back: Part<T>,
         len: usize,
     ) -> DoubleChain<T>
-        requires one { (a : Global) × (x : Block T) × (one.blocks ≡ (at.ptr, a, x) ∷ []) }
+        requires one { (a : Home) × (x : Block T) × (one.blocks ≡ (at.ptr, a, x) ∷ []) }
         requires front { (q : Ptr) × Segment null_ptr front.first.ptr front.row.blocks front.last.ptr q }
         requires back { (p : Ptr) × Segment p back.first.ptr back.row.blocks back.last.ptr null_ptr }
         requires front_comparable { AreNullComparable (box_addresses front.row.blocks) }
@@ -163,7 +163,7 @@ impl<T> DoubleChain<T> {
     /// Inserts the one node of a row, which is at `new`, before the one at `at`.
     fn with_before(self, at: Address, new: Address, one: Row<T>) -> DoubleChain<T>
         requires there { HasSpot self at.ptr }
-        requires one { (a : Global) × (x : Block T) × (one.blocks ≡ (new.ptr, a, x) ∷ []) }
+        requires one { (a : Home) × (x : Block T) × (one.blocks ≡ (new.ptr, a, x) ∷ []) }
         requires fits { length self + 1 < 2 ^ 64 }
         ensures { (e : Element T) → nodes_of one.blocks ≡ (new.ptr, e) ∷ [] → IsPutBefore self at.ptr new.ptr e result }
     {
@@ -190,7 +190,7 @@ impl<T> DoubleChain<T> {
     /// Inserts the one node of a row, which is at `new`, after the one at `at`.
     fn with_after(self, at: Address, new: Address, one: Row<T>) -> DoubleChain<T>
         requires there { HasSpot self at.ptr }
-        requires one { (a : Global) × (x : Block T) × (one.blocks ≡ (new.ptr, a, x) ∷ []) }
+        requires one { (a : Home) × (x : Block T) × (one.blocks ≡ (new.ptr, a, x) ∷ []) }
         requires fits { length self + 1 < 2 ^ 64 }
         ensures { (e : Element T) → nodes_of one.blocks ≡ (new.ptr, e) ∷ [] → IsPutAfter self at.ptr new.ptr e result }
     {

@@ -24,7 +24,7 @@ returns-clause-holds g c =
     let front = set_value c.cut-front.result.0.blocks (k - 1) (with_next o new) in let back = set_value c.cut-front.result.1.blocks 0 (with_prev p new) in
     let one : OwnedNode _ = (new.ptr, c.one-one.result.1, c.from_box.result.value) in
     let all = c.join-2.ensures ∙ ap (λ l. front ++ l) (c.join.ensures ∙ ap (λ l. l ++ back) c.one-one.ensures) in
-    let node = ap block_element c.from_box.ensures ∙ ap block_element c.deref_mut-2.ensures.value ∙ ap block_element c.deref_mut.ensures.value ∙ c.node.view_is in
+    let node = ap block_element c.from_box.ensures ∙ ap block_element c.deref_mut-2.ensures.value ∙ ap block_element c.deref_mut.ensures.value ∙ c.into_block-block.ensures in
     let before = nodes_of-set c.cut-front.result.0.blocks (k - 1) o (with_next o new) c.get_mut.ensures.value refl refl ∙ ap nodes_of c.cut-front.ensures.0 ∙ nodes_of-take k ns in
     let after = nodes_of-set c.cut-front.result.1.blocks 0 p (with_prev p new) c.get_mut-2.ensures.value refl refl ∙ ap nodes_of c.cut-front.ensures.1 ∙ nodes_of-drop k ns in
     (new.ptr, ap nodes_of all ∙ nodes_of-append front (one ∷ back) ∙ (λ i. before i ++ (new.ptr, node i) ∷ after i))

@@ -7,4 +7,4 @@ of_one-requires g c = (c.one-boxes.result.1, c.from_box.result.value, c.one-boxe
 
 pub returns : goal.returns
 returns g c =
-    let p = c.one-boxes.result.0.ptr in (p, c.of_one.ensures ∙ ap nodes_of c.one-boxes.ensures ∙ (λ i. (p, block_element (c.from_box.ensures i)) ∷ []) ∙ (λ i. (p, c.node.view_is i) ∷ []))
+    let p = c.one-boxes.result.0.ptr in (p, c.of_one.ensures ∙ ap nodes_of c.one-boxes.ensures ∙ (λ i. (p, block_element (c.from_box.ensures i)) ∷ []) ∙ (λ i. (p, c.into_block.ensures i) ∷ []))

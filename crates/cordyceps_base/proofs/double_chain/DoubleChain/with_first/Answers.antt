@@ -37,6 +37,6 @@ returns g c =
     let i = c.self.inside in let ns = i.boxes.blocks in let (at, heap, row) = c.one-new.result in let o = c.get_mut.result.now in let x = c.from_box.result.value in let rest = set_value ns 0 (with_prev o at) in
     let new = linked_one at.ptr heap x i.head c.null.result c.get_mut-2.result.now c.get_mut-3.result.now row.blocks c.one-new.ensures c.get_mut-2.ensures.value c.get_mut-3.ensures.value in
     let all = c.null_comparable.ensures.0 ∙ c.join.ensures ∙ ap (λ l. l ++ rest) new in
-    let node = ap block_element c.from_box.ensures ∙ c.node.view_is in
+    let node = ap block_element c.from_box.ensures ∙ c.into_block.ensures in
     let keep = nodes_of-set ns 0 o (with_prev o at) c.get_mut.ensures.value refl refl ∙ c.self.view_is in
     ap nodes_of all ∙ (λ i. (at.ptr, node i) ∷ keep i)

@@ -41,6 +41,6 @@ returns g c =
     let x = c.from_box.result.value in let w = with_prev (with_next x c.null.result) i.tail in
     let new = linked_one at.ptr heap x c.null.result i.tail c.get_mut-2.result.now c.get_mut-3.result.now row.blocks c.one-new.ensures c.get_mut-2.ensures.value c.get_mut-3.ensures.value in
     let all = c.null_comparable.ensures.0 ∙ c.join.ensures ∙ ap (λ l. front ++ l) new in
-    let node = ap block_element c.from_box.ensures ∙ c.node.view_is in
+    let node = ap block_element c.from_box.ensures ∙ c.into_block.ensures in
     let keep = nodes_of-set ns (i.len - 1) o (with_next o at) c.get_mut.ensures.value refl refl ∙ c.self.view_is in
     ap nodes_of all ∙ nodes_of-append front ((at.ptr, heap, w) ∷ []) ∙ (λ j. keep j ++ (at.ptr, node j) ∷ [])

@@ -7,4 +7,4 @@ alone-requires g c = (c.one-row.result.1, c.from_box.result.value, c.one-row.ens
 
 pub returns : goal.returns
 returns g c =
-    let p = c.one-row.result.0.ptr in c.alone.ensures ∙ ap nodes_of c.one-row.ensures ∙ (λ i. (p, block_element (c.from_box.ensures i)) ∷ []) ∙ (λ i. (p, c.node.view_is i) ∷ [])
+    let p = c.one-row.result.0.ptr in c.alone.ensures ∙ ap nodes_of c.one-row.ensures ∙ (λ i. (p, block_element (c.from_box.ensures i)) ∷ []) ∙ (λ i. (p, c.into_block.ensures i) ∷ [])

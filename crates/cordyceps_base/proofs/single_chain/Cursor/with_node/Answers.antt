@@ -16,7 +16,7 @@ or_nowhere-requires g c = led_somewhere c.self.inside.at c.self.inside.rest.bloc
 pub returns-then-is_none-2 : goal.returns-then-is_none-2
 returns-then-is_none-2 g c =
     let i = c.self.inside in let (new_at, heap, row) = c.one-new.result in let address = new_at.ptr in
-    let node = ap block_element c.from_box.ensures ∙ ap block_element c.deref_mut.ensures.value ∙ c.node.view_is in
+    let node = ap block_element c.from_box.ensures ∙ ap block_element c.deref_mut.ensures.value ∙ c.into_block-block.ensures in
     let new = ap nodes_of c.one-new.ensures ∙ (λ j. (address, node j) ∷ []) in let front = ap (λ v. v.before) c.self.view_is in (
       address,
       ap nodes_of c.join.ensures ∙ (λ j. nodes_of (i.front.blocks ++ c.null_comparable-new.ensures.0 j)) ∙ nodes_of-append i.front.blocks row.blocks ∙ (λ j. front j ++ new j),
@@ -39,7 +39,7 @@ invariant_of-result-2 g c =
 pub returns : goal.returns
 returns g c =
     let i = c.self.inside in let (new_at, heap, row) = c.one-new.result in let address = new_at.ptr in
-    let node = ap block_element c.from_box.ensures ∙ ap block_element c.deref_mut.ensures.value ∙ c.node.view_is in
+    let node = ap block_element c.from_box.ensures ∙ ap block_element c.deref_mut.ensures.value ∙ c.into_block-block.ensures in
     let new = ap nodes_of c.one-new.ensures ∙ (λ j. (address, node j) ∷ []) in
     let front = ap nodes_of c.with_last_link.ensures ∙ nodes_of-with_next_of_last i.front.blocks new_at ∙ ap (λ v. v.before) c.self.view_is in (
       address,

@@ -19,5 +19,5 @@ pub returns : goal.returns
 returns g c =
     let address = c.one-boxes.result.0.ptr in (
       address,
-      ap nodes_of c.null_comparable.ensures.0 ∙ ap nodes_of c.one-boxes.ensures ∙ (λ i. (address, block_element (c.from_box.ensures i)) ∷ []) ∙ (λ i. (address, block_element (c.deref_mut.ensures.value i)) ∷ []) ∙ (λ i. (address, c.node.view_is i) ∷ []),
+      ap nodes_of c.null_comparable.ensures.0 ∙ ap nodes_of c.one-boxes.ensures ∙ (λ i. (address, block_element (c.from_box.ensures i)) ∷ []) ∙ (λ i. (address, block_element (c.deref_mut.ensures.value i)) ∷ []) ∙ (λ i. (address, c.into_block-block.ensures i) ∷ []),
     )

@@ -8,4 +8,4 @@ pub only-requires : goal.only-requires
 only-requires g c =
     let i = c.self.inside in let long = ap length c.self.view_is in
     let first = leads_itself i.head i.boxes.blocks c.self.invariant.led (omega (arith, long, length-nodes_of i.boxes.blocks, c.requires)) in
-    let row = first_row (unless_null i.head) i.boxes.blocks i.head c.get-block.result.now.alloc c.self.invariant.led first in (row.0, c.cut-front.ensures.0 ∙ row.1)
+    let row = first_row (unless_null i.head) i.boxes.blocks i.head (record {}) c.self.invariant.led first in (row.0, c.cut-front.ensures.0 ∙ row.1)

@@ -1,0 +1,79 @@
+-- It frees nothing. Assumes `Logic`.
+use mathlib.Core.Path.{refl}
+use Prim.Native.Nat.{ℕ, ◌<◌, ◌^◌}
+use mathlib.Core.List.{List, [], ◌∷◌}
+use seplogic.Ra.Ura.{Ura}
+use mir.Syntax.{Ty, w64}
+use mir.Val.{Val, vunit, vint, vptr}
+use base.Logic.{SProp, ent}
+use base.Fml.{Lft, Share, ftrue, flft}
+use prog.Memory.{Memory}
+use prog.Routine.{Routine}
+use prog.Wp.{WpFn, Tables}
+use types.Logic.{Logic}
+use types.Kit.{‵, raw, ◌⊛◌, ◌$◌, ◌∵◌, !, qed, move, keep, split, join, fjoin, feq_i, done, suffices}
+use contract.Monad.{Fun}
+use denote.Signature.{Slot, plain, types_at}
+use denote.Triple.Walked.{stay_dropped, Stays, walk_of, ends_at, walked, Goes-dropped, walk_Meets}
+use denote.RattleType.{owns}
+use denote.RawPtr.{Ptr, RawPtr, ptr_val, rawptr_vals, rawptr_Tells}
+use denote.Steps.{nothing}
+use denote.Triple.Spec.{triple_of}
+use contract.Running.{tables, tables_of}
+use sound.WpLaws.{WpFn-mono}
+use types.Run.{unit_lit, of_opd, returns, enter}
+use types.ByLocal.{alloc_all, pass_all, free_all, look_at, sets}
+use denote.Exit.{yes}
+use denote.Builtin.{usize, RefOf}
+use denote.Plain.{uint_vals, uint_Tells}
+use denote.Triple.Clauses.{Clauses}
+use denote.Triple.Table.{entered}
+use denote.Ref.{Bor, shr_vals}
+use Rattle.cordyceps_base.specs.declared.boxes.homes.Home.{Home}
+use Rattle.cordyceps_base.specs.contracts.boxes.homes.Home as L
+use Rattle.cordyceps_base.specs.contracts.boxes.homes.HomeAllocator.deallocate as F
+use Rattle.cordyceps_base.specs.contracts.boxes.homes.HomeAllocator.deallocate.Key as key
+use Rattle.cordyceps_base.proofs.boxes.homes.HomeAllocator.deallocate.Statement as stated
+use Rattle.cordyceps_base.proofs.boxes.homes.HomeAllocator.deallocate.Code as code
+use Rattle.std_alloc.proofs.RcSteps.{Ptr-Good}
+
+abbrev self : Slot 1
+self = RefOf (0 ∷ []) tt (plain (λ _. L.the_row)) (λ _. tt)
+
+abbrev stayed : Stays (F.ended).signature.params (F.ended).kept
+stayed = (stay_dropped self yes, (stay_dropped (plain (λ _. RawPtr)) yes, (stay_dropped (plain (λ _. usize)) yes, (stay_dropped (plain (λ _. usize)) yes, tt))))
+
+module _ {M : Type 1} {𝓤 : Ura M} (𝓛 : Logic 𝓤) (at_mem : Memory → SProp 𝓤) (run : Routine → Fun 𝓤) (𝓣 : Tables 𝓤 𝓛.H) where
+  open 𝓛 use {H}
+
+  abbrev held : Clauses 𝓤 F.ended
+  held = F.clauses 𝓛 at_mem run
+
+  module _ (κ : Lft) (q : Share) (r : Bor Home) (x : Ptr) (n a : ℕ) (τ : Ty) where
+    abbrev bound : (walk_of 𝓛 F.ended stayed held).Ghost
+    bound = (((κ, tt), (q, tt), tt, (r, (x, (n, (a, tt)))), (shr_vals r, (rawptr_vals x, (vint w64 n ∷ [], (vint w64 a ∷ [], tt))))), τ)
+
+    abbrev vs : List Val
+    vs = vptr r.ref_ptr.0 r.ref_ptr.1 ∷ ptr_val x ∷ vint w64 n ∷ vint w64 a ∷ []
+
+    walk : n < 2 ^ 64 → a < 2 ^ 64 → ent 𝓤 ((walk_of 𝓛 F.ended stayed held).pre bound) (WpFn 𝓤 H 𝓣.C 𝓣.Λ code.function vs ((walk_of 𝓛 F.ended stayed held).post bound))
+    walk fn fa =
+        qed 𝓛 (((‵ (flft κ q) ⊛ ‵ ftrue) ⊛ ‵ (owns (types_at (F.ended).signature.params bound.0.0) bound.0.3 bound.0.4)) ∷ raw ((held bound.0.0 bound.0.3).requires τ) ∷ []) ∵
+        split ! $ keep ! (0 ∷ []) $
+        enter ! 𝓣.C 𝓣.Λ code.function vs _ $ alloc_all ! (λ l. pass_all ! refl ((tt, tt), (Ptr-Good x, ((tt, record { fits = fn }), ((tt, record { fits = fa }), tt)))) $
+        sets ! (of_opd ! (unit_lit !)) refl (tt, tt) $
+        returns ! (look_at ! 0 refl) $ free_all ! refl $
+        suffices ! _ (ends_at 𝓛 F.ended stayed held bound vunit tt (tt, (tt, (tt, (tt, tt)))) (tt, (tt, (tt, (tt, tt))))) $
+        nothing ! $ feq_i ! (List Val) (vunit ∷ []) (vunit ∷ []) refl $
+        nothing ! $ nothing ! $ fjoin ! $ nothing ! $ fjoin ! $ nothing ! $ fjoin ! $ nothing ! $ fjoin ! $ join ! $ move ! (2 ∷ []) $ join ! $ done !)
+
+pub deallocate_spec : {M : Type 1} → stated.statement M
+unfolding tables_of
+deallocate_spec 𝓤 𝓛 𝓜 𝓡 wired =
+    let A = 𝓛.A in
+    let 𝓣 : Tables 𝓤 𝓛.H = tables_of 𝓤 𝓛.H 𝓜 (tables 𝓤 𝓛.H 𝓜 𝓡 𝓡.env) in
+    let c = F.clauses 𝓛 𝓜.mem 𝓡.returns in
+    entered 𝓤 𝓛.H (triple_of 𝓛 F.signature (F.spec 𝓛 𝓜.mem 𝓡.returns)) 𝓣.C 𝓣.Λ key.name code.function (code.unfolded 𝓤 𝓛.H 𝓜 𝓡 wired)
+    (walk_Meets 𝓛 F.ended stayed (Goes-dropped 𝓛 1 self yes (λ κs x f. refl), (Goes-dropped 𝓛 1 (plain (λ _. RawPtr)) yes (λ κs x f. refl), (Goes-dropped 𝓛 1 (plain (λ _. usize)) yes (λ κs x f. refl), (Goes-dropped 𝓛 1 (plain (λ _. usize)) yes (λ κs x f. refl), tt)))) c (WpFn 𝓤 𝓛.H 𝓣.C 𝓣.Λ code.function) (WpFn-mono 𝓤 𝓛.H 𝓛.laws 𝓣 code.function)
+    (walked 𝓛 F.ended stayed c (WpFn 𝓤 𝓛.H 𝓣.C 𝓣.Λ code.function) (λ κs. (shr_vals, (rawptr_vals, (uint_vals w64, (uint_vals w64, tt))))) (λ κs. ((λ r vs s. s.0), (rawptr_Tells, (uint_Tells w64, (uint_Tells w64, tt)))))
+    (λ κs qs bounds a τ are. walk 𝓛 𝓜.mem 𝓡.returns 𝓣 κs.0 qs.0 a.0 a.1.0 a.1.1.0 a.1.1.1.0 τ are.1.1.0.1 are.1.1.1.0.1)))
