@@ -3,7 +3,8 @@
  * Each collection is behind a handle, whose memory is the caller's: on the stack, in a struct, or static. A handle
  * is of one collection, or of nothing, and then it is zero. A call on the handle of nothing answers `false` or
  * CORDYCEPS_NOTHING, and changes nothing; so does a `new` on a handle that is of something. Nothing is global, no
- * call waits, and none calls back.
+ * call waits, and none calls back. Structs of the caller's own can be the nodes of lists, queues, inboxes and piles,
+ * which takes no malloc. The calls for this check less: 'Nodes in your own structs' says what they require.
  *
  *     cordyceps_timers timers = {0};
  *     cordyceps_ticket ticket;
@@ -54,9 +55,9 @@ typedef struct {
   uint64_t number;     /* how many tickets it had given then, with this one */
 } cordyceps_ticket;
 
-/* Where an element of a collection is, for the calls whose names end in _unchecked. The caller keeps that the element
- * is still in that collection: nothing checks it, and a stale spot is as bad as a pointer to freed memory. These calls
- * need no ticket and no table. A spot stays the same until the element comes out. */
+/* Where an element of a collection is, for the calls whose names end in _unchecked, and for those on nodes. The caller
+ * keeps that the element is still in that collection: nothing checks it, and a stale spot is as bad as a pointer to
+ * freed memory. These calls need no ticket and no table. A spot stays the same until the element comes out. */
 typedef struct {
   void *at;
 } cordyceps_spot;
@@ -357,6 +358,284 @@ bool cordyceps_pile_give_back(cordyceps_pile *pile);
  * cordyceps_pile_give_back; the handle is not freed. O(n) for n payloads that it took, and for the last handle
  * O(rooms). */
 bool cordyceps_pile_free(cordyceps_pile *pile);
+
+/* ---- Nodes in your own structs
+ *
+ * A struct with a member of the type cordyceps_links is a node, which lists, priority queues, inboxes and piles link
+ * as it is. Only cordyceps_node_list_new and cordyceps_node_queue_new allocate, and a list or a queue in memory of the
+ * caller's needs neither.
+ *
+ *     struct job { int fd; cordyceps_links links; };
+ *     struct job job = {fd, CORDYCEPS_LINKS_INIT};
+ *     cordyceps_node_list_memory memory = CORDYCEPS_NODE_LIST_INIT;
+ *     cordyceps_node_list jobs = {&memory};
+ *     cordyceps_links *first;
+ *     cordyceps_node_list_add_last(&jobs, &job.links);
+ *     while ((first = cordyceps_node_list_take_first(&jobs)))
+ *       run(cordyceps_container(first, struct job, links));
+ *
+ * Besides what the top of this file asks, the caller keeps this. These calls check nothing of it:
+ *
+ * - The links of a node are set from CORDYCEPS_LINKS_INIT before the node first goes into a handle. The caller puts it
+ *   into a handle of nothing by writing the address of its links there, and takes it out by writing NULL or by not
+ *   using the handle again. A node is in one handle or one collection at a time.
+ * - While a node is in a collection, the caller does not read, write, move or free its links. The rest of the struct
+ *   is the caller's all the time. Once the node came out, its links are the caller's too, and can go into any
+ *   collection as they are.
+ * - A handle of a node, a list or a queue is of something where a call gets it, and of nothing, {NULL}, where the call
+ *   has it as `out`.
+ * - A list or a queue in memory of the caller's has one handle, which begins as {&memory}. The memory is set from its
+ *   macro before the first call, and then the caller does not read, write, move or free it, until the list or the queue
+ *   is freed.
+ *
+ * A list or a queue has fewer than SIZE_MAX nodes, as its calls require: more do not fit into memory. */
+
+/* What a collection links a node by. The caller may read and write `value` and `id` while the node is in no
+ * collection. */
+typedef struct cordyceps_links {
+  void *next;
+  void *prev;
+  uint64_t id;    /* the caller's */
+  uint64_t value; /* the key in a queue, the payload in an inbox or a pile, and the caller's in a list */
+  uint64_t home;  /* 1: the memory is the caller's; 0: it is of malloc, and cordyceps_node_free frees it */
+} cordyceps_links;
+
+#define CORDYCEPS_LINKS_INIT {NULL, NULL, 0, 0, 1}
+
+/* A handle of a node, or of nothing: {NULL}. */
+typedef struct {
+  cordyceps_links *at;
+} cordyceps_node;
+
+/* The struct of a type that has these links as its member. `links` is not NULL. In C++ the type has standard layout. */
+#define cordyceps_container(links, type, member) ((type *)(void *)((char *)(links) - offsetof(type, member)))
+
+/* Frees a node that cordyceps_inbox_send or cordyceps_pile_push made. A node in a struct of the caller's is not freed,
+ * and is the caller's again. The handle is of nothing then. O(1), at most one free. */
+void cordyceps_node_free(cordyceps_node *node);
+
+/* ---- Lists of nodes */
+
+/* Memory for a list, as it is before its first call. */
+typedef struct {
+  void *first;
+  void *last;
+  size_t len;
+  uint64_t home; /* as that of links */
+} cordyceps_node_list_memory;
+
+#define CORDYCEPS_NODE_LIST_INIT {NULL, NULL, 0, 1}
+
+/* A handle of a list of nodes: {&memory}, or one that cordyceps_node_list_new made. Or of nothing: {NULL}. */
+typedef struct {
+  void *at;
+} cordyceps_node_list;
+
+/* Makes an empty list in a handle of nothing. false: memory was refused; nothing has changed. O(1), one malloc. */
+bool cordyceps_node_list_new(cordyceps_node_list *out);
+
+/* Frees an empty list, or gives the memory back in which the caller made it. The handle is of nothing then. false: the
+ * list has nodes; nothing has changed. O(1), and one free of a list that cordyceps_node_list_new made. */
+bool cordyceps_node_list_free(cordyceps_node_list *list);
+
+/* How many nodes there are. O(1). */
+size_t cordyceps_node_list_len(cordyceps_node_list *list);
+
+/* Puts a node in first, and writes its spot to *out. The handle of the node is of nothing then. O(1). */
+void cordyceps_node_list_push_front(cordyceps_node_list *list, cordyceps_node *node, cordyceps_spot *out);
+
+/* Puts a node in last, and writes its spot to *out. The handle of the node is of nothing then. O(1). */
+void cordyceps_node_list_push_back(cordyceps_node_list *list, cordyceps_node *node, cordyceps_spot *out);
+
+/* Puts a node in right before the one at `at`, which is in this list, and writes its spot to *out. The handle of the
+ * node is of nothing then. O(1). */
+void cordyceps_node_list_insert_before(
+    cordyceps_node_list *list, cordyceps_spot at, cordyceps_node *node, cordyceps_spot *out);
+
+/* Puts a node in right after the one at `at`, which is in this list, and writes its spot to *out. The handle of the
+ * node is of nothing then. O(1). */
+void cordyceps_node_list_insert_after(
+    cordyceps_node_list *list, cordyceps_spot at, cordyceps_node *node, cordyceps_spot *out);
+
+/* Removes the first node into *out. false: the list is empty, and *out is of nothing. O(1). */
+bool cordyceps_node_list_pop_front(cordyceps_node_list *list, cordyceps_node *out);
+
+/* Removes the last node into *out. false: the list is empty, and *out is of nothing. O(1). */
+bool cordyceps_node_list_pop_back(cordyceps_node_list *list, cordyceps_node *out);
+
+/* Removes the node at `at`, which is in this list, into *out. O(1). */
+void cordyceps_node_list_remove(cordyceps_node_list *list, cordyceps_spot at, cordyceps_node *out);
+
+/* Writes the spot of the first node to *out. false: the list is empty; *out is unchanged. O(1). */
+bool cordyceps_node_list_front(cordyceps_node_list *list, cordyceps_spot *out);
+
+/* Writes the spot of the last node to *out. false: the list is empty; *out is unchanged. O(1). */
+bool cordyceps_node_list_back(cordyceps_node_list *list, cordyceps_spot *out);
+
+/* Writes the spot of the node after the one at `at`, which is in this list, to *out. false: that is the last; *out is
+ * unchanged. O(1). */
+bool cordyceps_node_list_next(cordyceps_node_list *list, cordyceps_spot at, cordyceps_spot *out);
+
+/* Writes the spot of the node before the one at `at`, which is in this list, to *out. false: that is the first; *out is
+ * unchanged. O(1). */
+bool cordyceps_node_list_prev(cordyceps_node_list *list, cordyceps_spot at, cordyceps_spot *out);
+
+/* Moves the node at `at`, which is in this list, to the front. It keeps its spot, and the others their order. O(1). */
+void cordyceps_node_list_move_to_front(cordyceps_node_list *list, cordyceps_spot at);
+
+/* Moves the node at `at`, which is in this list, to the back. It keeps its spot, and the others their order. O(1). */
+void cordyceps_node_list_move_to_back(cordyceps_node_list *list, cordyceps_spot at);
+
+/* ---- Priority queues of nodes */
+
+/* Memory for a queue, as it is before its first call. */
+typedef struct {
+  uint64_t lines[64];
+  uint64_t others[10];
+  uint64_t home; /* as that of links */
+} cordyceps_node_queue_memory;
+
+#define CORDYCEPS_NODE_QUEUE_INIT {{0}, {1}, 1}
+
+/* A handle of a queue of nodes: {&memory}, or one that cordyceps_node_queue_new made. Or of nothing: {NULL}. The node
+ * of the least value comes out first, and of equal values the one pushed first. */
+typedef struct {
+  void *at;
+} cordyceps_node_queue;
+
+/* Makes an empty queue in a handle of nothing. false: memory was refused; nothing has changed. O(1), one malloc. */
+bool cordyceps_node_queue_new(cordyceps_node_queue *out);
+
+/* Frees an empty queue, or gives the memory back in which the caller made it. The handle is of nothing then. false: the
+ * queue has nodes; nothing has changed. O(1), and one free of a queue that cordyceps_node_queue_new made. */
+bool cordyceps_node_queue_free(cordyceps_node_queue *queue);
+
+/* How many nodes there are. O(1). */
+size_t cordyceps_node_queue_len(cordyceps_node_queue *queue);
+
+/* Inserts a node after all whose values are not greater, and writes its spot to *out. The handle of the node is of
+ * nothing then. O(1). */
+void cordyceps_node_queue_push(cordyceps_node_queue *queue, cordyceps_node *node, cordyceps_spot *out);
+
+/* Removes the first node into *out. false: the queue is empty, and *out is of nothing. O(log n) amortized, for n nodes
+ * that were pushed. */
+bool cordyceps_node_queue_pop(cordyceps_node_queue *queue, cordyceps_node *out);
+
+/* Removes the first node into *out, if its value is at most `most`. false: it is greater, or the queue is empty; the
+ * queue has the same nodes, and *out is of nothing. O(log n) amortized, as cordyceps_node_queue_pop. */
+bool cordyceps_node_queue_pop_until(cordyceps_node_queue *queue, uint64_t most, cordyceps_node *out);
+
+/* Copies the value of the first node to *out. false: the queue is empty; *out is unchanged. O(log n) amortized, as
+ * cordyceps_node_queue_pop. */
+bool cordyceps_node_queue_first(cordyceps_node_queue *queue, uint64_t *out);
+
+/* Removes the node at `at`, which is in this queue, into *out. O(1). */
+void cordyceps_node_queue_remove(cordyceps_node_queue *queue, cordyceps_spot at, cordyceps_node *out);
+
+/* Gives another value to the node at `at`, which is in this queue, as if it were pushed now. It keeps its spot.
+ * O(1). */
+void cordyceps_node_queue_change(cordyceps_node_queue *queue, cordyceps_spot at, uint64_t value);
+
+/* ---- Nodes in inboxes and piles
+ *
+ * An inbox or a pile links the caller's nodes beside those that cordyceps_inbox_send and cordyceps_pile_push make. Each
+ * node comes out by either call: cordyceps_inbox_receive and cordyceps_pile_pop copy the value and free a node that was
+ * made, and the caller's own is the caller's again then. So are those that are in an inbox or a pile as it is freed. */
+
+/* Sends a node: CORDYCEPS_DONE, and the handle of the node is of nothing. CORDYCEPS_FULL, CORDYCEPS_NOTHING, as
+ * cordyceps_inbox_send: the node is still in its handle. O(1). */
+uint32_t cordyceps_inbox_send_node(cordyceps_inbox *inbox, cordyceps_node *node);
+
+/* Receives the next node into *out: CORDYCEPS_DONE. Else as cordyceps_inbox_receive: *out is of nothing. O(1). */
+uint32_t cordyceps_inbox_receive_node(cordyceps_inbox *inbox, cordyceps_node *out);
+
+/* Tries once to push a node: CORDYCEPS_DONE, and the handle of the node is of nothing. CORDYCEPS_FULL, CORDYCEPS_BUSY,
+ * CORDYCEPS_NOTHING, as cordyceps_pile_push: the node is still in its handle. O(1). */
+uint32_t cordyceps_pile_push_node(cordyceps_pile *pile, cordyceps_node *node);
+
+/* Hands out the next node into *out, as cordyceps_pile_pop its payload. false: there was none, or the handle of the
+ * pile is of nothing; *out is of nothing. O(1), or O(n) where it takes n nodes. */
+bool cordyceps_pile_pop_node(cordyceps_pile *pile, cordyceps_node *out);
+
+/* ---- The same by the addresses of links
+ *
+ * These make the handles of nodes for the calls above. */
+
+/* Puts a node in first, and returns its spot. */
+static inline cordyceps_spot cordyceps_node_list_add_first(cordyceps_node_list *list, cordyceps_links *links) {
+  cordyceps_node node = {links};
+  cordyceps_spot spot = {NULL};
+  cordyceps_node_list_push_front(list, &node, &spot);
+  return spot;
+}
+
+/* Puts a node in last, and returns its spot. */
+static inline cordyceps_spot cordyceps_node_list_add_last(cordyceps_node_list *list, cordyceps_links *links) {
+  cordyceps_node node = {links};
+  cordyceps_spot spot = {NULL};
+  cordyceps_node_list_push_back(list, &node, &spot);
+  return spot;
+}
+
+/* Removes the first node, and returns its links; NULL: the list is empty. */
+static inline cordyceps_links *cordyceps_node_list_take_first(cordyceps_node_list *list) {
+  cordyceps_node node = {NULL};
+  cordyceps_node_list_pop_front(list, &node);
+  return node.at;
+}
+
+/* Removes the last node, and returns its links; NULL: the list is empty. */
+static inline cordyceps_links *cordyceps_node_list_take_last(cordyceps_node_list *list) {
+  cordyceps_node node = {NULL};
+  cordyceps_node_list_pop_back(list, &node);
+  return node.at;
+}
+
+/* Removes the node at `at`, which is in this list, and returns its links. */
+static inline cordyceps_links *cordyceps_node_list_take_at(cordyceps_node_list *list, cordyceps_spot at) {
+  cordyceps_node node = {NULL};
+  cordyceps_node_list_remove(list, at, &node);
+  return node.at;
+}
+
+/* Inserts a node by a value, which it gets, and returns its spot. */
+static inline cordyceps_spot cordyceps_node_queue_add(
+    cordyceps_node_queue *queue, cordyceps_links *links, uint64_t value) {
+  cordyceps_node node = {links};
+  cordyceps_spot spot = {NULL};
+  links->value = value;
+  cordyceps_node_queue_push(queue, &node, &spot);
+  return spot;
+}
+
+/* Removes the first node, and returns its links; NULL: the queue is empty. */
+static inline cordyceps_links *cordyceps_node_queue_take_first(cordyceps_node_queue *queue) {
+  cordyceps_node node = {NULL};
+  cordyceps_node_queue_pop(queue, &node);
+  return node.at;
+}
+
+/* Removes the first node, if its value is at most `most`, and returns its links; NULL: there is no such node. */
+static inline cordyceps_links *cordyceps_node_queue_take_until(cordyceps_node_queue *queue, uint64_t most) {
+  cordyceps_node node = {NULL};
+  cordyceps_node_queue_pop_until(queue, most, &node);
+  return node.at;
+}
+
+/* Removes the node at `at`, which is in this queue, and returns its links. */
+static inline cordyceps_links *cordyceps_node_queue_take_at(cordyceps_node_queue *queue, cordyceps_spot at) {
+  cordyceps_node node = {NULL};
+  cordyceps_node_queue_remove(queue, at, &node);
+  return node.at;
+}
+
+/* The spot of a node that is in a list or a queue: the address of its links. So cordyceps_container takes the `at` of a
+ * spot too, and a walk of a list reaches the structs of its nodes. Tests see this of each node that they put in, and no
+ * contract says it: a program that is to rest on contracts alone keeps the spots that the calls write. */
+static inline cordyceps_spot cordyceps_spot_of(cordyceps_links *links) {
+  cordyceps_spot spot = {links};
+  return spot;
+}
 
 #ifdef __cplusplus
 }

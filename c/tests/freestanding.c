@@ -1,45 +1,8 @@
 /* Without a C library: this program starts by itself, and its malloc takes blocks of a pool. When the pool is used up,
  * each call answers so; when there are blocks again, each one works; and when all is freed, the pool is whole. */
-#include "cordyceps.h"
+#include "bare.h"
 
-#define CHECK(what) ends_unless(what, "freestanding.c: not so: " #what "\n")
-
-enum { EXIT = 60, WRITE = 1, UNITS = 1024, ROOMS = 16 };
-
-void *malloc(size_t size);
-void *realloc(void *block, size_t size);
-void free(void *block);
-void *memset(void *to, int byte, size_t len);
-void *memcpy(void *to, const void *from, size_t len);
-
-/* A call of the system, on x86-64. */
-static long system_call(long number, long a, const void *b, size_t c) {
-  long answer;
-  __asm__ volatile("syscall" : "=a"(answer) : "a"(number), "D"(a), "S"(b), "d"(c) : "rcx", "r11", "memory");
-  return answer;
-}
-
-static void ends_unless(bool is_so, const char *otherwise) {
-  size_t len = 0;
-  if (is_so)
-    return;
-  while (otherwise[len])
-    len++;
-  system_call(WRITE, 2, otherwise, len);
-  system_call(EXIT, 1, NULL, 0);
-}
-
-void *memset(void *to, int byte, size_t len) {
-  void *at = to;
-  __asm__ volatile("rep stosb" : "+D"(at), "+c"(len) : "a"(byte) : "memory");
-  return to;
-}
-
-void *memcpy(void *to, const void *from, size_t len) {
-  void *at = to;
-  __asm__ volatile("rep movsb" : "+D"(at), "+S"(from), "+c"(len) : : "memory");
-  return to;
-}
+enum { UNITS = 1024, ROOMS = 16 };
 
 /* The pool is blocks, one after the other. The first unit of each says how many units it has. */
 union unit {
@@ -165,8 +128,7 @@ static void drain(struct all *it) {
   }
 }
 
-/* Called at the start, with a stack that is aligned as for each call. */
-__attribute__((used)) static void run(void) {
+static void run(void) {
   struct all all = {{0}, {0}, {0}, {0}};
   cordyceps_ticket ticket;
   uint64_t started = 0;
@@ -188,5 +150,3 @@ __attribute__((used)) static void run(void) {
   CHECK(is_pool_whole());
   system_call(EXIT, 0, NULL, 0);
 }
-
-__asm__(".globl _start\n_start:\n  xor %ebp, %ebp\n  and $-16, %rsp\n  call run\n  hlt\n");

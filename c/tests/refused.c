@@ -161,11 +161,43 @@ static void pile_refused(void) {
   CHECK(cordyceps_pile_free(&pile) && was_granted());
 }
 
+/* Lists and queues of nodes are one block each, and what is done with nodes asks for nothing. */
+static void nodes_refused(void) {
+  cordyceps_node_list list = {NULL};
+  cordyceps_node_queue queue = {NULL};
+  cordyceps_inbox inbox = {0};
+  cordyceps_pile pile = {0};
+  cordyceps_links links = CORDYCEPS_LINKS_INIT;
+  cordyceps_node node = {&links};
+  cordyceps_spot spot;
+  refuse(0);
+  CHECK(!cordyceps_node_list_new(&list) && !list.at && !was_granted());
+  refuse(0);
+  CHECK(!cordyceps_node_queue_new(&queue) && !queue.at && !was_granted());
+  refuse(1);
+  CHECK(cordyceps_node_list_new(&list) && was_granted());
+  refuse(1);
+  CHECK(cordyceps_node_queue_new(&queue) && was_granted());
+  CHECK(cordyceps_inbox_new(1, &inbox) && cordyceps_pile_new(1, &pile));
+  refuse(0);
+  cordyceps_node_list_push_back(&list, &node, &spot);
+  CHECK(cordyceps_node_list_pop_front(&list, &node) && node.at == &links);
+  cordyceps_node_queue_push(&queue, &node, &spot);
+  CHECK(cordyceps_node_queue_pop(&queue, &node) && node.at == &links);
+  CHECK(cordyceps_inbox_send_node(&inbox, &node) == CORDYCEPS_DONE && !node.at);
+  CHECK(cordyceps_inbox_receive_node(&inbox, &node) == CORDYCEPS_DONE && node.at == &links);
+  CHECK(cordyceps_pile_push_node(&pile, &node) == CORDYCEPS_DONE && !node.at);
+  CHECK(cordyceps_pile_pop_node(&pile, &node) && node.at == &links);
+  CHECK(cordyceps_node_list_free(&list) && cordyceps_node_queue_free(&queue));
+  CHECK(cordyceps_inbox_free(&inbox) && cordyceps_pile_free(&pile) && was_granted());
+}
+
 int main(void) {
   timers_refused();
   queue_refused();
   list_refused();
   inbox_refused();
   pile_refused();
+  nodes_refused();
   return 0;
 }

@@ -1,5 +1,5 @@
 //! The static library as `c/cordyceps.h` declares it, to which `tools/documents` holds this file. The safe types use no
-//! call whose name ends in `_unchecked`.
+//! call whose name ends in `_unchecked`, and none on nodes.
 #![allow(dead_code, non_camel_case_types)]
 
 use std::os::raw::c_void;
@@ -65,6 +65,45 @@ pub struct cordyceps_pile {
     pub at: *mut c_void,
 }
 
+#[repr(C)]
+pub struct cordyceps_links {
+    pub next: *mut c_void,
+    pub prev: *mut c_void,
+    pub id: u64,
+    pub value: u64,
+    pub home: u64,
+}
+
+#[repr(C)]
+pub struct cordyceps_node {
+    pub at: *mut cordyceps_links,
+}
+
+#[repr(C)]
+pub struct cordyceps_node_list_memory {
+    pub first: *mut c_void,
+    pub last: *mut c_void,
+    pub len: usize,
+    pub home: u64,
+}
+
+#[repr(C)]
+pub struct cordyceps_node_list {
+    pub at: *mut c_void,
+}
+
+#[repr(C)]
+pub struct cordyceps_node_queue_memory {
+    pub lines: [u64; 64],
+    pub others: [u64; 10],
+    pub home: u64,
+}
+
+#[repr(C)]
+pub struct cordyceps_node_queue {
+    pub at: *mut c_void,
+}
+
 #[rustfmt::skip]
 extern "C" {
     pub fn cordyceps_timers_new(collection: u32, out: *mut cordyceps_timers) -> bool;
@@ -125,4 +164,38 @@ extern "C" {
     pub fn cordyceps_pile_absorb(pile: *mut cordyceps_pile, other: *mut cordyceps_pile) -> bool;
     pub fn cordyceps_pile_give_back(pile: *mut cordyceps_pile) -> bool;
     pub fn cordyceps_pile_free(pile: *mut cordyceps_pile) -> bool;
+
+    pub fn cordyceps_node_free(node: *mut cordyceps_node);
+
+    pub fn cordyceps_node_list_new(out: *mut cordyceps_node_list) -> bool;
+    pub fn cordyceps_node_list_free(list: *mut cordyceps_node_list) -> bool;
+    pub fn cordyceps_node_list_len(list: *mut cordyceps_node_list) -> usize;
+    pub fn cordyceps_node_list_push_front(list: *mut cordyceps_node_list, node: *mut cordyceps_node, out: *mut cordyceps_spot);
+    pub fn cordyceps_node_list_push_back(list: *mut cordyceps_node_list, node: *mut cordyceps_node, out: *mut cordyceps_spot);
+    pub fn cordyceps_node_list_insert_before(list: *mut cordyceps_node_list, at: cordyceps_spot, node: *mut cordyceps_node, out: *mut cordyceps_spot);
+    pub fn cordyceps_node_list_insert_after(list: *mut cordyceps_node_list, at: cordyceps_spot, node: *mut cordyceps_node, out: *mut cordyceps_spot);
+    pub fn cordyceps_node_list_pop_front(list: *mut cordyceps_node_list, out: *mut cordyceps_node) -> bool;
+    pub fn cordyceps_node_list_pop_back(list: *mut cordyceps_node_list, out: *mut cordyceps_node) -> bool;
+    pub fn cordyceps_node_list_remove(list: *mut cordyceps_node_list, at: cordyceps_spot, out: *mut cordyceps_node);
+    pub fn cordyceps_node_list_front(list: *mut cordyceps_node_list, out: *mut cordyceps_spot) -> bool;
+    pub fn cordyceps_node_list_back(list: *mut cordyceps_node_list, out: *mut cordyceps_spot) -> bool;
+    pub fn cordyceps_node_list_next(list: *mut cordyceps_node_list, at: cordyceps_spot, out: *mut cordyceps_spot) -> bool;
+    pub fn cordyceps_node_list_prev(list: *mut cordyceps_node_list, at: cordyceps_spot, out: *mut cordyceps_spot) -> bool;
+    pub fn cordyceps_node_list_move_to_front(list: *mut cordyceps_node_list, at: cordyceps_spot);
+    pub fn cordyceps_node_list_move_to_back(list: *mut cordyceps_node_list, at: cordyceps_spot);
+
+    pub fn cordyceps_node_queue_new(out: *mut cordyceps_node_queue) -> bool;
+    pub fn cordyceps_node_queue_free(queue: *mut cordyceps_node_queue) -> bool;
+    pub fn cordyceps_node_queue_len(queue: *mut cordyceps_node_queue) -> usize;
+    pub fn cordyceps_node_queue_push(queue: *mut cordyceps_node_queue, node: *mut cordyceps_node, out: *mut cordyceps_spot);
+    pub fn cordyceps_node_queue_pop(queue: *mut cordyceps_node_queue, out: *mut cordyceps_node) -> bool;
+    pub fn cordyceps_node_queue_pop_until(queue: *mut cordyceps_node_queue, most: u64, out: *mut cordyceps_node) -> bool;
+    pub fn cordyceps_node_queue_first(queue: *mut cordyceps_node_queue, out: *mut u64) -> bool;
+    pub fn cordyceps_node_queue_remove(queue: *mut cordyceps_node_queue, at: cordyceps_spot, out: *mut cordyceps_node);
+    pub fn cordyceps_node_queue_change(queue: *mut cordyceps_node_queue, at: cordyceps_spot, value: u64);
+
+    pub fn cordyceps_inbox_send_node(inbox: *mut cordyceps_inbox, node: *mut cordyceps_node) -> u32;
+    pub fn cordyceps_inbox_receive_node(inbox: *mut cordyceps_inbox, out: *mut cordyceps_node) -> u32;
+    pub fn cordyceps_pile_push_node(pile: *mut cordyceps_pile, node: *mut cordyceps_node) -> u32;
+    pub fn cordyceps_pile_pop_node(pile: *mut cordyceps_pile, out: *mut cordyceps_node) -> bool;
 }

@@ -5,14 +5,17 @@ ghost use Rattle.cordyceps.specs.Parties.Shares.{whole};
 ghost use Rattle.cordyceps.specs.QueueCores.{TryDequeueError};
 ghost use Rattle.cordyceps.specs.Queues.Calls.{Dequeues, IsCertain};
 ghost use Rattle.cordyceps_c_shared.specs.Inboxes.{IsNew, SplitsOff, TakesOver, KeepsOrRejoins, TriesToSend};
+ghost use Rattle.cordyceps_c_shared.specs.Inboxes.{HoldsTried, SendsNode, letter_of};
 ghost use Rattle.cordyceps_c_shared.specs.Inboxes.{GivesRooms};
 ghost use Rattle.cordyceps_c_shared.specs.Inboxes.{number_of_sent, number_of_try, payload_after};
 ghost use Rattle.cordyceps_c_shared.specs.declared.inbox.Inbox.{Inbox};
-ghost use Rattle.cordyceps_c_shared.specs.declared.inbox.Message.{Message};
+ghost use Rattle.cordyceps_c_base.specs.declared.carried.Carried.{Carried};
+ghost use Rattle.cordyceps_c_base.specs.Elements.{HoldsElement, HoldsNode};
 ghost use Rattle.cordyceps_c_shared.specs.declared.inbox.Sent.{Sent};
 
 use cordyceps::mpsc_queue::MAX_ROOMS;
-use cordyceps_c_shared::answers::{DONE, NOTHING, number_of};
+use cordyceps_c_base::node_handle::NodeHandle;
+use cordyceps_c_shared::answers::{DONE, FULL, NOTHING, number_of};
 use cordyceps_c_shared::inbox::Inbox;
 use cordyceps_c_shared::inbox_handle::InboxHandle;
 use std::alloc::{AllocFailed, Global};
@@ -100,7 +103,7 @@ pub extern "C" fn cordyceps_inbox_send(alloc: Global, inbox: &mut InboxHandle, p
     ensures { MatchOption inbox.old.held
         ((result ≡ NOTHING) × (inbox.new.held ≡ None))
         (λ i. (j : Inbox) × (sent : Sent) × (inbox.new.held ≡ Some j) × (result ≡ number_of_sent sent)
-        × TriesToSend payload sent i j) }
+        × TriesToSend (letter_of payload) sent i j) }
 {
     let Some(mut held) = inbox.take(alloc) else {
         return NOTHING;
@@ -124,7 +127,7 @@ pub extern "C" fn cordyceps_inbox_receive(
 ) -> u32
     ensures { MatchOption inbox.old.held
         ((result ≡ NOTHING) × (inbox.new.held ≡ None) × (out.new ≡ out.old))
-        (λ i. (j : Inbox) × (tried : Result (Element Message) TryDequeueError)
+        (λ i. (j : Inbox) × (tried : Result (Element Carried) TryDequeueError)
         × (inbox.new.held ≡ Some j) × (j.queue ≡ i.queue)
         × (result ≡ number_of_try tried) × (out.new ≡ payload_after out.old tried)
         × Dequeues tried i.party j.party × (i.party.share ≡ whole → IsCertain tried)) }
@@ -136,7 +139,72 @@ pub extern "C" fn cordyceps_inbox_receive(
     inbox.put(held);
     match tried {
         Ok(letter) => {
-            *out = letter.into_value().payload;
+            *out = letter.into_value().value;
+            DONE
+        }
+        Err(why) => number_of(why),
+    }
+}
+
+/// Sends a node of the caller's own and returns `DONE`; the handle of the node is of nothing then. Returns `FULL` if
+/// the handle has no room and the pool has none, and `NOTHING` if the handle of the inbox is of nothing; the node stays
+/// in its handle then, and the queue is unchanged.
+///
+/// # Complexity
+/// O(1). Allocates nothing.
+#[unsafe(no_mangle)]
+pub extern "C" fn cordyceps_inbox_send_node(
+    alloc: Global,
+    inbox: &mut InboxHandle,
+    node: &mut NodeHandle,
+) -> u32
+    requires { HoldsNode node.old.held }
+    ensures { MatchOption inbox.old.held
+        ((result ≡ NOTHING) × (inbox.new.held ≡ None) × (node.new.held ≡ node.old.held))
+        (λ i. (j : Inbox) × (e : Element Carried) × (inbox.new.held ≡ Some j) × HoldsElement node.old.held e
+        × SendsNode e result node.new.held i j) }
+{
+    let Some(mut held) = inbox.take(alloc) else {
+        return NOTHING;
+    };
+    let sent = held.send_node(node.take_node());
+    inbox.put(held);
+    match sent {
+        Ok(()) => DONE,
+        Err(letter) => {
+            node.put_node(letter);
+            FULL
+        }
+    }
+}
+
+/// Tries once to receive as `cordyceps_inbox_receive` does, and writes the node to `*out`, which is of nothing before.
+/// It may be one that `cordyceps_inbox_send` made, which `cordyceps_node_free` frees.
+///
+/// # Complexity
+/// O(1).
+#[unsafe(no_mangle)]
+pub extern "C" fn cordyceps_inbox_receive_node(
+    alloc: Global,
+    inbox: &mut InboxHandle,
+    out: &mut NodeHandle,
+) -> u32
+    requires { out.old.held ≡ None }
+    ensures { MatchOption inbox.old.held
+        ((result ≡ NOTHING) × (inbox.new.held ≡ None) × (out.new.held ≡ None))
+        (λ i. (j : Inbox) × (tried : Result (Element Carried) TryDequeueError)
+        × (inbox.new.held ≡ Some j) × (j.queue ≡ i.queue)
+        × (result ≡ number_of_try tried) × HoldsTried out.new.held tried
+        × Dequeues tried i.party j.party × (i.party.share ≡ whole → IsCertain tried)) }
+{
+    let Some(mut held) = inbox.take(alloc) else {
+        return NOTHING;
+    };
+    let tried = held.receive();
+    inbox.put(held);
+    match tried {
+        Ok(letter) => {
+            out.put_node(letter);
             DONE
         }
         Err(why) => number_of(why),

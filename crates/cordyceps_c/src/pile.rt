@@ -2,14 +2,18 @@
 ghost use Rattle.std.specs.Prelude.{◌≡◌, ◌≢◌, [], true, false, Option, Some, None, MatchBool, MatchOption, is_some};
 ghost use Rattle.cordyceps.specs.Elements.Element.{Element};
 ghost use Rattle.cordyceps_c_shared.specs.Piles.{IsNew, SplitsOff, TakesOver, KeepsOrRejoins, TriesToPush, Pops};
-ghost use Rattle.cordyceps_c_shared.specs.Piles.{GivesRooms};
+ghost use Rattle.cordyceps_c_shared.specs.Piles.{GivesRooms, HoldsPopped, HoldsUnless};
+ghost use Rattle.cordyceps_c_shared.specs.Inboxes.{letter_of};
 ghost use Rattle.cordyceps_c_shared.specs.Piles.{number_of_pushed, payload_after};
-ghost use Rattle.cordyceps_c_shared.specs.declared.inbox.Message.{Message};
+ghost use Rattle.cordyceps_c_base.specs.declared.carried.Carried.{Carried};
+ghost use Rattle.cordyceps_c_base.specs.Elements.{HoldsElement, HoldsNode};
 ghost use Rattle.cordyceps_c_shared.specs.declared.pile.Pile.{Pile};
 ghost use Rattle.cordyceps_c_shared.specs.declared.pile.Pushed.{Pushed};
+ghost use Rattle.cordyceps_c_shared.specs.declared.pile.Pushed.TheVariants.{NoMemory};
 
-use cordyceps::stack::MAX_ROOMS;
-use cordyceps_c_shared::answers::NOTHING;
+use cordyceps::stack::{MAX_ROOMS, TryPushError};
+use cordyceps_c_base::node_handle::NodeHandle;
+use cordyceps_c_shared::answers::{BUSY, DONE, FULL, NOTHING};
 use cordyceps_c_shared::pile::Pile;
 use cordyceps_c_shared::pile_handle::PileHandle;
 use std::alloc::{AllocFailed, Global};
@@ -98,7 +102,7 @@ pub extern "C" fn cordyceps_pile_push(alloc: Global, pile: &mut PileHandle, payl
     ensures { MatchOption pile.old.held
         ((result ≡ NOTHING) × (pile.new.held ≡ None))
         (λ i. (j : Pile) × (pushed : Pushed) × (pile.new.held ≡ Some j) × (result ≡ number_of_pushed pushed)
-        × TriesToPush payload pushed i j) }
+        × TriesToPush (letter_of payload) pushed i j) }
 {
     let Some(mut held) = pile.take(alloc) else {
         return NOTHING;
@@ -118,7 +122,7 @@ pub extern "C" fn cordyceps_pile_push(alloc: Global, pile: &mut PileHandle, payl
 pub extern "C" fn cordyceps_pile_pop(alloc: Global, pile: &mut PileHandle, out: &mut u64) -> bool
     ensures { MatchOption pile.old.held
         ((result ≡ false) × (pile.new.held ≡ None) × (out.new ≡ out.old))
-        (λ i. (j : Pile) × (popped : Option (Element Message)) × (pile.new.held ≡ Some j)
+        (λ i. (j : Pile) × (popped : Option (Element Carried)) × (pile.new.held ≡ Some j)
         × (result ≡ is_some popped) × (out.new ≡ payload_after out.old popped) × Pops popped i j) }
 {
     let Some(mut held) = pile.take(alloc) else {
@@ -128,11 +132,72 @@ pub extern "C" fn cordyceps_pile_pop(alloc: Global, pile: &mut PileHandle, out: 
     pile.put(held);
     match popped {
         Some(sheet) => {
-            *out = sheet.into_value().payload;
+            *out = sheet.into_value().value;
             true
         }
         None => false,
     }
+}
+
+/// Tries once to push a node of the caller's own and returns `DONE`; the handle of the node is of nothing then. Returns
+/// `FULL`, `BUSY` and `NOTHING` where `cordyceps_pile_push` does; the node stays in its handle then.
+///
+/// # Complexity
+/// O(1). Allocates nothing.
+#[unsafe(no_mangle)]
+pub extern "C" fn cordyceps_pile_push_node(
+    alloc: Global,
+    pile: &mut PileHandle,
+    node: &mut NodeHandle,
+) -> u32
+    requires { HoldsNode node.old.held }
+    ensures { MatchOption pile.old.held
+        ((result ≡ NOTHING) × (pile.new.held ≡ None) × (node.new.held ≡ node.old.held))
+        (λ i. (j : Pile) × (e : Element Carried) × (pushed : Pushed) × (pushed ≢ NoMemory) × (pile.new.held ≡ Some j)
+        × HoldsElement node.old.held e × (result ≡ number_of_pushed pushed)
+        × HoldsUnless pushed e node.new.held × TriesToPush e pushed i j) }
+{
+    let Some(mut held) = pile.take(alloc) else {
+        return NOTHING;
+    };
+    let pushed = held.push_node(node.take_node());
+    pile.put(held);
+    match pushed {
+        Ok(_) => DONE,
+        Err(TryPushError::Full(sheet)) => {
+            node.put_node(sheet);
+            FULL
+        }
+        Err(TryPushError::Contended(sheet)) => {
+            node.put_node(sheet);
+            BUSY
+        }
+    }
+}
+
+/// Hands out the next node as `cordyceps_pile_pop` does its payload, into `*out`, which is of nothing before. It may be
+/// one that `cordyceps_pile_push` made, which `cordyceps_node_free` frees.
+///
+/// # Complexity
+/// O(1), or O(n) if it takes n nodes.
+#[unsafe(no_mangle)]
+pub extern "C" fn cordyceps_pile_pop_node(
+    alloc: Global,
+    pile: &mut PileHandle,
+    out: &mut NodeHandle,
+) -> bool
+    requires { out.old.held ≡ None }
+    ensures { MatchOption pile.old.held
+        ((result ≡ false) × (pile.new.held ≡ None) × (out.new.held ≡ None))
+        (λ i. (j : Pile) × (popped : Option (Element Carried)) × (pile.new.held ≡ Some j)
+        × (result ≡ is_some popped) × HoldsPopped out.new.held popped × Pops popped i j) }
+{
+    let Some(mut held) = pile.take(alloc) else {
+        return false;
+    };
+    let popped = held.pop();
+    pile.put(held);
+    out.put_found(popped)
 }
 
 /// Takes over the rooms of `other`, which is of the same pile, frees that handle, which is of nothing then, and returns

@@ -1,4 +1,6 @@
 pub mod Answering
 pub mod Fitting
 pub mod Held
+pub mod NodeHandles
+pub mod NodesOut
 pub mod Values

@@ -2,3 +2,4 @@ mod Keeping
 mod ListHandles
 mod ListSent
 mod Naming
+mod NodeListHandles

@@ -3,3 +3,4 @@
 
 pub mod list;
 pub mod list_handle;
+pub mod node_list_handle;

@@ -1,5 +1,5 @@
 -- What calls do to the handle of an inbox, which is i before and j after.
-use Rattle.std.specs.Prelude.{◌≡◌, ℕ, [], Bool, true, Option, MatchOption, ◌⊎◌, Result, Ok, Err}
+use Rattle.std.specs.Prelude.{◌≡◌, ℕ, [], Bool, true, Option, None, MatchOption, ◌⊎◌, Result, Ok, Err}
 use Rattle.std.specs.Arc.{arc_value}
 use Rattle.cordyceps.specs.Elements.Element.{Element}
 use Rattle.cordyceps.specs.Parties.Shares.{whole}
@@ -9,16 +9,18 @@ use Rattle.cordyceps.specs.Queues.Calls.{Legal, capacity, EnqueuesRefilled, Find
 use Rattle.cordyceps.specs.Queues.Moves.{Moves}
 use Rattle.cordyceps_c_shared.specs.declared.answers.TheConstants.{DONE, EMPTY, UNLINKED, BUSY, FULL, NO_MEMORY}
 use Rattle.cordyceps_c_shared.specs.declared.inbox.Inbox.{Inbox}
-use Rattle.cordyceps_c_shared.specs.declared.inbox.Message.{Message}
+use Rattle.cordyceps_base.specs.declared.node.Block.{Block}
+use Rattle.cordyceps_c_base.specs.declared.carried.Carried.{Carried}
+use Rattle.cordyceps_c_base.specs.Elements.{HoldsElement}
 use Rattle.cordyceps_c_shared.specs.declared.inbox.Sent.{Sent}
 use Rattle.cordyceps_c_shared.specs.declared.inbox.Sent.TheVariants.{Done, Full, NoMemory}
 
 -- the element that has a payload, and the payload of an element
-abbrev pub letter_of : ℕ → Element Message
-letter_of p = record { id = 0; value = record { payload = p } }
+abbrev pub letter_of : ℕ → Element Carried
+letter_of p = record { id = 0; value = record { value = p } }
 
-abbrev pub payload_of : Element Message → ℕ
-payload_of e = e.value.payload
+abbrev pub payload_of : Element Carried → ℕ
+payload_of e = e.value.value
 
 -- it is the only handle of its inbox, and has all its rooms
 abbrev pub IsNew : (rooms : ℕ) → Inbox → Type 0
@@ -41,14 +43,25 @@ TakesOver i k j = (j.queue ≡ i.queue) × Absorbs (λ h. Legal h) i.party k.par
 abbrev pub KeepsOrRejoins : Inbox → Inbox → Type 0
 KeepsOrRejoins i j = (j ≡ i) ⊎ ((kept : Inbox) × (given : Inbox) × SplitsOff i kept given × TakesOver kept given j)
 
--- what became of a payload that was to be sent
-abbrev pub Ends : ℕ → Sent → Inbox → Inbox → Type 0
-Ends p Done i j = EnqueuesRefilled (letter_of p) i.party j.party
-Ends p Full i j = FindsFull i.party j.party × (i.party.share ≡ whole → HasAllRooms j.party)
-Ends p NoMemory i j = j.party ≡ i.party
+-- what became of an element that was to be sent
+abbrev pub Ends : Element Carried → Sent → Inbox → Inbox → Type 0
+Ends e Done i j = EnqueuesRefilled e i.party j.party
+Ends e Full i j = FindsFull i.party j.party × (i.party.share ≡ whole → HasAllRooms j.party)
+Ends e NoMemory i j = j.party ≡ i.party
 
-abbrev pub TriesToSend : ℕ → Sent → Inbox → Inbox → Type 0
-TriesToSend p sent i j = (j.queue ≡ i.queue) × Ends p sent i j
+abbrev pub TriesToSend : Element Carried → Sent → Inbox → Inbox → Type 0
+TriesToSend e sent i j = (j.queue ≡ i.queue) × Ends e sent i j
+
+-- what became of a node that was to be sent, and what its handle holds then
+abbrev pub SendsNode : Element Carried → ℕ → Option (Block Carried) → Inbox → Inbox → Type 0
+SendsNode e result left i j =
+    ((result ≡ DONE) × (left ≡ None) × TriesToSend e Done i j)
+    ⊎ ((result ≡ FULL) × HoldsElement left e × TriesToSend e Full i j)
+
+-- the handle holds what a try to receive found
+abbrev pub HoldsTried : Option (Block Carried) → Result (Element Carried) TryDequeueError → Type 0
+HoldsTried held (Ok e) = HoldsElement held e
+HoldsTried held (Err why) = held ≡ None
 
 -- it sent and received nothing; with true, it has no room left, and it is true where the party is whole
 abbrev pub GivesRooms : Bool → Inbox → Inbox → Type 0
@@ -67,11 +80,11 @@ number_of_error FindsEmpty = EMPTY
 number_of_error FindsInconsistent = UNLINKED
 number_of_error FindsBusy = BUSY
 
-abbrev pub number_of_try : Result (Element Message) TryDequeueError → ℕ
+abbrev pub number_of_try : Result (Element Carried) TryDequeueError → ℕ
 number_of_try (Ok e) = DONE
 number_of_try (Err why) = number_of_error why
 
 -- the payload that came out, or what was there before
-abbrev pub payload_after : ℕ → Result (Element Message) TryDequeueError → ℕ
+abbrev pub payload_after : ℕ → Result (Element Carried) TryDequeueError → ℕ
 payload_after old (Ok e) = payload_of e
 payload_after old (Err why) = old

@@ -1,12 +1,14 @@
 //! The calls of an inbox: many threads send, and one at a time receives.
-ghost use Rattle.std.specs.Prelude.{◌≡◌, ◌≤◌, IfSome};
+ghost use Rattle.std.specs.Prelude.{◌≡◌, ◌≤◌, IfSome, MatchResult};
 ghost use Rattle.cordyceps.specs.Queues.Calls.{Dequeues, IsCertain};
 ghost use Rattle.cordyceps.specs.Parties.Shares.{whole};
-ghost use Rattle.cordyceps_c_shared.specs.Inboxes.{GivesRooms, IsNew, TriesToSend, TriesToSplit, TakesOver};
+ghost use Rattle.cordyceps_c_shared.specs.Inboxes.{GivesRooms, IsNew, TriesToSend, TriesToSplit, TakesOver, letter_of};
+ghost use Rattle.cordyceps_c_shared.specs.declared.inbox.Sent.TheVariants.{Done, Full};
 
-use crate::inbox::{Inbox, Letter, Message, Sent};
+use crate::inbox::{Inbox, Sent};
 use cordyceps::mpsc_queue::{MAX_ROOMS, TryDequeueError};
 use cordyceps::{MpscQueue, Node};
+use cordyceps_c_base::carried::{Carried, Letter};
 use std::alloc::Global;
 use std::sync::Arc;
 
@@ -16,7 +18,7 @@ impl Inbox {
         requires { rooms ≤ MAX_ROOMS }
         ensures { IfSome result (IsNew rooms) }
     {
-        let Ok((queue, party)) = MpscQueue::<Message>::new(alloc, rooms) else {
+        let Ok((queue, party)) = MpscQueue::<Carried>::new(alloc, rooms) else {
             return None;
         };
         match Arc::new(alloc, queue) {
@@ -41,16 +43,24 @@ impl Inbox {
 
     /// Sends a payload, and says how that ended. Only `Done` changes what is in the queue.
     pub fn send(&mut self, alloc: Global, payload: u64) -> Sent
-        ensures { TriesToSend payload result self.old self.new }
+        ensures { TriesToSend (letter_of payload) result self.old self.new }
     {
-        let letter: Letter = match Node::new(alloc, 0, Message { payload }) {
+        let letter: Letter = match Node::new(alloc, 0, Carried { value: payload }) {
             Ok(letter) => letter,
             Err(_) => return Sent::NoMemory,
         };
-        match self.queue.try_enqueue(&mut self.party, letter) {
+        match self.send_node(letter) {
             Ok(()) => Sent::Done,
             Err(_) => Sent::Full,
         }
+    }
+
+    /// Sends a node. Returns it if no room is free; the queue is unchanged then.
+    pub fn send_node(&mut self, letter: Letter) -> Result<(), Letter>
+        ensures { MatchResult result (λ _. TriesToSend letter Done self.old self.new)
+            (λ back. (back ≡ letter) × TriesToSend letter Full self.old self.new) }
+    {
+        self.queue.try_enqueue(&mut self.party, letter)
     }
 
     /// Tries once to receive.

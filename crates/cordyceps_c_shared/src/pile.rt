@@ -2,35 +2,16 @@
 ghost use Rattle.std.specs.Arc.{arc_value};
 ghost use Rattle.std.specs.Prelude.{◌≡◌};
 
-use crate::inbox::Message;
-use cordyceps::stack::{Links, Party};
-use cordyceps::{Linked, Node, Stack, TransferStack};
+use cordyceps::stack::Party;
+use cordyceps::{Stack, TransferStack};
+use cordyceps_c_base::carried::Carried;
 use std::alloc::Global;
 use std::sync::Arc;
-
-/// A message in the node that a pile has of it.
-pub type Sheet = Node<Message, Links<Message>>;
-
-impl Linked<Links<Message>> for Message {
-    type Handle = Sheet;
-
-    ghost element = { λ h. h };
-
-    fn into_ptr(handle: Sheet) -> Sheet {
-        handle
-    }
-
-    fn from_ptr(node: Sheet) -> Sheet
-        ensures { result ≡ node }
-    {
-        node
-    }
-}
 
 /// How pushing ended.
 #[derive(Clone, Copy, Drop)]
 pub enum Pushed {
-    /// The message is in the stack.
+    /// The payload is in the stack.
     Done,
     /// No room was free.
     Full,
@@ -40,11 +21,11 @@ pub enum Pushed {
     NoMemory,
 }
 
-/// A party at its stack, which it owns with others, and the messages that it took and has not handed out yet.
+/// A party at its stack, which it owns with others, and the payloads that it took and has not handed out yet.
 #[derive(Drop)]
 pub struct Pile {
-    pub stack: Arc<TransferStack<Message>, Global>,
-    pub party: Party<Message>,
-    pub taken: Stack<Message>,
+    pub stack: Arc<TransferStack<Carried>, Global>,
+    pub party: Party<Carried>,
+    pub taken: Stack<Carried>,
     ghost seated: { party.table ≡ arc_value stack },
 }

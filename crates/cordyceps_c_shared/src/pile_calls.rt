@@ -1,11 +1,13 @@
 //! The calls of a pile: many threads push, and any of them takes all at once.
 ghost use Rattle.std.specs.Prelude.{◌≡◌, ◌≤◌, ◌==◌, [], length, IfSome};
-ghost use Rattle.cordyceps_c_shared.specs.Piles.{GivesRooms, IsNew, Pops, TakesOver, TriesToPush, TriesToSplit};
+ghost use Rattle.cordyceps_c_shared.specs.Piles.{GivesRooms, IsNew, Pops, PushesNode, TakesOver};
+ghost use Rattle.cordyceps_c_shared.specs.Piles.{TriesToPush, TriesToSplit};
+ghost use Rattle.cordyceps_c_shared.specs.Inboxes.{letter_of};
 
-use crate::inbox::Message;
-use crate::pile::{Pile, Pushed, Sheet};
+use crate::pile::{Pile, Pushed};
 use cordyceps::stack::{MAX_ROOMS, TryPushError};
 use cordyceps::{Node, Stack, TransferStack};
+use cordyceps_c_base::carried::{Carried, Sheet};
 use std::alloc::Global;
 use std::sync::Arc;
 
@@ -15,7 +17,7 @@ impl Pile {
         requires { rooms ≤ MAX_ROOMS }
         ensures { IfSome result (IsNew rooms) }
     {
-        let Ok((stack, party)) = TransferStack::<Message>::new(alloc, rooms) else {
+        let Ok((stack, party)) = TransferStack::<Carried>::new(alloc, rooms) else {
             return None;
         };
         match Arc::new(alloc, stack) {
@@ -48,17 +50,25 @@ impl Pile {
 
     /// Tries once to push a payload, and says how that ended. Only `Done` changes what is in the stack.
     pub fn push(&mut self, alloc: Global, payload: u64) -> Pushed
-        ensures { TriesToPush payload result self.old self.new }
+        ensures { TriesToPush (letter_of payload) result self.old self.new }
     {
-        let sheet: Sheet = match Node::new(alloc, 0, Message { payload }) {
+        let sheet: Sheet = match Node::new(alloc, 0, Carried { value: payload }) {
             Ok(sheet) => sheet,
             Err(_) => return Pushed::NoMemory,
         };
-        match self.stack.refill_and_try_push(&mut self.party, sheet) {
+        match self.push_node(sheet) {
             Ok(_) => Pushed::Done,
             Err(TryPushError::Full(_)) => Pushed::Full,
             Err(TryPushError::Contended(_)) => Pushed::Busy,
         }
+    }
+
+    /// Tries once to push a node. Returns `true` if the stack was empty just before. Returns the node if no room is
+    /// free, or if another party came between the two steps of the try; what is in the stack is unchanged then.
+    pub fn push_node(&mut self, sheet: Sheet) -> Result<bool, TryPushError<Sheet>>
+        ensures { PushesNode sheet result self.old self.new }
+    {
+        self.stack.refill_and_try_push(&mut self.party, sheet)
     }
 
     /// Hands out the first of the messages that were taken. If there is none, it first takes all of the stack, of which

@@ -1,4 +1,6 @@
 mod Arranging
+mod NodeQueueHandles
+mod NodeQueuesSaid
 mod Placing
 mod QueueHandles
 mod QueueSent

@@ -3,7 +3,7 @@ use Rattle.cordyceps.specs.Elements.Element.{Element}
 use Rattle.cordyceps.specs.Parties.Shares.{whole}
 use Rattle.cordyceps.specs.Queues.Calls.{Dequeues, IsCertain}
 use Rattle.cordyceps_c_shared.specs.declared.inbox.Inbox.{Inbox}
-use Rattle.cordyceps_c_shared.specs.declared.inbox.Message.{Message}
+use Rattle.cordyceps_c_base.specs.declared.carried.Carried.{Carried}
 use Rattle.cordyceps_c_base.proofs.Answering.{on_some}
 use Rattle.cordyceps_c.proofs.inbox.cordyceps_inbox_receive.Goals as goal
 
@@ -16,7 +16,7 @@ returns-in-Ok c =
       c.put.ensures,
       subst (λ (i : Inbox). new.queue ≡ i.queue) is told.queue,
       refl,
-      ap (λ (m : Message). m.payload) c.into_value.ensures,
+      ap (λ (m : Carried). m.value) c.into_value.ensures,
       subst (λ (i : Inbox). Dequeues (Ok c.in-Ok.letter) i.party new.party) is told.tried,
       subst (λ (i : Inbox). i.party.share ≡ whole → IsCertain (Ok c.in-Ok.letter)) is told.whole,
     )
@@ -32,5 +32,5 @@ returns-in-Err c =
       c.number_of.ensures,
       refl,
       subst (λ (i : Inbox). Dequeues (Err c.in-Err.why) i.party new.party) is told.tried,
-      subst (λ (i : Inbox). i.party.share ≡ whole → IsCertain {E = Element Message} (Err c.in-Err.why)) is told.whole,
+      subst (λ (i : Inbox). i.party.share ≡ whole → IsCertain {E = Element Carried} (Err c.in-Err.why)) is told.whole,
     )

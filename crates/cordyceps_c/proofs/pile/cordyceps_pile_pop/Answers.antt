@@ -1,6 +1,6 @@
 use Rattle.std.proofs.Common.{Some, None, refl, ap, subst}
 use Rattle.cordyceps_c_shared.specs.Piles.{Pops}
-use Rattle.cordyceps_c_shared.specs.declared.inbox.Message.{Message}
+use Rattle.cordyceps_c_base.specs.declared.carried.Carried.{Carried}
 use Rattle.cordyceps_c_shared.specs.declared.pile.Pile.{Pile}
 use Rattle.cordyceps_c_base.proofs.Answering.{on_some}
 use Rattle.cordyceps_c.proofs.pile.cordyceps_pile_pop.Goals as goal
@@ -10,7 +10,7 @@ returns-in-Some-popped c =
     let new = c.pop-popped.new.self in
     let pops = subst (λ (i : Pile). Pops (Some c.in-Some-popped.sheet) i new) c.deref_mut.ensures.value c.in-Some-popped.ensures in
     on_some _ _ c.in-Some.held.value c.in-Some.ensures.taken
-    (new, Some c.in-Some-popped.sheet, c.put.ensures, refl, ap (λ (m : Message). m.payload) c.into_value.ensures, pops)
+    (new, Some c.in-Some-popped.sheet, c.put.ensures, refl, ap (λ (m : Carried). m.value) c.into_value.ensures, pops)
 
 pub returns-in-None : goal.returns-in-None
 returns-in-None c =

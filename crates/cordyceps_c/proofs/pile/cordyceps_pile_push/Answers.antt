@@ -1,4 +1,5 @@
 use Rattle.std.proofs.Common.{subst}
+use Rattle.cordyceps_c_shared.specs.Inboxes.{letter_of}
 use Rattle.cordyceps_c_shared.specs.Piles.{TriesToPush}
 use Rattle.cordyceps_c_shared.specs.declared.pile.Pile.{Pile}
 use Rattle.cordyceps_c_base.proofs.Answering.{on_some}
@@ -8,4 +9,4 @@ pub returns : goal.returns
 returns c =
     let pushed = c.push-pushed in
     on_some _ _ c.in-Some.held.value c.in-Some.ensures.taken
-    (pushed.new.self, pushed.result, c.put.ensures, c.number.ensures, subst (λ (i : Pile). TriesToPush c.args.payload pushed.result i pushed.new.self) c.deref_mut.ensures.value pushed.ensures)
+    (pushed.new.self, pushed.result, c.put.ensures, c.number.ensures, subst (λ (i : Pile). TriesToPush (letter_of c.args.payload) pushed.result i pushed.new.self) c.deref_mut.ensures.value pushed.ensures)

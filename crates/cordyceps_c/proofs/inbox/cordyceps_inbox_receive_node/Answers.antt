@@ -1,0 +1,36 @@
+use Rattle.std.proofs.Common.{◌≡◌, Ok, Err, refl, ap, subst}
+use Rattle.cordyceps.specs.Elements.Element.{Element}
+use Rattle.cordyceps.specs.Parties.Shares.{whole}
+use Rattle.cordyceps.specs.Queues.Calls.{Dequeues, IsCertain}
+use Rattle.cordyceps_c_shared.specs.declared.inbox.Inbox.{Inbox}
+use Rattle.cordyceps_c_base.specs.declared.carried.Carried.{Carried}
+use Rattle.cordyceps_c_base.proofs.Answering.{on_some}
+use Rattle.cordyceps_c.proofs.inbox.cordyceps_inbox_receive_node.Goals as goal
+
+pub returns-in-Ok : goal.returns-in-Ok
+returns-in-Ok c =
+    let new = c.receive-tried.new.self in let is = c.deref_mut.ensures.value in let told = c.in-Ok.ensures in
+    on_some _ _ c.in-Some.held.value c.in-Some.ensures.taken (
+      new,
+      Ok c.in-Ok.letter,
+      c.put.ensures,
+      subst (λ (i : Inbox). new.queue ≡ i.queue) is told.queue,
+      refl,
+      c.put_node.ensures,
+      subst (λ (i : Inbox). Dequeues (Ok c.in-Ok.letter) i.party new.party) is told.tried,
+      subst (λ (i : Inbox). i.party.share ≡ whole → IsCertain (Ok c.in-Ok.letter)) is told.whole,
+    )
+
+pub returns-in-Err : goal.returns-in-Err
+returns-in-Err c =
+    let new = c.receive-tried.new.self in let is = c.deref_mut.ensures.value in let told = c.in-Err.ensures in
+    on_some _ _ c.in-Some.held.value c.in-Some.ensures.taken (
+      new,
+      Err c.in-Err.why,
+      c.put.ensures,
+      subst (λ (i : Inbox). new.queue ≡ i.queue) is told.queue,
+      c.number_of.ensures,
+      c.requires,
+      subst (λ (i : Inbox). Dequeues (Err c.in-Err.why) i.party new.party) is told.tried,
+      subst (λ (i : Inbox). i.party.share ≡ whole → IsCertain {E = Element Carried} (Err c.in-Err.why)) is told.whole,
+    )

@@ -1,0 +1,8 @@
+use Rattle.std.proofs.Common.{length, ap, sym, ◌∙◌}
+use Rattle.cordyceps.specs.Spots.Heap.{nodes_in}
+use Rattle.cordyceps_c_timers.specs.NodeQueues.{value_of}
+use Rattle.cordyceps_c_timers.proofs.Arranging.{as_long}
+use Rattle.cordyceps_c_timers.proofs.node_queue.NodeQueue.len.Goals as goal
+
+pub returns : goal.returns
+returns c = c.len.ensures ∙ sym (as_long value_of (nodes_in c.self.inside.heap)) ∙ ap length c.self.view_is
