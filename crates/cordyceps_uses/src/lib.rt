@@ -4,6 +4,7 @@
 pub mod connections;
 pub mod examples;
 pub mod job;
+pub mod pooled_queue;
 pub mod recency;
 pub mod tasks;
 pub mod timer_wheel;

@@ -12,6 +12,8 @@ mod examples;
 #[cfg(test)]
 mod made;
 #[cfg(test)]
+mod pools;
+#[cfg(test)]
 mod task_ways;
 #[cfg(test)]
 mod tours;
