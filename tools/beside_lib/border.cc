@@ -3,12 +3,12 @@
 // A call of the library takes its memory within the time that is measured. So do the peers, one block for each element,
 // except in the rows of nodes that are there. The first round of a row, which is not counted, fetches the memory from
 // the system, and `keep_memory` keeps it.
+#include "linked.h"
 #include "measure.h"
 #include "ordered.h"
 #include "peers.h"
 
 #include <malloc.h>
-#include <sys/queue.h>
 
 #include <mutex>
 
@@ -197,6 +197,27 @@ struct LibraryInbox {
   }
 };
 
+// The library's inbox of structs that are its nodes, of one handle.
+struct OwnInbox {
+  cordyceps_inbox inbox = {};
+  Waiting<OwnNode> nodes;
+
+  explicit OwnInbox(size_t count) : nodes(count) { require(cordyceps_inbox_new(count, &inbox)); }
+
+  void put(uint64_t payload) {
+    OwnNode *it = nodes.make();
+    cordyceps_node node = {&it->links};
+    it->payload = payload;
+    require(cordyceps_inbox_send_node(&inbox, &node) == CORDYCEPS_DONE);
+  }
+
+  uint64_t take() {
+    cordyceps_node node = {nullptr};
+    require(cordyceps_inbox_receive_node(&inbox, &node) == CORDYCEPS_DONE);
+    return ended(nodes, node.at);
+  }
+};
+
 #ifdef WITH_URCU
 // A letter begins with the pointer that is its node.
 struct Letter {
@@ -204,13 +225,13 @@ struct Letter {
   uint64_t payload;
 };
 
-// liburcu's queue of letters that are allocated, by one of the calls that take a node out.
-template <auto take_one>
-struct AllocatedLetters {
-  Allocated<Letter> letters;
+// liburcu's queue of letters, by one of the calls that take a node out.
+template <auto take_one, template <class> class Nodes>
+struct Letters {
+  Nodes<Letter> letters;
   void *queue = wfqueue_make();
 
-  explicit AllocatedLetters(size_t count) : letters(count) {}
+  explicit Letters(size_t count) : letters(count) {}
 
   void put(uint64_t payload) {
     Letter *it = letters.make();
@@ -250,85 +271,6 @@ struct LockedRing {
     if (first == payloads.size()) first = 0;
     count--;
     return payload;
-  }
-};
-
-// The library's list. Its names are tickets.
-struct LibraryList {
-  using Name = cordyceps_ticket;
-  cordyceps_list list = {};
-
-  explicit LibraryList(size_t) { require(cordyceps_list_new(1, &list)); }
-  void move_to_back(Name name) { require(cordyceps_list_move_to_back(&list, name)); }
-
-  Name push_back(uint64_t payload) {
-    Name name;
-    require(cordyceps_list_push_back(&list, payload, &name));
-    return name;
-  }
-
-  uint64_t pop_front() {
-    uint64_t payload;
-    require(cordyceps_list_pop_front(&list, &payload));
-    return payload;
-  }
-
-  uint64_t remove(Name name) {
-    uint64_t payload;
-    require(cordyceps_list_remove(&list, name, &payload));
-    return payload;
-  }
-
-  uint64_t sum() {
-    uint64_t sum = 0, payload;
-    Name at;
-    for (bool is_there = cordyceps_list_front(&list, &at); is_there; is_there = cordyceps_list_next(&list, at, &at)) {
-      require(cordyceps_list_get(&list, at, &payload));
-      sum += payload;
-    }
-    return sum;
-  }
-};
-
-struct TailNode {
-  TAILQ_ENTRY(TailNode) links;
-  uint64_t payload;
-};
-
-// A list of the C library's sys/queue.h. Its names are its nodes.
-template <template <class> class Nodes>
-struct TailList {
-  using Name = TailNode *;
-  Nodes<TailNode> nodes;
-  TAILQ_HEAD(, TailNode) list;
-
-  explicit TailList(size_t count) : nodes(count) { TAILQ_INIT(&list); }
-  uint64_t pop_front() { return remove(TAILQ_FIRST(&list)); }
-
-  Name push_back(uint64_t payload) {
-    Name it = nodes.make();
-    it->payload = payload;
-    TAILQ_INSERT_TAIL(&list, it, links);
-    return it;
-  }
-
-  uint64_t remove(Name it) {
-    TAILQ_REMOVE(&list, it, links);
-    uint64_t payload = it->payload;
-    nodes.end(it);
-    return payload;
-  }
-
-  void move_to_back(Name it) {
-    TAILQ_REMOVE(&list, it, links);
-    TAILQ_INSERT_TAIL(&list, it, links);
-  }
-
-  uint64_t sum() {
-    uint64_t sum = 0;
-    Name it;
-    TAILQ_FOREACH(it, &list, links) sum += it->payload;
-    return sum;
   }
 };
 
@@ -399,8 +341,20 @@ template <class List>
 static void add_list(const char *peer) {
   one_thread[{"list ends", peer}] = list_ends<List>;
   one_thread[{"list by name", peer}] = list_by_name<List>;
+}
+
+// What needs no node.
+template <class List>
+static void add_linked(const char *peer) {
   one_thread[{"list moved", peer}] = list_moved<List>;
   one_thread[{"list walk", peer}] = list_walk<List>;
+}
+
+// Of a peer whose nodes the caller has.
+template <class List>
+static void add_held_list(const char *peer) {
+  one_thread[{"list ends, held", peer}] = list_ends<List>;
+  one_thread[{"list by name, held", peer}] = list_by_name<List>;
 }
 
 // All payloads are sent, so many at a time, and received.
@@ -421,9 +375,12 @@ static Time send(size_t count, size_t at_a_time, size_t rounds) {
 }
 
 template <class Inbox>
-static void add_inbox(const char *peer) {
-  one_thread[{"send all", peer}] = [](size_t count, size_t rounds) { return send<Inbox>(count, count, rounds); };
-  one_thread[{"send one", peer}] = [](size_t count, size_t rounds) { return send<Inbox>(count, 1, rounds); };
+static void add_inbox(const char *peer, const char *held = "") {
+  std::string is_held = held;
+  one_thread[{"send all" + is_held, peer}] = [](size_t count, size_t rounds) {
+    return send<Inbox>(count, count, rounds);
+  };
+  one_thread[{"send one" + is_held, peer}] = [](size_t count, size_t rounds) { return send<Inbox>(count, 1, rounds); };
 }
 
 template <class Of>
@@ -444,6 +401,7 @@ static void add_named(const char *peer) {
 template <class Of>
 static void add_held(const char *peer) {
   one_thread[{"in order, held", peer}] = in_order<Of>;
+  one_thread[{"by turns, held", peer}] = by_turns<Of>;
   one_thread[{"by name, held", peer}] = by_name<Of>;
 }
 
@@ -465,18 +423,31 @@ void add_border() {
   add_held<Heap<Waiting>>("4-ary heap");
   add_named<StandardTree>("std::multimap");
   add_ordered<StandardHeap>("std::priority_queue");
+  add_held<OwnQueue>("cordyceps_node_queue");
+  one_thread[{"change", "cordyceps_node_queue"}] = change<OwnQueue>;
+  one_thread[{"length", "cordyceps_node_queue"}] = length<OwnQueue>;
   add_list<LibraryList>("cordyceps_list");
+  add_linked<LibraryList>("cordyceps_list");
+  add_held_list<OwnList>("cordyceps_node_list");
+  add_linked<OwnList>("cordyceps_node_list");
   add_list<TailList<Allocated>>("TAILQ");
-  one_thread[{"list ends, held", "TAILQ"}] = list_ends<TailList<Waiting>>;
-  one_thread[{"list by name, held", "TAILQ"}] = list_by_name<TailList<Waiting>>;
+  add_held_list<TailList<Waiting>>("TAILQ");
+  add_linked<TailList<Waiting>>("TAILQ");
+  add_held_list<RingList>("list_head");
+  add_linked<RingList>("list_head");
   add_inbox<LibraryInbox>("cordyceps_inbox");
+  add_inbox<OwnInbox>("cordyceps_inbox, nodes", ", held");
   add_inbox<LockedRing>("mutex, ring");
 #ifdef WITH_BOOST
   add_named<Tree<Allocated>>("Boost multiset");
   add_held<Tree<Waiting>>("Boost multiset");
+  add_held_list<BoostList>("Boost list");
+  add_linked<BoostList>("Boost list");
 #endif
 #ifdef WITH_URCU
-  add_inbox<AllocatedLetters<wfqueue_take>>("wfcqueue");
-  add_inbox<AllocatedLetters<wfqueue_take_by_lock>>("wfcqueue with its lock");
+  add_inbox<Letters<wfqueue_take, Allocated>>("wfcqueue");
+  add_inbox<Letters<wfqueue_take, Waiting>>("wfcqueue", ", held");
+  add_inbox<Letters<wfqueue_take_by_lock, Allocated>>("wfcqueue with its lock");
+  add_inbox<Letters<wfqueue_take_by_lock, Waiting>>("wfcqueue with its lock", ", held");
 #endif
 }

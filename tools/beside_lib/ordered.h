@@ -129,6 +129,46 @@ struct Waiting {
   void end(Node *it) { waiting.push_back(it); }
 };
 
+// A struct that is its own node in the library's lists, priority queues and inboxes.
+struct OwnNode {
+  cordyceps_links links = CORDYCEPS_LINKS_INIT;
+  uint64_t payload;
+};
+
+// The payload of a struct that came out, and now waits.
+inline uint64_t ended(Waiting<OwnNode> &nodes, cordyceps_links *links) {
+  require(links != nullptr);
+  OwnNode *it = cordyceps_container(links, OwnNode, links);
+  nodes.end(it);
+  return it->payload;
+}
+
+// The library's priority queue of structs that are its nodes. Its names are spots.
+struct OwnQueue {
+  using Name = cordyceps_spot;
+  cordyceps_node_queue_memory memory = CORDYCEPS_NODE_QUEUE_INIT;
+  cordyceps_node_queue queue = {&memory};
+  Waiting<OwnNode> nodes;
+
+  explicit OwnQueue(size_t count) : nodes(count) {}
+  size_t len() { return cordyceps_node_queue_len(&queue); }
+  void change(Name name, uint64_t key) { cordyceps_node_queue_change(&queue, name, key); }
+  Item pop() { return item(cordyceps_node_queue_take_first(&queue)); }
+  Item remove(Name name) { return item(cordyceps_node_queue_take_at(&queue, name)); }
+
+  Name push(uint64_t key, uint64_t payload) {
+    OwnNode *it = nodes.make();
+    it->payload = payload;
+    return cordyceps_node_queue_add(&queue, &it->links, key);
+  }
+
+ private:
+  Item item(cordyceps_links *links) {
+    uint64_t payload = ended(nodes, links);
+    return {links->value, payload};
+  }
+};
+
 // A node of a heap knows its place there.
 struct HeapNode {
   size_t place;
