@@ -4,6 +4,9 @@ pub use Rattle.cordyceps_base.specs.DoubleLines
 pub use Rattle.cordyceps_base.specs.Spots
 pub use Rattle.cordyceps_clock.specs.Clock
 pub use Rattle.cordyceps_heap.specs.Heap
+pub use Rattle.cordyceps_many.specs.Entries
+pub use Rattle.cordyceps_many.specs.MultiList
+pub use Rattle.cordyceps_many.specs.Threads
 pub use Rattle.cordyceps_stable.specs.Agreeing
 pub use Rattle.cordyceps_stable.specs.Arranged
 pub use Rattle.cordyceps_stable.specs.Changing

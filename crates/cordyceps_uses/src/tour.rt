@@ -3,12 +3,14 @@ ghost use Rattle.std.specs.Prelude.{◌≡◌, ◌+◌, ◌<◌, [], ◌∷◌, 
 ghost use denote.RawPtr.{Ptr};
 ghost use Rattle.cordyceps.specs.Elements.Nodes.{spots};
 ghost use Rattle.cordyceps.specs.Orders.Arrangement.{IsEarliestLeast};
+ghost use Rattle.cordyceps.specs.Spots.MultiList.{list_at};
 ghost use Rattle.cordyceps.specs.Spots.Spots.{AreDistinct};
 ghost use Rattle.cordyceps_uses.specs.Ranks.{comes_before};
 
 use crate::job::Job;
 use crate::waiting::Waiting;
 use cordyceps::mpsc_queue::Batch;
+use cordyceps::multi_list::{MultiList, MultiNode, Spot, Two};
 use cordyceps::sorted_list::Least;
 use cordyceps::{
     List, MpscQueue, Node, Refused, SortedList, StableList, Stack, TransferStack, list, mpsc_queue,
@@ -212,6 +214,23 @@ pub fn send(
         return Ok(None);
     };
     Ok(consumer.take_linked(16).ok())
+}
+
+/// Starts a job, which is then in the list of all jobs and, after the others, in that of the jobs that are ready.
+///
+/// # Complexity
+/// O(1).
+pub fn start_job(jobs: &mut MultiList<Job, Two>, job: MultiNode<Job, Two>) -> Spot
+    requires all_fit { length (list_at 0 jobs.old.lists) < usize.MAX }
+    requires ready_fit { length (list_at 1 jobs.old.lists) < usize.MAX }
+    ensures all { list_at 0 jobs.new.lists ≡ list_at 0 jobs.old.lists ++ result ∷ [] }
+    ensures ready { list_at 1 jobs.new.lists ≡ list_at 1 jobs.old.lists ++ result ∷ [] }
+{
+    // List 0 has every job.
+    let spot = jobs.insert(job);
+    // The same node is also in list 1.
+    jobs.link_back(1, spot);
+    spot
 }
 
 /// Puts a block back as the owner of a free list does, and another as another thread does, and then gets a block. It

@@ -1,0 +1,9 @@
+mod Between
+mod Entered
+mod HookRows
+mod Indexed
+mod Members
+mod Reached
+mod Shared
+mod Threads
+mod Written

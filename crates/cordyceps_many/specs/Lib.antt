@@ -1,0 +1,6 @@
+pub mod Entries
+pub mod MultiLends
+pub mod MultiList
+pub mod MultiNodeLends
+pub mod Rows
+pub mod Threads

@@ -1,0 +1,11 @@
+//! Nodes that are in several lists at once.
+#![tactic(auto)]
+
+mod block;
+pub mod hook;
+pub mod hooks;
+pub mod iter;
+mod links;
+pub mod multi_list;
+pub mod node;
+mod rows;
