@@ -221,36 +221,36 @@ module _ (f g : Ptr → Hook) where
       ((c.0.0, ap pv e), subst (λ z. Chain g x z s t q) (sym (ap nx e)) (chain_keep f g x (f x).next.ptr s t q c.1 (same_but f g h (with_prev (f h) n) s w away)))
 
   pub front_led : (h : Ptr) (xs : List Ptr) (t q : Ptr) (n : Address) (r : Ptr) → Chain f null_ptr h xs t q → Once xs → ((x : Ptr) → is_in x xs ≡ true → InBlock x) → IsLedOn f t n h g r → Chain g null_ptr r xs t n.ptr
-  front_led h [] t q n r c o solid (inl d) = (d.2, d.0)
-  front_led h [] t q n r c o solid (inr d) = absurd (subst InBlock c.1 d.0)
-  front_led h (x ∷ xs) t q n r c o solid (inl d) = absurd (subst InBlock d.0 (solid t (last_in f null_ptr h x xs t q c)))
-  front_led h (x ∷ xs) t q n r c o solid (inr d) = subst (λ z. Chain g null_ptr z (x ∷ xs) t n.ptr) (sym d.2) (relinked_last null_ptr h x xs t q n c o d.1)
+  front_led h [] t q n r c o solid (inl d) = (d.end, d.null)
+  front_led h [] t q n r c o solid (inr d) = absurd (subst InBlock c.1 d.there)
+  front_led h (x ∷ xs) t q n r c o solid (inl d) = absurd (subst InBlock d.null (solid t (last_in f null_ptr h x xs t q c)))
+  front_led h (x ∷ xs) t q n r c o solid (inr d) = subst (λ z. Chain g null_ptr z (x ∷ xs) t n.ptr) (sym d.end) (relinked_last null_ptr h x xs t q n c o d.wrote)
 
   pub back_led : (p h : Ptr) (ys : List Ptr) (t : Ptr) (n : Address) (r : Ptr) → Chain f p h ys t null_ptr → Once ys → ((x : Ptr) → is_in x ys ≡ true → InBlock x) → IsLedBack f h n t g r → Chain g n.ptr h ys r null_ptr
-  back_led p h [] t n r c o solid (inl d) = (d.0, d.2)
-  back_led p h [] t n r c o solid (inr d) = absurd (subst InBlock c.0 d.0)
-  back_led p h (x ∷ ys) t n r c o solid (inl d) = absurd (subst InBlock d.0 (subst InBlock (sym c.0.0) (solid x (in_here x x ys (same_ptr_refl x)))))
-  back_led p h (x ∷ ys) t n r c o solid (inr d) = subst (λ z. Chain g n.ptr h (x ∷ ys) z null_ptr) (sym d.2) (relinked_first p h x ys t null_ptr n c o d.1)
+  back_led p h [] t n r c o solid (inl d) = (d.null, d.end)
+  back_led p h [] t n r c o solid (inr d) = absurd (subst InBlock c.0 d.there)
+  back_led p h (x ∷ ys) t n r c o solid (inl d) = absurd (subst InBlock d.null (subst InBlock (sym c.0.0) (solid x (in_here x x ys (same_ptr_refl x)))))
+  back_led p h (x ∷ ys) t n r c o solid (inr d) = subst (λ z. Chain g n.ptr h (x ∷ ys) z null_ptr) (sym d.end) (relinked_first p h x ys t null_ptr n c o d.wrote)
 
   pub on_same : (t : Ptr) (n : Address) (h r : Ptr) (s : List Ptr) → IsLedOn f t n h g r → (InBlock t → is_in t s ≡ false) → Same f g s
-  on_same t n h r s (inl d) away = same_all f g s (λ q j. d.1 j q)
-  on_same t n h r s (inr d) away = same_but f g t (with_next (f t) n) s d.1 (away d.0)
+  on_same t n h r s (inl d) away = same_all f g s (λ q j. d.same j q)
+  on_same t n h r s (inr d) away = same_but f g t (with_next (f t) n) s d.wrote (away d.there)
 
   pub back_same : (h : Ptr) (n : Address) (t r : Ptr) (s : List Ptr) → IsLedBack f h n t g r → (InBlock h → is_in h s ≡ false) → Same f g s
-  back_same h n t r s (inl d) away = same_all f g s (λ q j. d.1 j q)
-  back_same h n t r s (inr d) away = same_but f g h (with_prev (f h) n) s d.1 (away d.0)
+  back_same h n t r s (inl d) away = same_all f g s (λ q j. d.same j q)
+  back_same h n t r s (inr d) away = same_but f g h (with_prev (f h) n) s d.wrote (away d.there)
 
   pub on_marks : (t : Ptr) (n : Address) (h r : Ptr) → IsLedOn f t n h g r → (q : Ptr) → (g q).linked ≡ (f q).linked
-  on_marks t n h r (inl d) q = λ j. (d.1 j q).linked
+  on_marks t n h r (inl d) q = λ j. (d.same j q).linked
   on_marks t n h r (inr d) q = split (same_ptr t q)
-      (λ same. let e : g q ≡ with_next (f q) n = subst (λ z. g z ≡ with_next (f z) n) (same_ptr_eq t q same) d.1.here in ap (λ (k : Hook). k.linked) e)
-      (λ other. ap (λ (k : Hook). k.linked) (d.1.others q other))
+      (λ same. let e : g q ≡ with_next (f q) n = subst (λ z. g z ≡ with_next (f z) n) (same_ptr_eq t q same) d.wrote.here in ap (λ (k : Hook). k.linked) e)
+      (λ other. ap (λ (k : Hook). k.linked) (d.wrote.others q other))
 
   pub back_marks : (h : Ptr) (n : Address) (t r : Ptr) → IsLedBack f h n t g r → (q : Ptr) → (g q).linked ≡ (f q).linked
-  back_marks h n t r (inl d) q = λ j. (d.1 j q).linked
+  back_marks h n t r (inl d) q = λ j. (d.same j q).linked
   back_marks h n t r (inr d) q = split (same_ptr h q)
-      (λ same. let e : g q ≡ with_prev (f q) n = subst (λ z. g z ≡ with_prev (f z) n) (same_ptr_eq h q same) d.1.here in ap (λ (k : Hook). k.linked) e)
-      (λ other. ap (λ (k : Hook). k.linked) (d.1.others q other))
+      (λ same. let e : g q ≡ with_prev (f q) n = subst (λ z. g z ≡ with_prev (f z) n) (same_ptr_eq h q same) d.wrote.here in ap (λ (k : Hook). k.linked) e)
+      (λ other. ap (λ (k : Hook). k.linked) (d.wrote.others q other))
 
 -- ---- whole calls
 -- a node is taken out of a list: its hook is cleared, and its neighbours are linked
