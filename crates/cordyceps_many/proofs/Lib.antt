@@ -1,9 +1,9 @@
 mod Between
-mod Entered
-mod HookRows
+pub mod Entered
+pub mod HookRows
 mod Indexed
-mod Members
+pub mod Members
 mod Reached
-mod Shared
-mod Threads
+pub mod Shared
+pub mod Threads
 mod Written
