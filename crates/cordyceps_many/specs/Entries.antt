@@ -1,8 +1,10 @@
 -- The entries of a list: its spots, each with the value of its node.
-use Rattle.std.specs.Prelude.{List, [], ◌∷◌, Option, Some, None, if◌then◌else◌}
+use Rattle.std.specs.Prelude.{◌≡◌, ℕ, ◌<◌, true, List, [], ◌∷◌, length, Option, Some, None, IfSome, if◌then◌else◌}
 use denote.RawPtr.{Ptr}
 use Rattle.cordyceps_base.specs.Nodes.{Nodes}
 use Rattle.cordyceps_base.specs.Spots.{same_ptr}
+use Rattle.cordyceps_many.specs.MultiList.{Multi, list_at}
+use Rattle.cordyceps_many.specs.Threads.{is_in}
 
 -- the part of a list from the first p on
 abbrev pub from_spot : Ptr → List Ptr → List Ptr
@@ -29,3 +31,9 @@ module _ {X : Type 0} where
   abbrev pub entries_at : Nodes X → List Ptr → List (Ptr × X)
   entries_at c [] = []
   entries_at c (p ∷ s) = with_entry p (value_at c p) (entries_at c s)
+
+  -- a walk along list i, which is one of k, is at a spot of it or at its end, and knows how many entries are left
+  pub record KnowsLeft (k : ℕ) (v : Multi X) (i : ℕ) (o : Option Ptr) (left : ℕ) : Type 0 where
+    pub within : i < k
+    pub there : IfSome o (λ p. is_in p (list_at i v.lists) ≡ true)
+    pub count : left ≡ length (entries_at v.nodes (from_place o (list_at i v.lists)))

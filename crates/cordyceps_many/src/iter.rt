@@ -1,6 +1,7 @@
 //! Iterators over one list of several.
-ghost use Rattle.std.specs.Prelude.{◌≡◌, ◌<◌, length, IfSome, true};
-ghost use Rattle.std.specs.Iterator.{YieldsFirstBy, item_count};
+ghost use Rattle.std.specs.Prelude.{◌≡◌, ◌<◌, length, IfSome, Some};
+ghost use Rattle.std.specs.Iterator.{YieldsFirstBy, item_count, at_most, UpTo};
+ghost use Rattle.std.specs.Iterator.SizeHint.{IsWithinCount};
 ghost use Rattle.cordyceps_many.specs.Entries.{entries_at};
 ghost use Rattle.cordyceps_many.specs.MultiList.{list_at};
 
@@ -19,21 +20,20 @@ pub struct Iter<'a, T, H: Hooks> {
     lists: &'a MultiList<T, H>,
     list: usize,
     at: Option<Spot>,
+    left: usize,
 }
 
 impl<'a, T, H: Hooks> Model for Iter<'a, T, H> {
-    ghost use Rattle.std.specs.Prelude.{◌≡◌, ◌<◌, List, IfSome, true};
+    ghost use Rattle.std.specs.Prelude.{List};
     ghost use denote.RawPtr.{Ptr};
-    ghost use Rattle.cordyceps_many.specs.Entries.{entries_at, from_place};
+    ghost use Rattle.cordyceps_many.specs.Entries.{entries_at, from_place, KnowsLeft};
     ghost use Rattle.cordyceps_many.specs.MultiList.{list_at};
-    ghost use Rattle.cordyceps_many.specs.Threads.{is_in};
 
     ghost Value = { List (Ptr × T) };
 
     ghost view = { λ i. entries_at i.lists.now.nodes (from_place i.at (list_at i.list i.lists.now.lists)) };
 
-    ghost invariant = { λ i. (i.list < H.count)
-        × IfSome i.at (λ p. is_in p (list_at i.list i.lists.now.lists) ≡ true) };
+    ghost invariant = { λ i. KnowsLeft H.count i.lists.now i.list i.at i.left };
 }
 
 impl<T, H: Hooks> MultiList<T, H> {
@@ -45,11 +45,14 @@ impl<T, H: Hooks> MultiList<T, H> {
         requires within { i < H.count }
         ensures { result ≡ entries_at self.now.nodes (list_at i self.now.lists) }
     {
+        // for the proof: each spot of a list is that of a node
+        self.lists_agree();
         let at = self.first(i);
         Iter {
             lists: self,
             list: i,
             at,
+            left: self.len(i),
         }
     }
 }
@@ -74,6 +77,19 @@ impl<'a, T, H: Hooks> Iterator for Iter<'a, T, H> {
         lists.lists_agree();
         let value = lists.get(at);
         self.at = lists.next(self.list, at);
+        self.left -= 1;
         Some((at, value))
+    }
+
+    /// Returns the number of nodes that are left, as both bounds.
+    ///
+    /// # Complexity
+    /// O(1).
+    fn size_hint(&self) -> (usize, Option<usize>)
+        ensures lower { IsWithinCount result.0 (at_most (length self.now)) }
+        ensures upper { IfSome result.1 (UpTo (at_most (length self.now))) }
+        ensures exact { result ≡ (length self.now, Some (length self.now)) }
+    {
+        (self.left, Some(self.left))
     }
 }
