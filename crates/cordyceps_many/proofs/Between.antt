@@ -83,7 +83,7 @@ before_at : (q p : Ptr) (s t : List Ptr) → is_in q s ≡ false → with_before
 before_at q p [] t e = ap (λ (b : Bool). if b then p ∷ q ∷ t else q ∷ with_before q p t) (same_ptr_refl q)
 before_at q p (x ∷ s) t e = let n = not_in q x s e in ap (λ (b : Bool). if b then p ∷ x ∷ (s ++ q ∷ t) else x ∷ with_before q p (s ++ q ∷ t)) n.0 ∙ ap (λ l. x ∷ l) (before_at q p s t n.1)
 
-after_at : (q p : Ptr) (s t : List Ptr) → is_in q s ≡ false → with_after q p (s ++ q ∷ t) ≡ s ++ q ∷ p ∷ t
+pub after_at : (q p : Ptr) (s t : List Ptr) → is_in q s ≡ false → with_after q p (s ++ q ∷ t) ≡ s ++ q ∷ p ∷ t
 after_at q p [] t e = ap (λ (b : Bool). if b then q ∷ p ∷ t else q ∷ with_after q p t) (same_ptr_refl q)
 after_at q p (x ∷ s) t e = let n = not_in q x s e in ap (λ (b : Bool). if b then x ∷ p ∷ (s ++ q ∷ t) else x ∷ with_after q p (s ++ q ∷ t)) n.0 ∙ ap (λ l. x ∷ l) (after_at q p s t n.1)
 

@@ -1,4 +1,5 @@
 pub mod Entries
+pub mod InOrder
 pub mod MultiLends
 pub mod MultiList
 pub mod MultiNodeLends

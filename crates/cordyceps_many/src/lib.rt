@@ -4,6 +4,7 @@
 mod block;
 pub mod hook;
 pub mod hooks;
+pub mod in_order;
 pub mod iter;
 mod links;
 pub mod multi_list;
