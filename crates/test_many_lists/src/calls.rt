@@ -9,6 +9,7 @@ use crate::plain::{Call, Plain, Reply};
 use cordyceps_many::hooks::Hooks;
 use cordyceps_many::multi_list::MultiList;
 use cordyceps_many::node::MultiNode;
+use cordyceps_single::sorted_list::Least;
 use cordyceps_stable::stable_list::Spot;
 use std::alloc::Global;
 use std::process::Abort;
@@ -41,6 +42,11 @@ fn list_holds<H: Hooks>(rt: &impl Abort, lists: &Lists<H>, i: usize, plain: &Pla
         rt,
         (lists.len(i), lists.is_empty(i)),
         (numbers.len(), numbers.is_empty()),
+    );
+    same(
+        rt,
+        lists.iter(i).size_hint(),
+        (numbers.len(), Some(numbers.len())),
     );
     let mut at = lists.first(i);
     for number in numbers {
@@ -132,6 +138,19 @@ fn link_beside<H: Hooks>(
     Reply::Done
 }
 
+/// Links the node at `at` in list `i` where the order of the values puts it, unless it is in that.
+fn link_in_order<H: Hooks>(rt: &impl Abort, lists: &mut Lists<H>, i: usize, at: usize) -> Reply
+    requires { i < H.count }
+{
+    let spot = spot_at(rt, lists, 0, at);
+    at_most(rt, lists.len(i), LONGEST);
+    if lists.is_linked(i, spot) {
+        return Reply::NotMade;
+    }
+    lists.link_in_order(i, spot, &Least);
+    Reply::Done
+}
+
 /// Moves the node at `at` to an end of list `i`, if it is in that.
 fn move_to_end<H: Hooks>(
     rt: &impl Abort,
@@ -198,27 +217,11 @@ fn out<H: Hooks>(node: MultiNode<u64, H>) -> Reply {
     Reply::Out(Some((number, node.into_value())))
 }
 
-/// Makes a call that links nodes. The last of the lists is list `last`.
-fn link<H: Hooks>(rt: &impl Abort, lists: &mut Lists<H>, last: usize, call: Call) -> Reply
+/// Makes a call that moves nodes within a list or takes them out of one. The last of the lists is list `last`.
+fn relink<H: Hooks>(rt: &impl Abort, lists: &mut Lists<H>, last: usize, call: Call) -> Reply
     requires { last < H.count }
 {
     match call {
-        Call::LinkBack(i, at) => {
-            at_most(rt, i, last);
-            link_end(rt, lists, i, at, true)
-        }
-        Call::LinkFront(i, at) => {
-            at_most(rt, i, last);
-            link_end(rt, lists, i, at, false)
-        }
-        Call::LinkBefore(i, at, other) => {
-            at_most(rt, i, last);
-            link_beside(rt, lists, i, (at, other), false)
-        }
-        Call::LinkAfter(i, at, other) => {
-            at_most(rt, i, last);
-            link_beside(rt, lists, i, (at, other), true)
-        }
         Call::MoveToBack(i, at) => {
             at_most(rt, i, last);
             move_to_end(rt, lists, i, at, true)
@@ -240,6 +243,35 @@ fn link<H: Hooks>(rt: &impl Abort, lists: &mut Lists<H>, last: usize, call: Call
             pop_front(lists, i)
         }
         _ => Reply::NotMade,
+    }
+}
+
+/// Makes a call that links nodes. The last of the lists is list `last`.
+fn link<H: Hooks>(rt: &impl Abort, lists: &mut Lists<H>, last: usize, call: Call) -> Reply
+    requires { last < H.count }
+{
+    match call {
+        Call::LinkBack(i, at) => {
+            at_most(rt, i, last);
+            link_end(rt, lists, i, at, true)
+        }
+        Call::LinkFront(i, at) => {
+            at_most(rt, i, last);
+            link_end(rt, lists, i, at, false)
+        }
+        Call::LinkBefore(i, at, other) => {
+            at_most(rt, i, last);
+            link_beside(rt, lists, i, (at, other), false)
+        }
+        Call::LinkAfter(i, at, other) => {
+            at_most(rt, i, last);
+            link_beside(rt, lists, i, (at, other), true)
+        }
+        Call::LinkInOrder(i, at) => {
+            at_most(rt, i, last);
+            link_in_order(rt, lists, i, at)
+        }
+        _ => relink(rt, lists, last, call),
     }
 }
 

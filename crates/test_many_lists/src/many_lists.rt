@@ -4,6 +4,7 @@ use crate::compared::{at_most, made, same};
 use crate::operations::agree;
 use crate::plain::{Call, Plain, Reply};
 use cordyceps_many::hooks::{Hooks, One, Three, Two};
+use cordyceps_many::iter::Iter;
 use cordyceps_many::multi_list::MultiList;
 use cordyceps_many::node::MultiNode;
 use std::alloc::{AllocError, Global};
@@ -48,6 +49,30 @@ const CALLS: &[(Call, Reply)] = &[
     (Call::TakeFirst(0), Reply::Out(Some((0, 50)))),
     (Call::Clear, Reply::Done),
     (Call::TakeFirst(0), Reply::Out(None)),
+    // list 1 is in order, and of two equals the one that was linked first comes first: 5 7 6 4
+    (Call::Insert((4, 7)), Reply::Done),
+    (Call::Insert((5, 3)), Reply::Done),
+    (Call::Insert((6, 7)), Reply::Done),
+    (Call::Insert((7, 5)), Reply::Done),
+    (Call::LinkInOrder(1, 2), Reply::Done),
+    (Call::LinkInOrder(1, 0), Reply::Done),
+    (Call::LinkInOrder(1, 1), Reply::Done),
+    (Call::LinkInOrder(1, 3), Reply::Done),
+    (Call::LinkInOrder(1, 3), Reply::NotMade),
+    (Call::PopFront(1), Reply::At(Some(5))),
+    (Call::PopFront(1), Reply::At(Some(7))),
+    (Call::PopFront(1), Reply::At(Some(6))),
+    (Call::PopFront(1), Reply::At(Some(4))),
+    (Call::PopFront(1), Reply::At(None)),
+    // in a list that is not in order, a node goes after the last that is not greater
+    (Call::LinkBack(2, 0), Reply::Done),
+    (Call::LinkBack(2, 1), Reply::Done),
+    (Call::LinkBack(2, 2), Reply::Done),
+    (Call::LinkInOrder(2, 3), Reply::Done),
+    (Call::PopFront(2), Reply::At(Some(4))),
+    (Call::PopFront(2), Reply::At(Some(5))),
+    (Call::PopFront(2), Reply::At(Some(7))),
+    (Call::PopFront(2), Reply::At(Some(6))),
 ];
 
 #[test]
@@ -72,6 +97,34 @@ fn a_node_keeps_its_number_and_its_value(rt: HostRuntime) {
     let node = lists.remove(spot);
     same(&rt, (node.id(), *node.get()), (5, 40));
     same(&rt, node.into_value(), 40);
+}
+
+/// Returns the value of the next node that is left.
+fn next_value(left: &mut Iter<'_, u64, Two>) -> Option<u64> {
+    match left.next() {
+        Some((_, value)) => Some(*value),
+        None => None,
+    }
+}
+
+#[test]
+fn an_iterator_knows_how_many_are_left(rt: HostRuntime) {
+    let mut lists: Lists<Two> = MultiList::new();
+    for number in 0..3u64 {
+        at_most(&rt, lists.len(0), 3);
+        let node = made(&rt, MultiNode::new(rt.alloc(), number, number));
+        let spot = lists.insert(node);
+        at_most(&rt, lists.len(1), 3);
+        lists.link_front(1, spot);
+    }
+    let mut left = lists.iter(1);
+    for wanted in [2u64, 1, 0] {
+        let count = (wanted as usize).wrapping_add(1);
+        same(&rt, left.size_hint(), (count, Some(count)));
+        same(&rt, next_value(&mut left), Some(wanted));
+    }
+    same(&rt, left.size_hint(), (0, Some(0)));
+    same(&rt, next_value(&mut left), None);
 }
 
 /// Creates a node with a value whose drop is counted.

@@ -25,8 +25,8 @@ fn drawn(draws: &mut Draws, len: usize, last: usize, number: u64) -> Call {
     }
     let at = draws.place(len.saturating_sub(1));
     let other = draws.place(len.saturating_sub(1));
-    match draws.below(20) {
-        0 | 1 | 2 if len < MOST => Call::Insert((number, value)),
+    match draws.below(22) {
+        0 | 1 | 2 if len < MOST => Call::Insert((number, value % 8)),
         0 => Call::Remove(at),
         1 => Call::TakeFirst(i),
         2 => Call::UnlinkOthers(at),
@@ -41,6 +41,9 @@ fn drawn(draws: &mut Draws, len: usize, last: usize, number: u64) -> Call {
         16 => Call::EnsureUnlinked(i, at),
         17 => Call::Remove(at),
         18 if value == 0 => Call::Clear,
+        // few values are drawn, so that some are equal
+        18 => Call::Write(at, value % 8),
+        20 | 21 => Call::LinkInOrder(i, at),
         _ => Call::PopFront(i),
     }
 }

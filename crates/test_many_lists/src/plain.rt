@@ -24,6 +24,8 @@ pub enum Call {
     LinkBefore(usize, usize, usize),
     /// Links the first of two nodes after the second.
     LinkAfter(usize, usize, usize),
+    /// Links the node at this place where the order of the values puts it.
+    LinkInOrder(usize, usize),
     Unlink(usize, usize),
     EnsureUnlinked(usize, usize),
     UnlinkOthers(usize),
@@ -127,6 +129,18 @@ impl Plain {
         }
     }
 
+    /// Returns where the order of the values puts a number in a list: after the last whose value is not greater.
+    fn place_in_order(&self, rt: &impl Abort, i: usize, number: u64) -> usize {
+        let value = self.value(rt, number);
+        let mut at = 0usize;
+        for (before, other) in self.list(i).iter().enumerate() {
+            if self.value(rt, *other) <= value {
+                at = before.wrapping_add(1);
+            }
+        }
+        at
+    }
+
     /// Inserts a number into a list, at `place`, and there before or after another number. It is not made if the list
     /// has the number, or has not the other.
     fn link(&mut self, rt: &impl Abort, i: usize, number: u64, to: To) -> Reply {
@@ -139,6 +153,7 @@ impl Plain {
             To::Back => Some(list.len()),
             To::Before(other) => place(list, other),
             To::After(other) => place(list, other).map(|it| it.wrapping_add(1)),
+            To::InOrder => Some(self.place_in_order(rt, i, number)),
         };
         match at {
             Some(at) => put(rt, self.list_mut(rt, i), at, number),
@@ -214,6 +229,14 @@ impl Plain {
                     To::After(self.number(rt, other)),
                 )
             }
+            Call::LinkInOrder(i, at) => self.link(rt, i, self.number(rt, at), To::InOrder),
+            _ => self.call_of_moves(rt, call),
+        }
+    }
+
+    /// Does what a call does that moves numbers within a list or takes them out of one.
+    fn call_of_moves(&mut self, rt: &impl Abort, call: Call) -> Reply {
+        match call {
             Call::MoveToBack(i, at) => self.moved(rt, i, self.number(rt, at), To::Back),
             Call::MoveToFront(i, at) => self.moved(rt, i, self.number(rt, at), To::Front),
             Call::Unlink(i, at) => {
@@ -258,4 +281,5 @@ enum To {
     Back,
     Before(u64),
     After(u64),
+    InOrder,
 }
