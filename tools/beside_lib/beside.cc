@@ -38,6 +38,7 @@ int main(int count, char **words) {
   add_border();
 #else
   add_lists();
+  add_many();
   add_shared();
 #endif
   std::string asked = count > 1 ? words[1] : "";

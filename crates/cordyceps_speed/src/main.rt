@@ -20,6 +20,7 @@ use cordyceps_base::shared::MAX_ROOMS;
 use cordyceps_speed_rows::fault::Fault;
 use cordyceps_speed_rows::free_lists::show_free_lists;
 use cordyceps_speed_rows::lists::show_lists;
+use cordyceps_speed_rows::many::show_many;
 use cordyceps_speed_rows::queues::show_queues;
 use cordyceps_speed_rows::sorteds::show_sorteds;
 use cordyceps_speed_rows::stable_sorteds::{show_by_spots, show_clocks, show_heaps, show_inserts};
@@ -67,6 +68,7 @@ const SHARED: usize = 64;
 enum Rows {
     Lists,
     Stables,
+    Many,
     Stacks,
     Sorteds,
     Heaps,
@@ -79,9 +81,10 @@ enum Rows {
 }
 
 /// The words that ask for them.
-const ROWS: [(&str, Rows); 19] = [
+const ROWS: [(&str, Rows); 20] = [
     ("lists", Rows::Lists),
     ("stables", Rows::Stables),
+    ("many", Rows::Many),
     ("stacks", Rows::Stacks),
     ("sorteds", Rows::Sorteds),
     ("heaps", Rows::Heaps),
@@ -188,10 +191,11 @@ fn ask(rt: &HostRuntime) -> Result<Asked, Fault> {
 fn show_owned<R: Clock + Print>(rt: &R, alloc: Global, table: Table) -> Result<u64, Fault> {
     let lists = show_lists(rt, alloc, table, ELEMENTS)?;
     let stables = show_stables(rt, alloc, table, ELEMENTS)?;
+    let many = show_many(rt, alloc, table, ELEMENTS)?;
     let stacks = show_stacks(rt, alloc, table, ELEMENTS)?;
     let sorteds = show_sorteds(rt, alloc, table, FEW)?;
     let others = stables.wrapping_add(stacks).wrapping_add(sorteds);
-    Ok(lists.wrapping_add(others))
+    Ok(lists.wrapping_add(many).wrapping_add(others))
 }
 
 /// How many go into heaps and queues of times, and how many timers run.
@@ -282,6 +286,7 @@ fn show_alone<R: Clock + Print + Threads + Wait + Sync>(
     let _seen = match rows {
         Rows::Lists => show_lists(rt, alloc, table, count)?,
         Rows::Stables => show_stables(rt, alloc, table, count)?,
+        Rows::Many => show_many(rt, alloc, table, count)?,
         Rows::Stacks => show_stacks(rt, alloc, table, count)?,
         Rows::Sorteds => show_sorteds(rt, alloc, table, count)?,
         Rows::Heaps => show_heaps(rt, alloc, table, count)?,

@@ -8,6 +8,7 @@ pub mod ends;
 pub mod fault;
 pub mod free_lists;
 pub mod lists;
+pub mod many;
 pub mod nodes;
 pub mod numbered;
 pub mod numbered_clock;
