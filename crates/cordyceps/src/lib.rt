@@ -8,7 +8,7 @@
 //! A [`StableList`] returns a [`Spot`] for each element: a stable pointer, by which the element is reached, removed and
 //! moved in O(1). A [`StableSortedList`] does so too, and an order keeps it sorted. A [`StableHeap`] is a priority
 //! queue for many elements. A [`ClockQueue`] is one for times: it has the earliest first, and takes none that has
-//! passed. The nodes of a [`MultiList`] are in several lists at once.
+//! passed. The nodes of a [`MultiList`] are in several lists at once. Those of a [`StableMap`] are also found by a key.
 //!
 //! A [`TransferStack`] is shared by threads, without a lock: each pushes to it through a party of its own, and takes
 //! all its elements at once. An [`MpscQueue`] is shared in the same way: many put elements in, and one at a time takes
@@ -33,6 +33,7 @@ pub mod sorted_list;
 pub mod sorting;
 pub mod stable_heap;
 pub mod stable_list;
+pub mod stable_map;
 pub mod stable_sorted_list;
 pub mod stack;
 
@@ -44,6 +45,8 @@ pub use cordyceps_heap::stable_heap::StableHeap;
 pub use cordyceps_list::list::List;
 pub use cordyceps_many::multi_list::MultiList;
 pub use cordyceps_many::node::MultiNode;
+pub use cordyceps_map::map_node::MapNode;
+pub use cordyceps_map::stable_map::StableMap;
 pub use cordyceps_queue::mpsc_queue::MpscQueue;
 pub use cordyceps_stable::stable_list::{Spot, StableList};
 pub use cordyceps_stable::stable_sorted_list::StableSortedList;

@@ -23,7 +23,7 @@ from_mid : (p : Ptr) (l t : List Ptr) → is_in p l ≡ false → from_spot p (l
 from_mid p [] t e = ap (λ (b : Bool). if b then p ∷ t else from_spot p t) (same_ptr_refl p)
 from_mid p (x ∷ l) t e = let n = not_in p x l e in ap (λ (b : Bool). if b then x ∷ (l ++ p ∷ t) else from_spot p (l ++ p ∷ t)) n.0 ∙ from_mid p l t n.1
 
-from_here : (s : List Ptr) (p : Ptr) (l t : List Ptr) → s ≡ l ++ p ∷ t → AreDistinct s → from_spot p s ≡ p ∷ t
+pub from_here : (s : List Ptr) (p : Ptr) (l t : List Ptr) → s ≡ l ++ p ∷ t → AreDistinct s → from_spot p s ≡ p ∷ t
 from_here s p l t e d = ap (from_spot p) e ∙ from_mid p l t (clear_front l p t (subst AreDistinct e d))
 
 pub place_first : (o : Option Ptr) (s : List Ptr) → MatchOption o (s ≡ []) (λ p. IsFirstOf s p) → from_place o s ≡ s

@@ -1,4 +1,14 @@
 //! Lists that share their nodes: a node is in list 0, and at the same time in any of the others.
+//!
+//! A node of two lists is one block of memory. It has a hook for each list: its neighbours there, and whether the list
+//! has it.
+//!
+//! ```text
+//!            hook 0               hook 1
+//! +------+------+--------+------+------+--------+----+-------+
+//! | next | prev | linked | next | prev | linked | id | value |
+//! +------+------+--------+------+------+--------+----+-------+
+//! ```
 ghost use Rattle.std.specs.Prelude.{◌≡◌, ◌≢◌, ℕ, ◌+◌, ◌<◌, ◌==◌, List, [], ◌∷◌, ◌++◌, length, true, false};
 ghost use Rattle.std.specs.Prelude.{MatchOption, IfSome, slice_get, Some};
 ghost use Rattle.std.specs.Borrow.{sem};

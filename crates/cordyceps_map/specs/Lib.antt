@@ -1,0 +1,5 @@
+pub mod Chains
+pub mod MapLends
+pub mod Seeded
+pub mod Shown
+pub mod StableMap

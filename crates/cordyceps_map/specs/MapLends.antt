@@ -1,0 +1,30 @@
+-- What a map ends as, once a loan of a value has ended.
+use Rattle.std.specs.Prelude.{ℕ, zero, suc, [], ◌∷◌}
+use Rattle.std.specs.Borrow.{Fml, RattleType, MutBor, Lends}
+use Rattle.std.specs.HashMap.Lent.{HashMembers}
+use Rattle.core.specs.declared.hash.Hasher as hasher
+use Rattle.core.specs.declared.hash.build.BuildHasher as builder
+use denote.RawPtr.{Ptr}
+use Rattle.cordyceps_base.specs.Nodes.{Nodes, spots}
+use Rattle.cordyceps_base.specs.Spots.{index_of}
+use Rattle.cordyceps_many.specs.declared.hooks.Rows as rows
+use Rattle.cordyceps_many.specs.MultiList.{Multi}
+use Rattle.cordyceps_map.specs.contracts.stable_map.StableMap.{the_row}
+
+-- the same nodes with w as the value of the k-th
+abbrev pub with_second : {K V : Type 0} → Nodes (K × V) → ℕ → V → Nodes (K × V)
+with_second [] k w = []
+with_second (n ∷ c) zero w = (n.0, record { id = n.1.id; value = (n.1.value.0, w) }) ∷ c
+with_second (n ∷ c) (suc k) w = n ∷ with_second c k w
+
+-- the value at the spot p is w, and nothing else changes
+abbrev pub with_value_at : {K V : Type 0} → Multi (K × V) → Ptr → V → Multi (K × V)
+with_value_at v p w = record { nodes = with_second v.nodes (index_of p (spots v.nodes)) w; lists = v.lists }
+
+-- the value at the spot p is the last one written through r, and nothing else changes
+abbrev pub LendsValueAt : (K V H S A E B : RattleType) (key : HashMembers K.Denot) (g : rows.Ghosts H.Denot A.Denot E.Denot)
+    (b : builder.Ghosts S.Denot B.Denot) (h : hasher.Ghosts B.Denot) → MutBor (Multi (K.Denot × V.Denot)) → Ptr →
+    MutBor V.Denot → Fml
+LendsValueAt K V H S A E B key g b h l p r =
+    Lends (the_row K V H S A E B (record { eq = key.eq }) (record { hash_input = key.hash_input }) g b h) V l r
+    (with_value_at l.now p)

@@ -1,0 +1,47 @@
+-- Maps whose nodes are in lists at the same time.
+use Rattle.std.specs.Prelude.{◌≡◌, ◌<◌, ℕ, Bool, List, true, [], ◌∷◌, ◌++◌, Option, Some, None, MatchOption}
+use Rattle.std.specs.Map.{lookup, lookup_entry}
+use denote.RawPtr.{Ptr}
+use Rattle.cordyceps_base.specs.BySpot.{HoldsAt, IsTaken}
+use Rattle.cordyceps_base.specs.Element.{Element, values}
+use Rattle.cordyceps_base.specs.Nodes.{Nodes, elements}
+use Rattle.cordyceps_many.specs.Entries.{value_at}
+use Rattle.cordyceps_many.specs.MultiList.{Multi, list_at, SameBut}
+use Rattle.cordyceps_many.specs.Threads.{without}
+
+module _ {K V : Type 0} where
+  -- the keys with their values, in the order in which the nodes came
+  abbrev pub pairs : Nodes (K × V) → List (K × V)
+  pairs c = values (elements c)
+
+  -- no two nodes have equal keys
+  abbrev pub AreApart : (K → K → Bool) → Nodes (K × V) → Type 0
+  AreApart eq c = (p q : Ptr) (x y : K × V) → value_at c p ≡ Some x → value_at c q ≡ Some y → eq x.0 y.0 ≡ true → p ≡ q
+
+  -- the node of the key k is at p
+  pub record IsFound (eq : K → K → Bool) (c : Nodes (K × V)) (k : K) (p : Ptr) : Type 0 where
+    pub pair : K × V
+    pub held : HoldsAt c p pair
+    pub found : lookup_entry (eq k) (pairs c) ≡ Some pair
+
+  -- the node n of the key k was taken out of the map v and of its first `count` lists, and w is left
+  pub record IsRemoved (eq : K → K → Bool) (count : ℕ) (v : Multi (K × V)) (k : K) (n : Element (K × V)) (w : Multi (K × V))
+      : Type 0 where
+    pub spot : Ptr
+    pub found : IsFound eq v.nodes k spot
+    pub taken : IsTaken v.nodes spot n w.nodes
+    pub lists : (j : ℕ) → j < count → list_at j w.lists ≡ without spot (list_at j v.lists)
+
+  -- the node n came into the map v and to the back of list 0, is at p, and w is the map then
+  pub record IsAdded (v : Multi (K × V)) (p : Ptr) (n : Element (K × V)) (w : Multi (K × V)) : Type 0 where
+    pub nodes : w.nodes ≡ v.nodes ++ (p, n) ∷ []
+    pub list : list_at 0 w.lists ≡ list_at 0 v.lists ++ p ∷ []
+    pub others : SameBut 0 v.lists w.lists
+
+  -- the node n is in the map at p in the place of the one that had its key, if there was one
+  pub record IsInserted (eq : K → K → Bool) (count : ℕ) (v : Multi (K × V)) (n : Element (K × V)) (p : Ptr)
+      (old : Option (Element (K × V))) (w : Multi (K × V)) : Type 0 where
+    pub rest : Multi (K × V)
+    pub replaced : MatchOption old ((lookup (eq n.value.0) (pairs v.nodes) ≡ None) × (rest ≡ v))
+        (λ o. IsRemoved eq count v n.value.0 o rest)
+    pub added : IsAdded rest p n w

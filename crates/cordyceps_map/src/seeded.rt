@@ -1,0 +1,39 @@
+//! Hashing with keys of the caller's.
+ghost use Rattle.std.specs.Prelude.{◌≡◌};
+ghost use Rattle.core.specs.Hash.DefaultHasher.{with_keys};
+ghost use Rattle.cordyceps_map.specs.Seeded.{first_state};
+
+use core::hash::keyed_hasher;
+use std::hash::{BuildHasher, DefaultHasher};
+
+/// Hashes by SipHash-1-3 with two keys of the caller's.
+///
+/// If others choose the keys of a map, take the two numbers from a source of random numbers. Others who do not know them
+/// cannot choose keys that share a bucket.
+#[derive(Clone, Copy)]
+pub struct Seeded {
+    key0: u64,
+    key1: u64,
+}
+
+impl Seeded {
+    /// Creates the hashing by two keys.
+    ///
+    /// # Complexity
+    /// O(1).
+    pub fn new(key0: u64, key1: u64) -> Seeded
+        ensures { first_state result ≡ with_keys key0 key1 }
+    {
+        Seeded { key0, key1 }
+    }
+}
+
+impl BuildHasher for Seeded {
+    type Hasher = DefaultHasher;
+
+    ghost build_hasher = { first_state };
+
+    fn build_hasher(&self) -> DefaultHasher {
+        keyed_hasher(self.key0, self.key1)
+    }
+}
