@@ -3,6 +3,7 @@
 
 pub mod connections;
 pub mod examples;
+pub mod expiring;
 pub mod job;
 pub mod pooled_queue;
 pub mod recency;

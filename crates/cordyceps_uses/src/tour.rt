@@ -1,10 +1,12 @@
 //! Short examples with each collection.
-ghost use Rattle.std.specs.Prelude.{◌≡◌, ◌+◌, ◌<◌, [], ◌∷◌, ◌++◌, take, drop, length, min, option_map, Some, IfOk, IfErr, OnOk, OnErr, MatchOption};
+ghost use Rattle.std.specs.Prelude.{◌≡◌, ◌+◌, ◌<◌, [], ◌∷◌, ◌++◌, take, drop, length, min, nat_eq, option_map, Some, IfOk, IfErr, OnOk, OnErr, MatchOption};
 ghost use denote.RawPtr.{Ptr};
 ghost use Rattle.cordyceps.specs.Elements.Nodes.{spots};
 ghost use Rattle.cordyceps.specs.Orders.Arrangement.{IsEarliestLeast};
 ghost use Rattle.cordyceps.specs.Spots.MultiList.{list_at};
 ghost use Rattle.cordyceps.specs.Spots.Spots.{AreDistinct};
+ghost use Rattle.cordyceps.specs.Spots.StableMap.{pairs};
+ghost use Rattle.std.specs.Map.{lookup};
 ghost use Rattle.cordyceps_uses.specs.Ranks.{comes_before};
 
 use crate::job::Job;
@@ -12,12 +14,14 @@ use crate::waiting::Waiting;
 use cordyceps::mpsc_queue::Batch;
 use cordyceps::multi_list::{MultiList, MultiNode, Spot, Two};
 use cordyceps::sorted_list::Least;
+use cordyceps::stable_map::{MapNode, StableMap};
 use cordyceps::{
     List, MpscQueue, Node, Refused, SortedList, StableList, Stack, TransferStack, list, mpsc_queue,
     stack,
 };
 use freelist::FreeList;
 use std::alloc::{AllocError, Global};
+use std::hash::BuildHasher;
 use std::sync::ledger::{Ledger, Share};
 use std::sync::{Mutex, Wait};
 
@@ -231,6 +235,28 @@ pub fn start_job(jobs: &mut MultiList<Job, Two>, job: MultiNode<Job, Two>) -> Sp
     // The same node is also in list 1.
     jobs.link_back(1, spot);
     spot
+}
+
+/// Puts a job into a table of jobs by their numbers, and among those that are ready. Returns the job that had the number
+/// before, which is in no list any more.
+///
+/// Requires fewer than `usize::MAX` jobs.
+///
+/// # Complexity
+/// O(1) expected.
+pub fn admit_job<S: BuildHasher>(
+    jobs: &mut StableMap<u64, Job, Two, S>,
+    job: MapNode<u64, Job, Two>,
+) -> Option<MapNode<u64, Job, Two>>
+    requires all_fit { length (list_at 0 jobs.old.lists) < usize.MAX }
+    requires ready_fit { length (list_at 1 jobs.old.lists) < usize.MAX }
+    ensures found { lookup (nat_eq job.value.0) (pairs jobs.new.nodes) ≡ Some job.value.1 }
+{
+    // A node that has the key is replaced, and comes back.
+    let inserted = jobs.insert(job);
+    // The same node is also in list 1.
+    jobs.link_back(1, inserted.spot);
+    inserted.replaced
 }
 
 /// Puts a block back as the owner of a free list does, and another as another thread does, and then gets a block. It

@@ -10,6 +10,8 @@ mod connections;
 #[cfg(test)]
 mod examples;
 #[cfg(test)]
+mod expiring;
+#[cfg(test)]
 mod made;
 #[cfg(test)]
 mod pools;
