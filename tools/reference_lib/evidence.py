@@ -1,4 +1,4 @@
-"""What holds a contract: the promises of docs/THEOREMS.md and docs/PROGRAM_THEOREMS.md, and the wrong bodies."""
+"""What holds a contract: the promises of the documents of theorems, and the wrong bodies."""
 
 import importlib.machinery
 import importlib.util
@@ -10,7 +10,7 @@ from types import SimpleNamespace
 
 from . import sources
 
-DOCUMENTS = ("THEOREMS.md", "PROGRAM_THEOREMS.md")
+DOCUMENTS = ("THEOREMS.md", "SHARED_THEOREMS.md", "PROGRAM_THEOREMS.md")
 
 # A promise: its document, its section, its name, its crate, its sentences, its points by their first words, and the
 # functions that it cites. A section is its title, and what it says before its first promise.
