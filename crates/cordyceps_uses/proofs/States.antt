@@ -114,7 +114,7 @@ module _ {K V : Type 0} (eq : K → K → Bool) (laws : IsEquivalence eq) (m : M
     -- ---- the node at p goes
     module _ (e : Element (Entry K V)) (is : e.value ≡ x) (w : Multi (Entry K V)) (taken : IsTaken m.nodes p e w.nodes) (lists : (j : ℕ) → j < 2 → list_at j w.lists ≡ without p (list_at j m.lists)) where
       kept : (q : Ptr) → same_ptr q p ≡ false → value_at w.nodes q ≡ value_at m.nodes q
-      kept q other = ap (λ z. value_at z q) taken.3 ∙ value_left taken.0 taken.1 p e q other ∙ sym (ap (λ z. value_at z q) taken.2)
+      kept q other = let (before, after, was, left) = taken in ap (λ z. value_at z q) left ∙ value_left before after p e q other ∙ sym (ap (λ z. value_at z q) was)
 
       left_order : (i : ℕ) → i < 2 → (r : Cut (list_at i m.lists)) → in_order w.nodes (list_at i w.lists) ≡ in_order m.nodes (r.front ++ r.back)
       left_order i l r = ap (in_order w.nodes) (lists i l ∙ r.left) ∙ framed m.nodes w.nodes (r.front ++ r.back) (λ q h. kept q (differ q p (r.front ++ r.back) h r.out))
