@@ -6,7 +6,7 @@ use Rattle.cordyceps_base.specs.Spots.{same_ptr}
 use Rattle.cordyceps_base.proofs.SpotsMemory.{same_ptr_eq, same_ptr_refl}
 use Rattle.cordyceps_many.specs.declared.hook.Hook.{Hook}
 use Rattle.cordyceps_many.specs.declared.hook.Ends.{Ends}
-use Rattle.cordyceps_many.specs.Threads.{is_in, with_before, with_after, Once, Chain, IsThread, IsParted, Wrote, IsLedOn, IsLedBack}
+use Rattle.cordyceps_many.specs.Threads.{is_in, with_before, with_after, Once, Chain, IsThread, IsOpen, IsParted, Wrote, IsLedOn, IsLedBack}
 use Rattle.cordyceps_many.proofs.Members.{in_mid, other_mid}
 use Rattle.cordyceps_many.proofs.Threads.{split, other_way, in_there, in_append, not_in, not_in_append, differ, Parts, parts, apart, chain_keep, chain_join, chain_front, chain_back, same_but, last_end, last_in, last_where, first_where, front_led, back_led, on_same, back_same, on_marks, back_marks}
 
@@ -30,7 +30,7 @@ once_mid : (s t : List Ptr) (a : Ptr) → Once (s ++ t) → is_in a (s ++ t) ≡
 once_mid [] t a o e = (e, o)
 once_mid (x ∷ s) t a o e = let n = not_in a x (s ++ t) e in (other_mid x a s t (other_way a x n.0) ∙ o.0, once_mid s t a o.1 n.1)
 
-module _ (f0 f1 f2 f3 : Ptr → Hook) (e : Ends) (s t : List Ptr) (a prev next first last : Address) (w : IsThread f0 e (s ++ t)) (d : IsParted f0 e s prev.ptr next.ptr t) (away : is_in a.ptr (s ++ t) ≡ false) (solid : (x : Ptr) → is_in x (s ++ t) ≡ true → InBlock x)
+module _ (f0 f1 f2 f3 : Ptr → Hook) (e : Ends) (s t : List Ptr) (a prev next first last : Address) (w : IsOpen f0 e (s ++ t) a.ptr) (d : IsParted f0 e s prev.ptr next.ptr t) (solid : (x : Ptr) → is_in x (s ++ t) ≡ true → InBlock x)
     (set : Wrote f0 a.ptr (record { next = next; prev = prev; linked = true }) f1) (on : IsLedOn f1 prev.ptr a e.first.ptr f2 first.ptr) (back : IsLedBack f2 next.ptr a e.last.ptr f3 last.ptr) where
   abbrev h : Hook
   h = record { next = next; prev = prev; linked = true }
@@ -39,10 +39,10 @@ module _ (f0 f1 f2 f3 : Ptr → Hook) (e : Ends) (s t : List Ptr) (a prev next f
   o = halves s t w.once
 
   apart_s : is_in a.ptr s ≡ false
-  apart_s = (not_in_append a.ptr s t away).0
+  apart_s = (not_in_append a.ptr s t w.away).0
 
   apart_t : is_in a.ptr t ≡ false
-  apart_t = (not_in_append a.ptr s t away).1
+  apart_t = (not_in_append a.ptr s t w.away).1
 
   solid_s : (x : Ptr) → is_in x s ≡ true → InBlock x
   solid_s x i = solid x (in_append x s t ∙ ap (λ (b : Bool). if b then true else is_in x t) i)
@@ -71,10 +71,10 @@ module _ (f0 f1 f2 f3 : Ptr → Hook) (e : Ends) (s t : List Ptr) (a prev next f
   pub thread_between : IsThread f3 (record { first = first; last = last; len = e.len + 1 }) (s ++ a.ptr ∷ t)
   thread_between = record {
     long = let long = w.long in let l = length-append s (a.ptr ∷ t) in let m = length-append s t in omega (arith, long, l, m);
-    once = once_mid s t a.ptr w.once away;
+    once = once_mid s t a.ptr w.once w.away;
     marks = λ q. back_marks f2 f3 next.ptr a e.last.ptr last.ptr back q ∙ on_marks f1 f2 prev.ptr a e.first.ptr first.ptr on q ∙ split (same_ptr a.ptr q)
         (λ same. subst (λ z. (f1 z).linked ≡ is_in z (s ++ a.ptr ∷ t)) (same_ptr_eq a.ptr q same) (ap (λ (k : Hook). k.linked) set.here ∙ sym (in_mid a.ptr s t)))
-        (λ other. ap (λ (k : Hook). k.linked) (set.others q other) ∙ w.marks q ∙ sym (other_mid q a.ptr s t (other_way a.ptr q other)));
+        (λ other. ap (λ (k : Hook). k.linked) (set.others q other) ∙ w.marks q other ∙ sym (other_mid q a.ptr s t (other_way a.ptr q other)));
     chain = chain_join f3 null_ptr first.ptr s prev.ptr a.ptr (a.ptr ∷ t) last.ptr null_ptr front3 ((refl, ap (λ (k : Hook). k.prev.ptr) kept), subst (λ z. Chain f3 a.ptr z t last.ptr null_ptr) (sym (ap (λ (k : Hook). k.next.ptr) kept)) back3);
   }
 
@@ -87,7 +87,7 @@ pub after_at : (q p : Ptr) (s t : List Ptr) → is_in q s ≡ false → with_aft
 after_at q p [] t e = ap (λ (b : Bool). if b then q ∷ p ∷ t else q ∷ with_after q p t) (same_ptr_refl q)
 after_at q p (x ∷ s) t e = let n = not_in q x s e in ap (λ (b : Bool). if b then x ∷ p ∷ (s ++ q ∷ t) else x ∷ with_after q p (s ++ q ∷ t)) n.0 ∙ ap (λ l. x ∷ l) (after_at q p s t n.1)
 
-module _ (f : Ptr → Hook) (e : Ends) (s : List Ptr) (q : Ptr) (w : IsThread f e s) (there : is_in q s ≡ true) where
+module _ (f : Ptr → Hook) (e : Ends) (s : List Ptr) (q : Ptr) (once : Once s) (chain : Chain f null_ptr e.first.ptr s e.last.ptr null_ptr) (there : is_in q s ≡ true) where
   abbrev u : Parts q s
   u = parts q s there
 
@@ -101,7 +101,7 @@ module _ (f : Ptr → Hook) (e : Ends) (s : List Ptr) (q : Ptr) (w : IsThread f 
   parted = u.whole
 
   chained : Chain f null_ptr e.first.ptr (u.front ++ q ∷ u.back) e.last.ptr null_ptr
-  chained = subst (λ l. Chain f null_ptr e.first.ptr l e.last.ptr null_ptr) u.whole w.chain
+  chained = subst (λ l. Chain f null_ptr e.first.ptr l e.last.ptr null_ptr) u.whole chain
 
   front0 : Chain f null_ptr e.first.ptr u.front (f q).prev.ptr q
   front0 = chain_front f null_ptr e.first.ptr u.front q u.back e.last.ptr null_ptr chained
@@ -119,7 +119,7 @@ module _ (f : Ptr → Hook) (e : Ends) (s : List Ptr) (q : Ptr) (w : IsThread f 
   joined_after = parted ∙ sym (append_assoc u.front (q ∷ []) u.back)
 
   clear : is_in q u.front ≡ false
-  clear = (apart u.front q u.back (subst Once u.whole w.once)).before
+  clear = (apart u.front q u.back (subst Once u.whole once)).before
 
   pub before_is : (p : Ptr) → front_of ++ p ∷ q ∷ back_of ≡ with_before q p s
   before_is p = sym (ap (with_before q p) u.whole ∙ before_at q p u.front u.back clear)

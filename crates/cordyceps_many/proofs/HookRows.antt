@@ -1,6 +1,6 @@
 -- What one written hook leaves of a row.
 use Rattle.std.proofs.Common.{◌≡◌, ◌≢◌, ℕ, zero, suc, ◌<◌, Bool, true, false, if◌then◌else◌, List, [], ◌∷◌, ◌++◌, length, drop, slice_get, Some, refl, sym, ap, ◌∙◌, subst, arith}
-use lib.ListN.{set, replicate}
+use lib.ListN.{set}
 use Rattle.cordyceps_base.specs.declared.boxes.homes.Home.{Home}
 use denote.RawPtr.{Ptr}
 use Rattle.cordyceps_base.specs.Boxes.{box_addresses, box_values, set_value}
@@ -118,6 +118,11 @@ module _ {X Y A E : Type 0} where
           (λ other. at_other ns p q (with_hook b i h) j other);
     }
 
+  -- hook i of the node at p is changed
+  pub hook_changed : (ns : List (Held X Y A E)) (i : ℕ) (p : Ptr) (b : Block X Y A E) (k : Hook → Hook) → is_in p (box_addresses ns) ≡ true → slice_get (box_values ns) (index_of p (box_addresses ns)) ≡ Some b → i < length b.hooks → Wrote (hook_at ns i) p (k (hook_at ns i p)) (hook_at (set_value ns (index_of p (box_addresses ns)) (with_hook b i (k (hook_in b.hooks i)))) i)
+  hook_changed ns i p b k there at fits =
+      subst (λ h. Wrote (hook_at ns i) p (k h) (hook_at (set_value ns (index_of p (box_addresses ns)) (with_hook b i (k (hook_in b.hooks i)))) i)) (sym (hook_on ns p b i at)) (hook_wrote ns i p b (k (hook_in b.hooks i)) there at fits)
+
   -- ---- several writes
   pub keeps_none : (i : ℕ) (ns : List (Held X Y A E)) → KeepsOthers i ns ns
   keeps_none i ns = record { addresses = refl; nodes = refl; hooks = λ j n q. refl }
@@ -132,11 +137,15 @@ module _ {X Y A E : Type 0} where
       (λ same. ap (λ (b : Bool). if b then hook_in (block_of n).hooks i else hook_at (ns ++ ms) i q) same ∙ sym (ap (λ (b : Bool). if b then hook_in (block_of n).hooks i else hook_at ns i q) same))
       (λ other. ap (λ (h : Hook). if same_ptr q n.0 then hook_in (block_of n).hooks i else h) (at_joined ns ms i q (sym (in_there q n.0 (box_addresses ns) other) ∙ e)))
 
-  pub marks_joined : (ns : List (Held X Y A E)) (p : Ptr) (a : Home) (x : Block X Y A E) (i : ℕ) (q : Ptr) → AllOff x.hooks → (hook_at (ns ++ (p, a, x) ∷ []) i q).linked ≡ (hook_at ns i q).linked
-  marks_joined [] p a x i q off = split (same_ptr q p) (λ same. ap (λ (b : Bool). (if b then hook_in x.hooks i else unlinked).linked) same ∙ off i) (λ other. ap (λ (b : Bool). (if b then hook_in x.hooks i else unlinked).linked) other)
-  marks_joined (n ∷ ns) p a x i q off = split (same_ptr q n.0)
+  pub other_joined : (ns : List (Held X Y A E)) (p : Ptr) (a : Home) (x : Block X Y A E) (i : ℕ) (q : Ptr) → same_ptr p q ≡ false → hook_at (ns ++ (p, a, x) ∷ []) i q ≡ hook_at ns i q
+  other_joined [] p a x i q e = ap (λ (b : Bool). if b then hook_in x.hooks i else unlinked) (other_way p q e)
+  other_joined (n ∷ ns) p a x i q e = ap (λ (h : Hook). if same_ptr q n.0 then hook_in (block_of n).hooks i else h) (other_joined ns p a x i q e)
+
+  pub marks_joined : (ns : List (Held X Y A E)) (p : Ptr) (a : Home) (x : Block X Y A E) (i : ℕ) (q : Ptr) → 0 < i → AllOff x.hooks → (hook_at (ns ++ (p, a, x) ∷ []) i q).linked ≡ (hook_at ns i q).linked
+  marks_joined [] p a x i q m off = split (same_ptr q p) (λ same. ap (λ (b : Bool). (if b then hook_in x.hooks i else unlinked).linked) same ∙ off i m) (λ other. ap (λ (b : Bool). (if b then hook_in x.hooks i else unlinked).linked) other)
+  marks_joined (n ∷ ns) p a x i q m off = split (same_ptr q n.0)
       (λ same. ap (λ (b : Bool). (if b then hook_in (block_of n).hooks i else hook_at (ns ++ (p, a, x) ∷ []) i q).linked) same ∙ sym (ap (λ (b : Bool). (if b then hook_in (block_of n).hooks i else hook_at ns i q).linked) same))
-      (λ other. ap (λ (b : Bool). (if b then hook_in (block_of n).hooks i else hook_at (ns ++ (p, a, x) ∷ []) i q).linked) other ∙ marks_joined ns p a x i q off ∙ sym (ap (λ (b : Bool). (if b then hook_in (block_of n).hooks i else hook_at ns i q).linked) other))
+      (λ other. ap (λ (b : Bool). (if b then hook_in (block_of n).hooks i else hook_at (ns ++ (p, a, x) ∷ []) i q).linked) other ∙ marks_joined ns p a x i q m off ∙ sym (ap (λ (b : Bool). (if b then hook_in (block_of n).hooks i else hook_at ns i q).linked) other))
 
   pub addresses_joined : (ns ms : List (Held X Y A E)) → box_addresses (ns ++ ms) ≡ box_addresses ns ++ box_addresses ms
   addresses_joined [] ms = refl
@@ -186,12 +195,3 @@ module _ {X Y A E : Type 0} where
   pub no_nodes : (ns : List (Held X Y A E)) → nodes_of ns ≡ [] → ns ≡ []
   no_nodes [] e = refl
   no_nodes (n ∷ ns) e = absurd cc
-
-pub off_all : (k : ℕ) (h : Hook) → h.linked ≡ false → AllOff (replicate k h)
-off_all zero h e i = refl
-off_all (suc k) h e zero = e
-off_all (suc k) h e (suc i) = off_all k h e i
-
-pub replicate_long : (k : ℕ) (h : Hook) → length (replicate k h) ≡ k
-replicate_long zero h = refl
-replicate_long (suc k) h = ap suc (replicate_long k h)

@@ -1,13 +1,7 @@
 -- What a row has at an index.
 use Rattle.std.proofs.Common.{◌≡◌, ℕ, zero, suc, List, [], ◌∷◌, slice_index_or, refl}
-use Rattle.cordyceps_many.specs.declared.hook.Hook.{Hook}
 use Rattle.cordyceps_many.specs.declared.hook.Ends.{Ends}
-use Rattle.cordyceps_many.specs.Threads.{unlinked, no_ends, hook_in, ends_in}
-
-pub hook_is : (hs : List Hook) (i : ℕ) → slice_index_or hs i unlinked ≡ hook_in hs i
-hook_is [] i = refl
-hook_is (h ∷ hs) zero = refl
-hook_is (h ∷ hs) (suc i) = hook_is hs i
+use Rattle.cordyceps_many.specs.Threads.{no_ends, ends_in}
 
 pub ends_is : (es : List Ends) (i : ℕ) → slice_index_or es i no_ends ≡ ends_in es i
 ends_is [] i = refl

@@ -2,6 +2,7 @@ mod Between
 pub mod Entered
 pub mod HookRows
 mod Indexed
+mod Marking
 pub mod Members
 mod Placed
 mod Reached

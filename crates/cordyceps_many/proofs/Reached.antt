@@ -6,10 +6,10 @@ use Rattle.cordyceps_base.specs.Spots.{same_ptr, AreNullComparable}
 use Rattle.cordyceps_base.proofs.SpotsMemory.{same_ptr_refl}
 use Rattle.cordyceps_many.specs.declared.hook.Hook.{Hook}
 use Rattle.cordyceps_many.specs.declared.hook.Ends.{Ends}
-use Rattle.cordyceps_many.specs.Threads.{is_in, Chain, IsThread, IsParted}
+use Rattle.cordyceps_many.specs.Threads.{is_in, Chain, IsParted}
 use Rattle.cordyceps_many.specs.Rows.{Held, hook_at, Reaches}
 use Rattle.cordyceps_many.proofs.HookRows.{comparable_at, marked_in}
-use Rattle.cordyceps_many.proofs.Threads.{null_Testable, in_here, in_append, in_more, split, Parts, parts, last_in, chain_front, chain_back}
+use Rattle.cordyceps_many.proofs.Threads.{Goes, null_Testable, in_here, in_append, in_more, split, Parts, parts, last_in, chain_front, chain_back}
 
 module _ {X Y A E : Type 0} where
   pub reach_moved : (p : Ptr) (ns ms : List (Held X Y A E)) → box_addresses ms ≡ box_addresses ns → Reaches p ns → Reaches p ms
@@ -25,9 +25,9 @@ module _ {X Y A E : Type 0} where
       reach_first p h [] t c all = record { testable = subst Testable (sym c.0) null_Testable; there = λ b. absurd (subst InBlock c.0 b) }
       reach_first p h (x ∷ s) t c all = let i = all h (in_here h x s (subst (λ z. same_ptr h z ≡ true) c.0.0 (same_ptr_refl h))) in record { testable = (comparable_at (box_addresses ns) h a i).1; there = λ b. i }
 
-    module _ (i : ℕ) (e : Ends) (s : List Ptr) (w : IsThread (hook_at ns i) e s) where
+    module _ (i : ℕ) (e : Ends) (s : List Ptr) (w : Goes (hook_at ns i) e s) where
       pub all_in : (x : Ptr) → is_in x s ≡ true → is_in x (box_addresses ns) ≡ true
-      all_in x m = marked_in ns i x (w.marks x ∙ m)
+      all_in x m = marked_in ns i x (w.marked x m)
 
       pub solid : (x : Ptr) → is_in x s ≡ true → InBlock x
       solid x m = (comparable_at (box_addresses ns) x a (all_in x m)).0
@@ -53,7 +53,7 @@ module _ {X Y A E : Type 0} where
         next_reached = reach_first (hook_at ns i) p (hook_at ns i p).next.ptr u.back e.last.ptr (chain_back (hook_at ns i) null_ptr e.first.ptr u.front p u.back e.last.ptr null_ptr chained)
             (λ x m. all_in x (ap (is_in x) u.whole ∙ in_append x u.front (p ∷ u.back) ∙ split (is_in x u.front) (λ yes. ap (λ (b : Bool). if b then true else is_in x (p ∷ u.back)) yes) (λ no. ap (λ (b : Bool). if b then true else is_in x (p ∷ u.back)) no ∙ in_more x p u.back m)))
 
-    module _ (i : ℕ) (e : Ends) (s t : List Ptr) (prev next : Ptr) (w : IsThread (hook_at ns i) e (s ++ t)) (d : IsParted (hook_at ns i) e s prev next t) where
+    module _ (i : ℕ) (e : Ends) (s t : List Ptr) (prev next : Ptr) (w : Goes (hook_at ns i) e (s ++ t)) (d : IsParted (hook_at ns i) e s prev next t) where
       pub before_reached : Reaches prev ns
       before_reached = reach_last (hook_at ns i) e.first.ptr s prev next d.front (λ x m. all_in i e (s ++ t) w x (in_append x s t ∙ ap (λ (b : Bool). if b then true else is_in x t) m))
 

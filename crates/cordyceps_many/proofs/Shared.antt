@@ -9,11 +9,11 @@ use Rattle.cordyceps_base.specs.Boxes.{box_addresses, box_values}
 use Rattle.cordyceps_base.specs.BySpot.{HasSpot, IsTaken}
 use Rattle.cordyceps_base.specs.Element.{Element}
 use Rattle.cordyceps_base.specs.Spots.{same_ptr, index_of, IsNew, AreDistinct, AreNullComparable}
-use Rattle.cordyceps_many.specs.Threads.{is_in, without, no_ends, ends_in, walk, AllOff, IsThread}
+use Rattle.cordyceps_many.specs.Threads.{is_in, without, no_ends, ends_in, walk, AllOff, IsThread, IsOpen}
 use Rattle.cordyceps_base.specs.declared.boxes.homes.Home.{Home}
 use Rattle.cordyceps_many.specs.declared.block.Block.{Block}
 use Rattle.cordyceps_many.specs.Rows.{Held, hook_at, nodes_of, block_of, block_element, IsOut, KeepsOthers}
-use Rattle.cordyceps_many.proofs.HookRows.{cut, at_none, at_left, in_left, left_new, marked_in, at_joined, marks_joined, addresses_joined, nodes_joined}
+use Rattle.cordyceps_many.proofs.HookRows.{cut, at_none, at_left, in_left, left_new, marked_in, at_joined, other_joined, marks_joined, addresses_joined, nodes_joined}
 use Rattle.cordyceps_base.proofs.SpotsMemory.{same_ptr_eq, same_ptr_refl}
 use Rattle.cordyceps_base.specs.Nodes.{Nodes, spots}
 use Rattle.cordyceps_base.proofs.Memory.{take-drop}
@@ -84,48 +84,70 @@ module _ {X Y A E : Type 0} where
   pub list_is : (ns : List (Held X Y A E)) (es : List Ends) (j : ℕ) → list_at j (lists_in ns 0 es) ≡ thread ns j (ends_in es j)
   list_is ns es j = list_from ns es 0 j j (omega arith)
 
+  -- what is known of all lists but list i
+  pub record AreOthers (k i : ℕ) (es : List Ends) (ns : List (Held X Y A E)) : Type 0 where
+    pub long : length es ≡ k
+    pub distinct : AreDistinct (box_addresses ns)
+    pub comparable : AreNullComparable (box_addresses ns)
+    pub threads : (j : ℕ) → j ≢ i → IsThread (hook_at ns j) (ends_in es j) (thread ns j (ends_in es j))
+
+  pub others_of : (k i : ℕ) (es : List Ends) (ns : List (Held X Y A E)) → AreThreads k es ns → AreOthers k i es ns
+  others_of k i es ns w = record { long = w.long; distinct = w.distinct; comparable = w.comparable; threads = λ j n. w.threads j }
+
   -- a call has changed list i
-  module _ (k : ℕ) (es : List Ends) (ns ms : List (Held X Y A E)) (i : ℕ) (e : Ends) (s : List Ptr) (w : AreThreads k es ns) (within : i < k) (t : IsThread (hook_at ms i) e s) (rest : KeepsOthers i ns ms) where
+  module _ (k : ℕ) (es : List Ends) (ns ms : List (Held X Y A E)) (i : ℕ) (e : Ends) (w : AreOthers k i es ns) (within : i < k) (rest : KeepsOthers i ns ms) where
     fits : i < length es
     fits = let l = w.long in omega (arith, l, within)
 
     pub other : (j : ℕ) → j ≢ i → IsThread (hook_at ms j) (ends_in (set es i e) j) (thread ns j (ends_in es j))
-    other j n = subst (λ d. IsThread (hook_at ms j) d (thread ns j (ends_in es j))) (sym (ends_kept es i j e n)) (moved (hook_at ns j) (hook_at ms j) (ends_in es j) (thread ns j (ends_in es j)) (rest.hooks j n) (w.threads j))
+    other j n = subst (λ d. IsThread (hook_at ms j) d (thread ns j (ends_in es j))) (sym (ends_kept es i j e n)) (moved (hook_at ns j) (hook_at ms j) (ends_in es j) (thread ns j (ends_in es j)) (rest.hooks j n) (w.threads j n))
 
-    this : IsThread (hook_at ms i) (ends_in (set es i e) i) s
-    this = subst (λ d. IsThread (hook_at ms i) d s) (sym (ends_set es i e fits)) t
+    pub ends_with : ends_in (set es i e) i ≡ e
+    ends_with = ends_set es i e fits
 
-    threads' : (j : ℕ) → (j ≡ i) ⊎ (j ≡ i → ⊥) → IsThread (hook_at ms j) (ends_in (set es i e) j) (thread ms j (ends_in (set es i e) j))
-    threads' j (inl same) = subst (λ m. IsThread (hook_at ms m) (ends_in (set es i e) m) (thread ms m (ends_in (set es i e) m))) (sym same) (own (hook_at ms i) (ends_in (set es i e) i) s this)
-    threads' j (inr n) = own (hook_at ms j) (ends_in (set es i e) j) (thread ns j (ends_in es j)) (other j n)
-
-    pub parts_with : AreThreads k (set es i e) ms
-    parts_with = record {
+    pub others_with : AreOthers k i (set es i e) ms
+    others_with = record {
       long = ends_long es i e ∙ w.long;
       distinct = subst AreDistinct (sym rest.addresses) w.distinct;
       comparable = subst AreNullComparable (sym rest.addresses) w.comparable;
-      threads = λ j. threads' j (cases_eq j i);
+      threads = λ j n. own (hook_at ms j) (ends_in (set es i e) j) (thread ns j (ends_in es j)) (other j n);
     }
-
-    pub list_with : list_at i (lists_in ms 0 (set es i e)) ≡ s
-    list_with = list_is ms (set es i e) i ∙ thread_is (hook_at ms i) (ends_in (set es i e) i) s this
 
     pub lists_with : SameBut i (lists_in ns 0 es) (lists_in ms 0 (set es i e))
     lists_with j n = list_is ms (set es i e) j ∙ thread_is (hook_at ms j) (ends_in (set es i e) j) (thread ns j (ends_in es j)) (other j n) ∙ sym (list_is ns es j)
 
-    module _ (all : i ≡ 0 → (p : Ptr) → is_in p (box_addresses ns) ≡ true → is_in p s ≡ true) (kept : (i ≡ 0 → ⊥) → (p : Ptr) → is_in p (box_addresses ns) ≡ true → (hook_at ns 0 p).linked ≡ true) where
-      whole' : (i ≡ 0) ⊎ (i ≡ 0 → ⊥) → (p : Ptr) → is_in p (box_addresses ms) ≡ true → (hook_at ms 0 p).linked ≡ true
-      whole' (inl z) p there = subst (λ m. (hook_at ms m p).linked ≡ true) z (t.marks p ∙ all z p (subst (λ a. is_in p a ≡ true) rest.addresses there))
-      whole' (inr n) p there = ap (λ (h : Hook). h.linked) (rest.hooks 0 (λ z. n (sym z)) p) ∙ kept n p (subst (λ a. is_in p a ≡ true) rest.addresses there)
+    module _ (s : List Ptr) (t : IsThread (hook_at ms i) e s) where
+      this : IsThread (hook_at ms i) (ends_in (set es i e) i) s
+      this = subst (λ d. IsThread (hook_at ms i) d s) (sym ends_with) t
 
-      pub multi_with : IsMulti k (set es i e) ms
-      multi_with = record { parts = parts_with; whole = whole' (cases_eq i 0) }
+      threads' : (j : ℕ) → (j ≡ i) ⊎ (j ≡ i → ⊥) → IsThread (hook_at ms j) (ends_in (set es i e) j) (thread ms j (ends_in (set es i e) j))
+      threads' j (inl same) = subst (λ m. IsThread (hook_at ms m) (ends_in (set es i e) m) (thread ms m (ends_in (set es i e) m))) (sym same) (own (hook_at ms i) (ends_in (set es i e) i) s this)
+      threads' j (inr n) = own (hook_at ms j) (ends_in (set es i e) j) (thread ns j (ends_in es j)) (other j n)
 
-  -- a node that no list has came
+      pub parts_with : AreThreads k (set es i e) ms
+      parts_with = record {
+        long = others_with.long;
+        distinct = others_with.distinct;
+        comparable = others_with.comparable;
+        threads = λ j. threads' j (cases_eq j i);
+      }
+
+      pub list_with : list_at i (lists_in ms 0 (set es i e)) ≡ s
+      list_with = list_is ms (set es i e) i ∙ thread_is (hook_at ms i) (ends_in (set es i e) i) s this
+
+      module _ (all : i ≡ 0 → (p : Ptr) → is_in p (box_addresses ns) ≡ true → is_in p s ≡ true) (kept : (i ≡ 0 → ⊥) → (p : Ptr) → is_in p (box_addresses ns) ≡ true → (hook_at ns 0 p).linked ≡ true) where
+        whole' : (i ≡ 0) ⊎ (i ≡ 0 → ⊥) → (p : Ptr) → is_in p (box_addresses ms) ≡ true → (hook_at ms 0 p).linked ≡ true
+        whole' (inl z) p there = subst (λ m. (hook_at ms m p).linked ≡ true) z (t.marks p ∙ all z p (subst (λ a. is_in p a ≡ true) rest.addresses there))
+        whole' (inr n) p there = ap (λ (h : Hook). h.linked) (rest.hooks 0 (λ z. n (sym z)) p) ∙ kept n p (subst (λ a. is_in p a ≡ true) rest.addresses there)
+
+        pub multi_with : IsMulti k (set es i e) ms
+        multi_with = record { parts = parts_with; whole = whole' (cases_eq i 0) }
+
+  -- a node that no list but list 0 has came
   module _ (k : ℕ) (es : List Ends) (ns js : List (Held X Y A E)) (p : Ptr) (a : Home) (x : Block X Y A E) (w : AreThreads k es ns) (is : js ≡ ns ++ (p, a, x) ∷ []) (d : AreDistinct (box_addresses js)) (c : AreNullComparable (box_addresses js)) (off : AllOff x.hooks) where
-    module _ (j : ℕ) where
+    module _ (j : ℕ) (more : 0 < j) where
       came_marks : (q : Ptr) → (hook_at js j q).linked ≡ (hook_at ns j q).linked
-      came_marks q = ap (λ ls. (hook_at ls j q).linked) is ∙ marks_joined ns p a x j q off
+      came_marks q = ap (λ ls. (hook_at ls j q).linked) is ∙ marks_joined ns p a x j q more off
 
       came_same : (s : List Ptr) → ((q : Ptr) → is_in q s ≡ true → is_in q (box_addresses ns) ≡ true) → Same (hook_at ns j) (hook_at js j) s
       came_same s all = same_in (hook_at ns j) (hook_at js j) s (λ q m. ap (λ ls. hook_at ls j q) is ∙ at_joined ns ((p, a, x) ∷ []) j q (all q m))
@@ -133,12 +155,12 @@ module _ {X Y A E : Type 0} where
       pub came_thread : (e : Ends) (s : List Ptr) → IsThread (hook_at ns j) e s → IsThread (hook_at js j) e s
       came_thread e s t = moved_in (hook_at ns j) (hook_at js j) e s came_marks (came_same s (λ q m. marked_in ns j q (t.marks q ∙ m))) t
 
-    pub came : AreThreads k es js
+    pub came : AreOthers k 0 es js
     came = record {
       long = w.long;
       distinct = d;
       comparable = c;
-      threads = λ j. own (hook_at js j) (ends_in es j) (thread ns j (ends_in es j)) (came_thread j (ends_in es j) (thread ns j (ends_in es j)) (w.threads j));
+      threads = λ j n. own (hook_at js j) (ends_in es j) (thread ns j (ends_in es j)) (came_thread j (positive j n) (ends_in es j) (thread ns j (ends_in es j)) (w.threads j));
     }
 
     addresses : box_addresses js ≡ box_addresses ns ++ p ∷ []
@@ -153,6 +175,19 @@ module _ {X Y A E : Type 0} where
     pub came_away : (s : List Ptr) → ((q : Ptr) → is_in q s ≡ true → is_in q (box_addresses ns) ≡ true) → is_in p s ≡ false
     came_away s all = split (is_in p s) (λ yes. let t = all p yes in let n = came_new in absurd cc) (λ no. no)
 
+    -- list 0 has not got it yet
+    pub came_open : (e : Ends) (s : List Ptr) → IsThread (hook_at ns 0) e s → IsOpen (hook_at js 0) e s p
+    came_open e s t =
+        let away = came_away s (λ q m. marked_in ns 0 q (t.marks q ∙ m)) in
+        let same : (q : Ptr) → same_ptr p q ≡ false → hook_at js 0 q ≡ hook_at ns 0 q = λ q n. ap (λ ls. hook_at ls 0 q) is ∙ other_joined ns p a x 0 q n in
+        record {
+          long = t.long;
+          once = t.once;
+          away = away;
+          marks = λ q n. ap (λ (h : Hook). h.linked) (same q n) ∙ t.marks q;
+          chain = chain_keep (hook_at ns 0) (hook_at js 0) null_ptr e.first.ptr s e.last.ptr null_ptr t.chain (same_in (hook_at ns 0) (hook_at js 0) s (λ q m. same q (other_way q p (differ q p s m away))));
+        }
+
     pub came_all : (s : List Ptr) → ((q : Ptr) → is_in q (box_addresses ns) ≡ true → is_in q s ≡ true) → (q : Ptr) → is_in q (box_addresses js) ≡ true → is_in q (s ++ p ∷ []) ≡ true
     came_all s all q e = in_append q s (p ∷ []) ∙ split (is_in q (box_addresses ns)) (λ yes. ap (λ (b : Bool). if b then true else is_in q (p ∷ [])) (all q yes))
         (λ no.
@@ -162,45 +197,59 @@ module _ {X Y A E : Type 0} where
     pub came_nodes : nodes_of js ≡ nodes_of ns ++ (p, block_element x) ∷ []
     came_nodes = ap nodes_of is ∙ nodes_joined ns ((p, a, x) ∷ [])
 
-    pub came_lists : (j : ℕ) → list_at j (lists_in js 0 es) ≡ list_at j (lists_in ns 0 es)
-    came_lists j = list_is js es j ∙ thread_is (hook_at js j) (ends_in es j) (thread ns j (ends_in es j)) (came_thread j (ends_in es j) (thread ns j (ends_in es j)) (w.threads j)) ∙ sym (list_is ns es j)
+    pub came_lists : (j : ℕ) → j ≢ 0 → list_at j (lists_in js 0 es) ≡ list_at j (lists_in ns 0 es)
+    came_lists j n = list_is js es j ∙ thread_is (hook_at js j) (ends_in es j) (thread ns j (ends_in es j)) (came_thread j (positive j n) (ends_in es j) (thread ns j (ends_in es j)) (w.threads j)) ∙ sym (list_is ns es j)
 
-  -- a node that no list has was taken out
-  module _ (k : ℕ) (es : List Ends) (ns js : List (Held X Y A E)) (p : Ptr) (e : Element X) (w : AreThreads k es ns) (out : IsOut ns p e js) (d : AreDistinct (box_addresses js)) (c : AreNullComparable (box_addresses js)) (off : (i : ℕ) → (hook_at ns i p).linked ≡ false) where
+  -- a node that no list but list 0 had was taken out, and list 0 is s without it
+  module _ (k : ℕ) (es : List Ends) (ns js : List (Held X Y A E)) (p : Ptr) (e : Element X) (s : List Ptr) (w : AreOthers k 0 es ns) (around : IsOpen (hook_at ns 0) (ends_in es 0) (without p s) p) (out : IsOut ns p e js) (d : AreDistinct (box_addresses js)) (c : AreNullComparable (box_addresses js))
+      (off : (i : ℕ) → 0 < i → (hook_at ns i p).linked ≡ false) where
     gone_hook : (i : ℕ) (q : Ptr) → same_ptr q p ≡ false → hook_at js i q ≡ hook_at ns i q
     gone_hook i q n = ap (λ ls. hook_at ls i q) out.left ∙ at_left out.front (p, out.alloc, out.block) out.back i q n ∙ sym (ap (λ ls. hook_at ls i q) out.was)
 
     pub gone_none : is_in p (box_addresses js) ≡ false
     gone_none = ap (λ ls. is_in p (box_addresses ls)) out.left ∙ left_new out.front (p, out.alloc, out.block) out.back (subst (λ ls. AreDistinct (box_addresses ls)) out.was w.distinct)
 
-    pub gone_marks : (i : ℕ) (q : Ptr) → (hook_at js i q).linked ≡ (hook_at ns i q).linked
-    gone_marks i q = split (same_ptr q p)
-        (λ same. subst (λ z. (hook_at js i z).linked ≡ (hook_at ns i z).linked) (sym (same_ptr_eq q p same)) (ap (λ (h : Hook). h.linked) (at_none js i p gone_none) ∙ sym (off i)))
-        (λ other. ap (λ (h : Hook). h.linked) (gone_hook i q other))
+    module _ (i : ℕ) (more : 0 < i) where
+      gone_marks : (q : Ptr) → (hook_at js i q).linked ≡ (hook_at ns i q).linked
+      gone_marks q = split (same_ptr q p)
+          (λ same. subst (λ z. (hook_at js i z).linked ≡ (hook_at ns i z).linked) (sym (same_ptr_eq q p same)) (ap (λ (h : Hook). h.linked) (at_none js i p gone_none) ∙ sym (off i more)))
+          (λ other. ap (λ (h : Hook). h.linked) (gone_hook i q other))
 
-    gone_apart : (i : ℕ) (q : Ptr) → (hook_at ns i q).linked ≡ true → same_ptr q p ≡ false
-    gone_apart i q m = split (same_ptr q p) (λ same. let t : (hook_at ns i p).linked ≡ true = subst (λ z. (hook_at ns i z).linked ≡ true) (same_ptr_eq q p same) m in let f = off i in absurd cc) (λ other. other)
+      gone_apart : (q : Ptr) → (hook_at ns i q).linked ≡ true → same_ptr q p ≡ false
+      gone_apart q m = split (same_ptr q p) (λ same. let t : (hook_at ns i p).linked ≡ true = subst (λ z. (hook_at ns i z).linked ≡ true) (same_ptr_eq q p same) m in let f = off i more in absurd cc) (λ other. other)
 
-    gone_thread : (i : ℕ) (f : Ends) (s : List Ptr) → IsThread (hook_at ns i) f s → IsThread (hook_at js i) f s
-    gone_thread i f s t = moved_in (hook_at ns i) (hook_at js i) f s (gone_marks i) (same_in (hook_at ns i) (hook_at js i) s (λ q m. gone_hook i q (gone_apart i q (t.marks q ∙ m)))) t
+      gone_thread : (f : Ends) (l : List Ptr) → IsThread (hook_at ns i) f l → IsThread (hook_at js i) f l
+      gone_thread f l t = moved_in (hook_at ns i) (hook_at js i) f l gone_marks (same_in (hook_at ns i) (hook_at js i) l (λ q m. gone_hook i q (gone_apart q (t.marks q ∙ m)))) t
 
-    pub gone : AreThreads k es js
-    gone = record {
-      long = w.long;
-      distinct = d;
-      comparable = c;
-      threads = λ j. own (hook_at js j) (ends_in es j) (thread ns j (ends_in es j)) (gone_thread j (ends_in es j) (thread ns j (ends_in es j)) (w.threads j));
+    gone_first : IsThread (hook_at js 0) (ends_in es 0) (without p s)
+    gone_first = record {
+      long = around.long;
+      once = around.once;
+      marks = λ q. split (same_ptr q p)
+          (λ same. subst (λ z. (hook_at js 0 z).linked ≡ is_in z (without p s)) (sym (same_ptr_eq q p same)) (ap (λ (h : Hook). h.linked) (at_none js 0 p gone_none) ∙ sym around.away))
+          (λ other. ap (λ (h : Hook). h.linked) (gone_hook 0 q other) ∙ around.marks q (other_way q p other));
+      chain = chain_keep (hook_at ns 0) (hook_at js 0) null_ptr (ends_in es 0).first.ptr (without p s) (ends_in es 0).last.ptr null_ptr around.chain (same_in (hook_at ns 0) (hook_at js 0) (without p s) (λ q m. gone_hook 0 q (differ q p (without p s) m around.away)));
     }
+
+    gone_threads : (j : ℕ) → (j ≡ 0) ⊎ (j ≡ 0 → ⊥) → IsThread (hook_at js j) (ends_in es j) (thread js j (ends_in es j))
+    gone_threads j (inl z) = subst (λ m. IsThread (hook_at js m) (ends_in es m) (thread js m (ends_in es m))) (sym z) (own (hook_at js 0) (ends_in es 0) (without p s) gone_first)
+    gone_threads j (inr n) = own (hook_at js j) (ends_in es j) (thread ns j (ends_in es j)) (gone_thread j (positive j n) (ends_in es j) (thread ns j (ends_in es j)) (w.threads j n))
 
     pub gone_in : (q : Ptr) → is_in q (box_addresses js) ≡ true → is_in q (box_addresses ns) ≡ true
     gone_in q m = subst (λ ls. is_in q (box_addresses ls) ≡ true) (sym out.was) (in_left out.front (p, out.alloc, out.block) out.back q (subst (λ ls. is_in q (box_addresses ls) ≡ true) out.left m))
 
-    pub gone_lists : (j : ℕ) → list_at j (lists_in js 0 es) ≡ list_at j (lists_in ns 0 es)
-    gone_lists j = list_is js es j ∙ thread_is (hook_at js j) (ends_in es j) (thread ns j (ends_in es j)) (gone_thread j (ends_in es j) (thread ns j (ends_in es j)) (w.threads j)) ∙ sym (list_is ns es j)
+    -- where list 0 had all nodes
+    pub gone : ((q : Ptr) → is_in q (box_addresses ns) ≡ true → is_in q s ≡ true) → IsMulti k es js
+    gone all = record {
+      parts = record { long = w.long; distinct = d; comparable = c; threads = λ j. gone_threads j (cases_eq j 0) };
+      whole = λ q m. gone_first.marks q ∙ without_other p q s (other_way q p (differ q p (box_addresses js) m gone_none)) ∙ all q (gone_in q m);
+    }
 
-    -- where list 0 had all nodes, and now has not this
-    pub gone_whole : (s : List Ptr) → ((q : Ptr) → (hook_at ns 0 q).linked ≡ is_in q (without p s)) → ((q : Ptr) → is_in q (box_addresses ns) ≡ true → is_in q s ≡ true) → (q : Ptr) → is_in q (box_addresses js) ≡ true → (hook_at js 0 q).linked ≡ true
-    gone_whole s marks all q m = gone_marks 0 q ∙ marks q ∙ without_other p q s (other_way q p (differ q p (box_addresses js) m gone_none)) ∙ all q (gone_in q m)
+    pub gone_list : list_at 0 (lists_in js 0 es) ≡ without p s
+    gone_list = list_is js es 0 ∙ thread_is (hook_at js 0) (ends_in es 0) (without p s) gone_first
+
+    pub gone_others : (j : ℕ) → j ≢ 0 → list_at j (lists_in js 0 es) ≡ list_at j (lists_in ns 0 es)
+    gone_others j n = list_is js es j ∙ thread_is (hook_at js j) (ends_in es j) (thread ns j (ends_in es j)) (gone_thread j (positive j n) (ends_in es j) (thread ns j (ends_in es j)) (w.threads j n)) ∙ sym (list_is ns es j)
 
   -- what is seen of the lists says of each what links it
   module _ (k : ℕ) (es : List Ends) (ns : List (Held X Y A E)) (v : Multi X) (w : IsMulti k es ns) (seen : record { nodes = nodes_of ns; lists = lists_in ns 0 es } ≡ v) where
@@ -246,17 +295,17 @@ module _ {X Y A E : Type 0} where
     pub list : list_at i (lists_in ms 0 es) ≡ s
     pub others : SameBut i ls (lists_in ms 0 es)
 
-  module _ (k : ℕ) (es : List Ends) (ns ms : List (Held X Y A E)) (i : ℕ) (e : Ends) (s : List Ptr) (w : AreThreads k es ns) (within : i < k) (t : IsThread (hook_at ms i) e s) (rest : KeepsOthers i ns ms) (new : List Ends) (is : new ≡ set es i e) (ls : List (List Ptr)) (same : (j : ℕ) → list_at j (lists_in ns 0 es) ≡ list_at j ls) where
+  module _ (k : ℕ) (es : List Ends) (ns ms : List (Held X Y A E)) (i : ℕ) (e : Ends) (s : List Ptr) (w : AreOthers k i es ns) (within : i < k) (t : IsThread (hook_at ms i) e s) (rest : KeepsOthers i ns ms) (new : List Ends) (is : new ≡ set es i e) (ls : List (List Ptr)) (same : (j : ℕ) → j ≢ i → list_at j (lists_in ns 0 es) ≡ list_at j ls) where
     pub turned : Turned k ls new ms i s
     turned = record {
-      parts = subst (λ z. AreThreads k z ms) (sym is) (parts_with k es ns ms i e s w within t rest);
-      list = subst (λ z. list_at i (lists_in ms 0 z) ≡ s) (sym is) (list_with k es ns ms i e s w within t rest);
-      others = λ j n. subst (λ z. list_at j (lists_in ms 0 z) ≡ list_at j ls) (sym is) (lists_with k es ns ms i e s w within t rest j n ∙ same j);
+      parts = subst (λ z. AreThreads k z ms) (sym is) (parts_with k es ns ms i e w within rest s t);
+      list = subst (λ z. list_at i (lists_in ms 0 z) ≡ s) (sym is) (list_with k es ns ms i e w within rest s t);
+      others = λ j n. subst (λ z. list_at j (lists_in ms 0 z) ≡ list_at j ls) (sym is) (lists_with k es ns ms i e w within rest j n ∙ same j n);
     }
 
     module _ (all : i ≡ 0 → (p : Ptr) → is_in p (box_addresses ns) ≡ true → is_in p s ≡ true) (kept : (i ≡ 0 → ⊥) → (p : Ptr) → is_in p (box_addresses ns) ≡ true → (hook_at ns 0 p).linked ≡ true) where
       pub turned_multi : IsMulti k new ms
-      turned_multi = subst (λ z. IsMulti k z ms) (sym is) (multi_with k es ns ms i e s w within t rest all kept)
+      turned_multi = subst (λ z. IsMulti k z ms) (sym is) (multi_with k es ns ms i e w within rest s t all kept)
 
   -- what is seen before the call and after it
   pub record After (k : ℕ) (v : Multi X) (es : List Ends) (ms : List (Held X Y A E)) (i : ℕ) (s : List Ptr) : Type 0 where
@@ -284,9 +333,9 @@ module _ {X Y A E : Type 0} where
     module _ (ms : List (Held X Y A E)) (i : ℕ) (e : Ends) (s : List Ptr) (within : i < k) (t : IsThread (hook_at ms i) e s) (rest : KeepsOthers i ns ms) (new : List Ends) (is : new ≡ set es i e) (all : i ≡ 0 → (p : Ptr) → is_in p (list_at i v.lists) ≡ true → is_in p s ≡ true) where
       pub after : After k v new ms i s
       after =
-          let u = turned k es ns ms i e s w.parts within t rest new is v.lists same_lists in
+          let o = others_of k i es ns w.parts in let u = turned k es ns ms i e s o within t rest new is v.lists (λ j n. same_lists j) in
           record {
-            multi = turned_multi k es ns ms i e s w.parts within t rest new is v.lists same_lists (λ z p m. all z p (all_of k es ns v w seen i z p m)) (λ n. w.whole);
+            multi = turned_multi k es ns ms i e s o within t rest new is v.lists (λ j n. same_lists j) (λ z p m. all z p (all_of k es ns v w seen i z p m)) (λ n. w.whole);
             nodes = rest.nodes ∙ ap (λ (m : Multi X). m.nodes) seen;
             list = u.list;
             others = u.others;

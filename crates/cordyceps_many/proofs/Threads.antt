@@ -7,7 +7,7 @@ use Rattle.cordyceps_base.specs.Spots.{same_ptr}
 use Rattle.cordyceps_base.proofs.SpotsMemory.{same_ptr_eq, same_ptr_refl}
 use Rattle.cordyceps_many.specs.declared.hook.Hook.{Hook}
 use Rattle.cordyceps_many.specs.declared.hook.Ends.{Ends}
-use Rattle.cordyceps_many.specs.Threads.{is_in, without, Once, unlinked, with_next, with_prev, Chain, walk, IsThread, Wrote, IsLedOn, IsLedBack}
+use Rattle.cordyceps_many.specs.Threads.{is_in, without, Once, with_next, with_prev, Chain, walk, IsThread, IsOpen, Wrote, IsLedOn, IsLedBack}
 
 pub split : {P : Type 0} (b : Bool) → (b ≡ true → P) → (b ≡ false → P) → P
 split true y n = y refl
@@ -253,9 +253,33 @@ module _ (f g : Ptr → Hook) where
       (λ other. ap (λ (k : Hook). k.linked) (d.wrote.others q other))
 
 -- ---- whole calls
--- a node is taken out of a list: its hook is cleared, and its neighbours are linked
-module _ (f0 f1 f2 f3 : Ptr → Hook) (e : Ends) (s : List Ptr) (a : Ptr) (first last : Address) (w : IsThread f0 e s) (there : is_in a s ≡ true) (solid : (x : Ptr) → is_in x s ≡ true → InBlock x)
-    (cleared : Wrote f0 a unlinked f1) (on : IsLedOn f1 (f0 a).prev.ptr (f0 a).next e.first.ptr f2 first.ptr) (back : IsLedBack f2 (f0 a).next.ptr (f0 a).prev e.last.ptr f3 last.ptr) where
+-- a node that the list has not may have any hook
+pub opened : (f : Ptr → Hook) (e : Ends) (s : List Ptr) (a : Ptr) → IsThread f e s → is_in a s ≡ false → IsOpen f e s a
+opened f e s a w away = record { long = w.long; once = w.once; away = away; marks = λ q other. w.marks q; chain = w.chain }
+
+-- and where its mark is off, the list is whole
+pub closed : (f g : Ptr → Hook) (e : Ends) (s : List Ptr) (a : Ptr) (h : Hook) → IsOpen f e s a → Wrote f a h g → h.linked ≡ false → IsThread g e s
+closed f g e s a h w set off = record {
+  long = w.long;
+  once = w.once;
+  marks = λ q. split (same_ptr a q) (λ same. subst (λ z. (g z).linked ≡ is_in z s) (same_ptr_eq a q same) (ap (λ (k : Hook). k.linked) set.here ∙ off ∙ sym w.away)) (λ other. ap (λ (k : Hook). k.linked) (set.others q other) ∙ w.marks q other);
+  chain = chain_keep f g null_ptr e.first.ptr s e.last.ptr null_ptr w.chain (same_but f g a h s set w.away);
+}
+
+-- what leads through a list, each of whose nodes has the mark
+pub record Goes (f : Ptr → Hook) (e : Ends) (s : List Ptr) : Type 0 where
+  pub chain : Chain f null_ptr e.first.ptr s e.last.ptr null_ptr
+  pub marked : (q : Ptr) → is_in q s ≡ true → (f q).linked ≡ true
+
+pub thread_goes : (f : Ptr → Hook) (e : Ends) (s : List Ptr) → IsThread f e s → Goes f e s
+thread_goes f e s w = record { chain = w.chain; marked = λ q m. w.marks q ∙ m }
+
+pub open_goes : (f : Ptr → Hook) (e : Ends) (s : List Ptr) (a : Ptr) → IsOpen f e s a → Goes f e s
+open_goes f e s a w = record { chain = w.chain; marked = λ q m. w.marks q (other_way q a (differ q a s m w.away)) ∙ m }
+
+-- a node is taken out of a list: its neighbours are linked
+module _ (f0 f2 f3 : Ptr → Hook) (e : Ends) (s : List Ptr) (a : Ptr) (first last : Address) (w : IsThread f0 e s) (there : is_in a s ≡ true) (solid : (x : Ptr) → is_in x s ≡ true → InBlock x)
+    (on : IsLedOn f0 (f0 a).prev.ptr (f0 a).next e.first.ptr f2 first.ptr) (back : IsLedBack f2 (f0 a).next.ptr (f0 a).prev e.last.ptr f3 last.ptr) where
   u : Parts a s
   u = parts a s there
 
@@ -278,11 +302,11 @@ module _ (f0 f1 f2 f3 : Ptr → Hook) (e : Ends) (s : List Ptr) (a : Ptr) (first
   back0 = chain_back f0 null_ptr e.first.ptr u.front a u.back e.last.ptr null_ptr chained
 
   front2 : Chain f2 null_ptr first.ptr u.front (f0 a).prev.ptr (f0 a).next.ptr
-  front2 = front_led f1 f2 e.first.ptr u.front (f0 a).prev.ptr a (f0 a).next first.ptr (chain_keep f0 f1 null_ptr e.first.ptr u.front (f0 a).prev.ptr a front0 (same_but f0 f1 a unlinked u.front cleared o.before)) o.first solid_front on
+  front2 = front_led f0 f2 e.first.ptr u.front (f0 a).prev.ptr a (f0 a).next first.ptr front0 o.first solid_front on
 
   back2 : Chain f2 a (f0 a).next.ptr u.back e.last.ptr null_ptr
-  back2 = chain_keep f1 f2 a (f0 a).next.ptr u.back e.last.ptr null_ptr (chain_keep f0 f1 a (f0 a).next.ptr u.back e.last.ptr null_ptr back0 (same_but f0 f1 a unlinked u.back cleared o.after))
-      (on_same f1 f2 (f0 a).prev.ptr (f0 a).next e.first.ptr first.ptr u.back on (λ b. o.none (f0 a).prev.ptr (last_where f0 e.first.ptr u.front (f0 a).prev.ptr a front0 b)))
+  back2 = chain_keep f0 f2 a (f0 a).next.ptr u.back e.last.ptr null_ptr back0
+      (on_same f0 f2 (f0 a).prev.ptr (f0 a).next e.first.ptr first.ptr u.back on (λ b. o.none (f0 a).prev.ptr (last_where f0 e.first.ptr u.front (f0 a).prev.ptr a front0 b)))
 
   front3 : Chain f3 null_ptr first.ptr u.front (f0 a).prev.ptr (f0 a).next.ptr
   front3 = chain_keep f2 f3 null_ptr first.ptr u.front (f0 a).prev.ptr (f0 a).next.ptr front2 (back_same f2 f3 (f0 a).next.ptr (f0 a).prev e.last.ptr last.ptr u.front back
@@ -291,35 +315,34 @@ module _ (f0 f1 f2 f3 : Ptr → Hook) (e : Ends) (s : List Ptr) (a : Ptr) (first
   back3 : Chain f3 (f0 a).prev.ptr (f0 a).next.ptr u.back last.ptr null_ptr
   back3 = back_led f2 f3 a (f0 a).next.ptr u.back e.last.ptr (f0 a).prev last.ptr back2 o.second solid_back back
 
-  pub thread_cut : IsThread f3 (record { first = first; last = last; len = e.len - 1 }) (without a s)
-  thread_cut = record {
+  pub cut_open : IsOpen f3 (record { first = first; last = last; len = e.len - 1 }) (without a s) a
+  cut_open = record {
     long = let long = w.long in let l = length_without a s there in omega (arith, long, l);
     once = subst Once (sym u.left) o.joined;
-    marks = λ q. back_marks f2 f3 (f0 a).next.ptr (f0 a).prev e.last.ptr last.ptr back q ∙ on_marks f1 f2 (f0 a).prev.ptr (f0 a).next e.first.ptr first.ptr on q ∙ split (same_ptr a q)
-        (λ same. subst (λ z. (f1 z).linked ≡ is_in z (without a s)) (same_ptr_eq a q same) (ap (λ (k : Hook). k.linked) cleared.here ∙ sym (without_gone a s w.once)))
-        (λ other. ap (λ (k : Hook). k.linked) (cleared.others q other) ∙ w.marks q ∙ sym (without_other a q s other));
+    away = without_gone a s w.once;
+    marks = λ q other. back_marks f2 f3 (f0 a).next.ptr (f0 a).prev e.last.ptr last.ptr back q ∙ on_marks f0 f2 (f0 a).prev.ptr (f0 a).next e.first.ptr first.ptr on q ∙ w.marks q ∙ sym (without_other a q s other);
     chain = subst (λ l. Chain f3 null_ptr first.ptr l last.ptr null_ptr) (sym u.left) (chain_join f3 null_ptr first.ptr u.front (f0 a).prev.ptr (f0 a).next.ptr u.back last.ptr null_ptr front3 back3);
   }
 
 -- a node is put in at the back, or at the front
-module _ (f0 f1 f2 : Ptr → Hook) (e : Ends) (s : List Ptr) (a none end : Address) (w : IsThread f0 e s) (away : is_in a.ptr s ≡ false) (solid : (x : Ptr) → is_in x s ≡ true → InBlock x) (null : none.ptr ≡ null_ptr) where
+module _ (f0 f1 f2 : Ptr → Hook) (e : Ends) (s : List Ptr) (a none end : Address) (w : IsOpen f0 e s a.ptr) (solid : (x : Ptr) → is_in x s ≡ true → InBlock x) (null : none.ptr ≡ null_ptr) where
   module _ (set : Wrote f0 a.ptr (record { next = none; prev = e.last; linked = true }) f1) (on : IsLedOn f1 e.last.ptr a e.first.ptr f2 end.ptr) where
     chain1 : Chain f1 null_ptr e.first.ptr s e.last.ptr null_ptr
-    chain1 = chain_keep f0 f1 null_ptr e.first.ptr s e.last.ptr null_ptr w.chain (same_but f0 f1 a.ptr (record { next = none; prev = e.last; linked = true }) s set away)
+    chain1 = chain_keep f0 f1 null_ptr e.first.ptr s e.last.ptr null_ptr w.chain (same_but f0 f1 a.ptr (record { next = none; prev = e.last; linked = true }) s set w.away)
 
     chain2 : Chain f2 null_ptr end.ptr s e.last.ptr a.ptr
     chain2 = front_led f1 f2 e.first.ptr s e.last.ptr null_ptr a end.ptr chain1 w.once solid on
 
     kept : f2 a.ptr ≡ record { next = none; prev = e.last; linked = true }
-    kept = (on_same f1 f2 e.last.ptr a e.first.ptr end.ptr (a.ptr ∷ []) on (λ b. in_there e.last.ptr a.ptr [] (differ e.last.ptr a.ptr s (last_where f0 e.first.ptr s e.last.ptr null_ptr w.chain b) away))).0 ∙ set.here
+    kept = (on_same f1 f2 e.last.ptr a e.first.ptr end.ptr (a.ptr ∷ []) on (λ b. in_there e.last.ptr a.ptr [] (differ e.last.ptr a.ptr s (last_where f0 e.first.ptr s e.last.ptr null_ptr w.chain b) w.away))).0 ∙ set.here
 
     pub thread_last : IsThread f2 (record { first = end; last = a; len = e.len + 1 }) (s ++ a.ptr ∷ [])
     thread_last = record {
       long = let long = w.long in let l = length-append s (a.ptr ∷ []) in omega (arith, long, l);
-      once = once_pushed s a.ptr w.once away;
+      once = once_pushed s a.ptr w.once w.away;
       marks = λ q. on_marks f1 f2 e.last.ptr a e.first.ptr end.ptr on q ∙ split (same_ptr a.ptr q)
-          (λ same. subst (λ z. (f1 z).linked ≡ is_in z (s ++ a.ptr ∷ [])) (same_ptr_eq a.ptr q same) (ap (λ (k : Hook). k.linked) set.here ∙ sym (in_append a.ptr s (a.ptr ∷ []) ∙ ap (λ (b : Bool). if b then true else is_in a.ptr (a.ptr ∷ [])) away ∙ in_here a.ptr a.ptr [] (same_ptr_refl a.ptr))))
-          (λ other. ap (λ (k : Hook). k.linked) (set.others q other) ∙ w.marks q ∙ sym (in_append q s (a.ptr ∷ []) ∙ ap (λ (b : Bool). if is_in q s then true else b) (in_there q a.ptr [] (other_way a.ptr q other)) ∙ either (is_in q s)));
+          (λ same. subst (λ z. (f1 z).linked ≡ is_in z (s ++ a.ptr ∷ [])) (same_ptr_eq a.ptr q same) (ap (λ (k : Hook). k.linked) set.here ∙ sym (in_append a.ptr s (a.ptr ∷ []) ∙ ap (λ (b : Bool). if b then true else is_in a.ptr (a.ptr ∷ [])) w.away ∙ in_here a.ptr a.ptr [] (same_ptr_refl a.ptr))))
+          (λ other. ap (λ (k : Hook). k.linked) (set.others q other) ∙ w.marks q other ∙ sym (in_append q s (a.ptr ∷ []) ∙ ap (λ (b : Bool). if is_in q s then true else b) (in_there q a.ptr [] (other_way a.ptr q other)) ∙ either (is_in q s)));
       chain = chain_join f2 null_ptr end.ptr s e.last.ptr a.ptr (a.ptr ∷ []) a.ptr null_ptr chain2 ((refl, ap pv kept), (ap nx kept ∙ null, refl));
     } where
       either : (b : Bool) → (if b then true else false) ≡ b
@@ -328,20 +351,20 @@ module _ (f0 f1 f2 : Ptr → Hook) (e : Ends) (s : List Ptr) (a none end : Addre
 
   module _ (set : Wrote f0 a.ptr (record { next = e.first; prev = none; linked = true }) f1) (back : IsLedBack f1 e.first.ptr a e.last.ptr f2 end.ptr) where
     chain1' : Chain f1 null_ptr e.first.ptr s e.last.ptr null_ptr
-    chain1' = chain_keep f0 f1 null_ptr e.first.ptr s e.last.ptr null_ptr w.chain (same_but f0 f1 a.ptr (record { next = e.first; prev = none; linked = true }) s set away)
+    chain1' = chain_keep f0 f1 null_ptr e.first.ptr s e.last.ptr null_ptr w.chain (same_but f0 f1 a.ptr (record { next = e.first; prev = none; linked = true }) s set w.away)
 
     chain2' : Chain f2 a.ptr e.first.ptr s end.ptr null_ptr
     chain2' = back_led f1 f2 null_ptr e.first.ptr s e.last.ptr a end.ptr chain1' w.once solid back
 
     kept' : f2 a.ptr ≡ record { next = e.first; prev = none; linked = true }
-    kept' = (back_same f1 f2 e.first.ptr a e.last.ptr end.ptr (a.ptr ∷ []) back (λ b. in_there e.first.ptr a.ptr [] (differ e.first.ptr a.ptr s (first_where f0 null_ptr e.first.ptr s e.last.ptr w.chain b) away))).0 ∙ set.here
+    kept' = (back_same f1 f2 e.first.ptr a e.last.ptr end.ptr (a.ptr ∷ []) back (λ b. in_there e.first.ptr a.ptr [] (differ e.first.ptr a.ptr s (first_where f0 null_ptr e.first.ptr s e.last.ptr w.chain b) w.away))).0 ∙ set.here
 
     pub thread_first : IsThread f2 (record { first = a; last = end; len = e.len + 1 }) (a.ptr ∷ s)
     thread_first = record {
       long = let long = w.long in omega (arith, long);
-      once = (away, w.once);
+      once = (w.away, w.once);
       marks = λ q. back_marks f1 f2 e.first.ptr a e.last.ptr end.ptr back q ∙ split (same_ptr a.ptr q)
           (λ same. subst (λ z. (f1 z).linked ≡ is_in z (a.ptr ∷ s)) (same_ptr_eq a.ptr q same) (ap (λ (k : Hook). k.linked) set.here ∙ sym (in_here a.ptr a.ptr s (same_ptr_refl a.ptr))))
-          (λ other. ap (λ (k : Hook). k.linked) (set.others q other) ∙ w.marks q ∙ sym (in_there q a.ptr s (other_way a.ptr q other)));
+          (λ other. ap (λ (k : Hook). k.linked) (set.others q other) ∙ w.marks q other ∙ sym (in_there q a.ptr s (other_way a.ptr q other)));
       chain = ((refl, ap pv kept' ∙ null), subst (λ z. Chain f2 a.ptr z s end.ptr null_ptr) (sym (ap nx kept')) chain2');
     }

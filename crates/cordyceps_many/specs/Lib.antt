@@ -1,5 +1,6 @@
 pub mod Entries
 pub mod InOrder
+pub mod Marked
 pub mod MultiLends
 pub mod MultiList
 pub mod MultiNodeLends

@@ -41,7 +41,7 @@ module _ {X Y A E : Type 0} where
     pub nodes : nodes_of ms ≡ nodes_of ns
     pub hooks : (j : ℕ) → j ≢ i → (q : Ptr) → hook_at ms j q ≡ hook_at ns j q
 
-  -- the node e, which is in no list, came to the end of ns, is at p, and ms is the row then
+  -- the node e, which has no mark of a list but list 0, came to the end of ns, is at p, and ms is the row then
   pub record IsJoined (ns : List (Held X Y A E)) (p : Ptr) (e : Element X) (ms : List (Held X Y A E)) : Type 0 where
     pub alloc : Home
     pub block : Block X Y A E

@@ -1,5 +1,5 @@
 -- Lists that go through nodes: each node has a hook for each list.
-use Rattle.std.specs.Prelude.{◌≡◌, ◌⊎◌, ℕ, zero, suc, Bool, true, false, List, [], ◌∷◌, length, if◌then◌else◌}
+use Rattle.std.specs.Prelude.{◌≡◌, ◌⊎◌, ◌<◌, ℕ, zero, suc, Bool, true, false, List, [], ◌∷◌, length, if◌then◌else◌}
 use denote.RawPtr.{Ptr, null_ptr, InBlock}
 use Rattle.cordyceps_base.specs.declared.boxes.Address.{Address}
 use Rattle.cordyceps_base.specs.Spots.{same_ptr}
@@ -54,15 +54,18 @@ ends_in [] i = no_ends
 ends_in (e ∷ es) zero = e
 ends_in (e ∷ es) (suc i) = ends_in es i
 
--- no hook has the mark of its list
+-- no hook but that for list 0 has the mark of its list
 abbrev pub AllOff : List Hook → Type 0
-AllOff hs = (i : ℕ) → (hook_in hs i).linked ≡ false
+AllOff hs = (i : ℕ) → 0 < i → (hook_in hs i).linked ≡ false
 
 abbrev pub with_next : Hook → Address → Hook
 with_next h p = record h { next = p }
 
 abbrev pub with_prev : Hook → Address → Hook
 with_prev h p = record h { prev = p }
+
+abbrev pub unmarked : Hook → Hook
+unmarked h = record h { linked = false }
 
 -- f says of each spot what its hook is: h leads to the first spot of the list and t to its last, the first leads back
 -- to p and the last on to q, and each to its neighbours
@@ -80,6 +83,14 @@ pub record IsThread (f : Ptr → Hook) (e : Ends) (s : List Ptr) : Type 0 where
   pub long : e.len ≡ length s
   pub once : Once s
   pub marks : (p : Ptr) → (f p).linked ≡ is_in p s
+  pub chain : Chain f null_ptr e.first.ptr s e.last.ptr null_ptr
+
+-- the list s has these ends, and not the node at p, whose hook may be any; of the others its nodes alone have the mark
+pub record IsOpen (f : Ptr → Hook) (e : Ends) (s : List Ptr) (p : Ptr) : Type 0 where
+  pub long : e.len ≡ length s
+  pub once : Once s
+  pub away : is_in p s ≡ false
+  pub marks : (q : Ptr) → same_ptr p q ≡ false → (f q).linked ≡ is_in q s
   pub chain : Chain f null_ptr e.first.ptr s e.last.ptr null_ptr
 
 -- g is f, but for the hook h at p

@@ -1,6 +1,6 @@
 //! What a node has for one list, and what is known of that list.
 ghost use Rattle.std.specs.Prelude.{◌≡◌};
-ghost use Rattle.cordyceps_many.specs.Threads.{no_ends, unlinked};
+ghost use Rattle.cordyceps_many.specs.Threads.{no_ends};
 
 use cordyceps_base::boxes::Address;
 
@@ -10,19 +10,6 @@ pub struct Hook {
     pub(crate) next: Address,
     pub(crate) prev: Address,
     pub(crate) linked: bool,
-}
-
-impl Hook {
-    /// Returns the hook of a node that is not in the list.
-    pub(crate) fn unlinked() -> Hook
-        ensures { result ≡ unlinked }
-    {
-        Hook {
-            next: Address::null(),
-            prev: Address::null(),
-            linked: false,
-        }
-    }
 }
 
 /// The ends of one list, and its length.

@@ -1,12 +1,15 @@
 //! How many lists a node can be in, and its hooks for them.
-ghost use Rattle.std.specs.Prelude.{◌≡◌, ℕ, ◌<◌, List, length};
+ghost use Rattle.std.specs.Prelude.{◌≡◌, ℕ, ◌<◌, List, length, true};
 ghost use lib.Dec.{lit<};
 ghost use lib.ListN.{set, replicate};
 ghost use Rattle.cordyceps_many.specs.declared.hook.Hook.{Hook};
 ghost use Rattle.cordyceps_many.specs.declared.hook.Ends.{Ends};
-ghost use Rattle.cordyceps_many.specs.Threads.{unlinked, no_ends, hook_in, ends_in};
+ghost use Rattle.cordyceps_many.specs.Threads.{no_ends, hook_in, ends_in, AllOff, with_next, with_prev, unmarked};
+ghost use Rattle.cordyceps_many.specs.Marked.{hooks_of};
 
 use crate::hook::{Ends, Hook};
+use crate::marked::Marked;
+use cordyceps_base::boxes::Address;
 use std::marker::Model;
 
 /// Rows of hooks, one for each list, and of the lists' ends. It keeps `Hooks` to the types of this module.
@@ -30,9 +33,10 @@ pub(crate) trait Rows {
     fn count() -> usize
         ensures { result ≡ count };
 
-    /// Returns the hooks of a node that is in no list.
+    /// Returns the hooks of a node that is in no list but list 0.
     fn no_hooks() -> Self::HookArray
-        ensures { hooks result ≡ replicate count unlinked };
+        ensures long { length (hooks result) ≡ count }
+        ensures off { AllOff (hooks result) };
 
     /// Returns a node's hook for list `i`.
     fn hook(row: &Self::HookArray, i: usize) -> Hook
@@ -40,11 +44,31 @@ pub(crate) trait Rows {
         requires within { i < count }
         ensures { result ≡ hook_in (hooks row.now) i };
 
-    /// Sets a node's hook for list `i`.
+    /// Sets a node's hook for list `i`. That for list 0 always has its mark.
     fn set_hook(row: &mut Self::HookArray, i: usize, hook: Hook)
         requires long { length (hooks row.old) ≡ count }
         requires within { i < count }
+        requires on { i ≡ 0 → hook.linked ≡ true }
         ensures { hooks row.new ≡ set (hooks row.old) i hook };
+
+    /// Makes a node lead to `next` in list `i`.
+    fn set_next(row: &mut Self::HookArray, i: usize, next: Address)
+        requires long { length (hooks row.old) ≡ count }
+        requires within { i < count }
+        ensures { hooks row.new ≡ set (hooks row.old) i (with_next (hook_in (hooks row.old) i) next) };
+
+    /// Makes a node lead back to `prev` in list `i`.
+    fn set_prev(row: &mut Self::HookArray, i: usize, prev: Address)
+        requires long { length (hooks row.old) ≡ count }
+        requires within { i < count }
+        ensures { hooks row.new ≡ set (hooks row.old) i (with_prev (hook_in (hooks row.old) i) prev) };
+
+    /// Takes the mark of list `i`, which is not list 0, off a node.
+    fn unmark(row: &mut Self::HookArray, i: usize)
+        requires long { length (hooks row.old) ≡ count }
+        requires within { i < count }
+        requires not_all { 0 < i }
+        ensures { hooks row.new ≡ set (hooks row.old) i (unmarked (hook_in (hooks row.old) i)) };
 
     /// Returns the ends of lists with no node.
     fn no_ends() -> Self::EndsArray
@@ -84,9 +108,9 @@ impl<H: Hooks> Model for HookRow<H> {
 }
 
 impl<H: Hooks> HookRow<H> {
-    /// Returns the hooks of a node that is in no list.
+    /// Returns the hooks of a node that is in no list but list 0.
     pub(crate) fn unlinked() -> HookRow<H>
-        ensures { result ≡ replicate H.count unlinked }
+        ensures { AllOff result }
     {
         HookRow { row: H::no_hooks() }
     }
@@ -99,13 +123,42 @@ impl<H: Hooks> HookRow<H> {
         H::hook(&self.row, i)
     }
 
-    /// Sets the hook for list `i`.
+    /// Sets the hook for list `i`. That for list 0 always has its mark.
     pub(crate) fn set(&mut self, i: usize, hook: Hook)
-        requires { i < H.count }
+        requires within { i < H.count }
+        requires on { i ≡ 0 → hook.linked ≡ true }
         ensures set { self.new ≡ set self.old i hook }
         ensures long { length self.old ≡ H.count }
     {
         H::set_hook(&mut self.row, i, hook);
+    }
+
+    /// Leads to `next` in list `i`.
+    pub(crate) fn set_next(&mut self, i: usize, next: Address)
+        requires within { i < H.count }
+        ensures set { self.new ≡ set self.old i (with_next (hook_in self.old i) next) }
+        ensures long { length self.old ≡ H.count }
+    {
+        H::set_next(&mut self.row, i, next);
+    }
+
+    /// Leads back to `prev` in list `i`.
+    pub(crate) fn set_prev(&mut self, i: usize, prev: Address)
+        requires within { i < H.count }
+        ensures set { self.new ≡ set self.old i (with_prev (hook_in self.old i) prev) }
+        ensures long { length self.old ≡ H.count }
+    {
+        H::set_prev(&mut self.row, i, prev);
+    }
+
+    /// Takes the mark of list `i`, which is not list 0, off.
+    pub(crate) fn unmark(&mut self, i: usize)
+        requires within { i < H.count }
+        requires not_all { 0 < i }
+        ensures set { self.new ≡ set self.old i (unmarked (hook_in self.old i)) }
+        ensures long { length self.old ≡ H.count }
+    {
+        H::unmark(&mut self.row, i);
     }
 }
 
@@ -154,13 +207,13 @@ pub struct One;
 impl Hooks for One {}
 
 impl Rows for One {
-    type HookArray = [Hook; 1];
+    type HookArray = Marked<1, 0>;
 
     type EndsArray = [Ends; 1];
 
     ghost count = { 1 };
 
-    ghost hooks = { λ r. r };
+    ghost hooks = { λ r. hooks_of r.links r.marks };
 
     ghost ends = { λ r. r };
 
@@ -168,16 +221,28 @@ impl Rows for One {
         1
     }
 
-    fn no_hooks() -> [Hook; 1] {
-        [Hook::unlinked(); 1]
+    fn no_hooks() -> Marked<1, 0> {
+        Marked::none()
     }
 
-    fn hook(row: &[Hook; 1], i: usize) -> Hook {
-        row[i]
+    fn hook(row: &Marked<1, 0>, i: usize) -> Hook {
+        row.hook(i)
     }
 
-    fn set_hook(row: &mut [Hook; 1], i: usize, hook: Hook) {
-        row[i] = hook;
+    fn set_hook(row: &mut Marked<1, 0>, i: usize, hook: Hook) {
+        row.set_hook(i, hook);
+    }
+
+    fn set_next(row: &mut Marked<1, 0>, i: usize, next: Address) {
+        row.set_next(i, next);
+    }
+
+    fn set_prev(row: &mut Marked<1, 0>, i: usize, prev: Address) {
+        row.set_prev(i, prev);
+    }
+
+    fn unmark(row: &mut Marked<1, 0>, i: usize) {
+        row.unmark(i);
     }
 
     fn no_ends() -> [Ends; 1] {
@@ -201,13 +266,13 @@ pub struct Two;
 impl Hooks for Two {}
 
 impl Rows for Two {
-    type HookArray = [Hook; 2];
+    type HookArray = Marked<2, 1>;
 
     type EndsArray = [Ends; 2];
 
     ghost count = { 2 };
 
-    ghost hooks = { λ r. r };
+    ghost hooks = { λ r. hooks_of r.links r.marks };
 
     ghost ends = { λ r. r };
 
@@ -215,16 +280,28 @@ impl Rows for Two {
         2
     }
 
-    fn no_hooks() -> [Hook; 2] {
-        [Hook::unlinked(); 2]
+    fn no_hooks() -> Marked<2, 1> {
+        Marked::none()
     }
 
-    fn hook(row: &[Hook; 2], i: usize) -> Hook {
-        row[i]
+    fn hook(row: &Marked<2, 1>, i: usize) -> Hook {
+        row.hook(i)
     }
 
-    fn set_hook(row: &mut [Hook; 2], i: usize, hook: Hook) {
-        row[i] = hook;
+    fn set_hook(row: &mut Marked<2, 1>, i: usize, hook: Hook) {
+        row.set_hook(i, hook);
+    }
+
+    fn set_next(row: &mut Marked<2, 1>, i: usize, next: Address) {
+        row.set_next(i, next);
+    }
+
+    fn set_prev(row: &mut Marked<2, 1>, i: usize, prev: Address) {
+        row.set_prev(i, prev);
+    }
+
+    fn unmark(row: &mut Marked<2, 1>, i: usize) {
+        row.unmark(i);
     }
 
     fn no_ends() -> [Ends; 2] {
@@ -248,13 +325,13 @@ pub struct Three;
 impl Hooks for Three {}
 
 impl Rows for Three {
-    type HookArray = [Hook; 3];
+    type HookArray = Marked<3, 2>;
 
     type EndsArray = [Ends; 3];
 
     ghost count = { 3 };
 
-    ghost hooks = { λ r. r };
+    ghost hooks = { λ r. hooks_of r.links r.marks };
 
     ghost ends = { λ r. r };
 
@@ -262,16 +339,28 @@ impl Rows for Three {
         3
     }
 
-    fn no_hooks() -> [Hook; 3] {
-        [Hook::unlinked(); 3]
+    fn no_hooks() -> Marked<3, 2> {
+        Marked::none()
     }
 
-    fn hook(row: &[Hook; 3], i: usize) -> Hook {
-        row[i]
+    fn hook(row: &Marked<3, 2>, i: usize) -> Hook {
+        row.hook(i)
     }
 
-    fn set_hook(row: &mut [Hook; 3], i: usize, hook: Hook) {
-        row[i] = hook;
+    fn set_hook(row: &mut Marked<3, 2>, i: usize, hook: Hook) {
+        row.set_hook(i, hook);
+    }
+
+    fn set_next(row: &mut Marked<3, 2>, i: usize, next: Address) {
+        row.set_next(i, next);
+    }
+
+    fn set_prev(row: &mut Marked<3, 2>, i: usize, prev: Address) {
+        row.set_prev(i, prev);
+    }
+
+    fn unmark(row: &mut Marked<3, 2>, i: usize) {
+        row.unmark(i);
     }
 
     fn no_ends() -> [Ends; 3] {
@@ -295,13 +384,13 @@ pub struct Four;
 impl Hooks for Four {}
 
 impl Rows for Four {
-    type HookArray = [Hook; 4];
+    type HookArray = Marked<4, 3>;
 
     type EndsArray = [Ends; 4];
 
     ghost count = { 4 };
 
-    ghost hooks = { λ r. r };
+    ghost hooks = { λ r. hooks_of r.links r.marks };
 
     ghost ends = { λ r. r };
 
@@ -309,16 +398,28 @@ impl Rows for Four {
         4
     }
 
-    fn no_hooks() -> [Hook; 4] {
-        [Hook::unlinked(); 4]
+    fn no_hooks() -> Marked<4, 3> {
+        Marked::none()
     }
 
-    fn hook(row: &[Hook; 4], i: usize) -> Hook {
-        row[i]
+    fn hook(row: &Marked<4, 3>, i: usize) -> Hook {
+        row.hook(i)
     }
 
-    fn set_hook(row: &mut [Hook; 4], i: usize, hook: Hook) {
-        row[i] = hook;
+    fn set_hook(row: &mut Marked<4, 3>, i: usize, hook: Hook) {
+        row.set_hook(i, hook);
+    }
+
+    fn set_next(row: &mut Marked<4, 3>, i: usize, next: Address) {
+        row.set_next(i, next);
+    }
+
+    fn set_prev(row: &mut Marked<4, 3>, i: usize, prev: Address) {
+        row.set_prev(i, prev);
+    }
+
+    fn unmark(row: &mut Marked<4, 3>, i: usize) {
+        row.unmark(i);
     }
 
     fn no_ends() -> [Ends; 4] {

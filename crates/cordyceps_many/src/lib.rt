@@ -7,6 +7,7 @@ pub mod hooks;
 pub mod in_order;
 pub mod iter;
 mod links;
+pub mod marked;
 pub mod multi_list;
 pub mod node;
 mod rows;

@@ -1,15 +1,15 @@
 //! One list of several: nodes are put in at its ends and beside others, and taken out. No node moves.
-ghost use Rattle.std.specs.Prelude.{◌≡◌, ◌≤◌, ◌+◌, ◌<◌, List, [], ◌∷◌, ◌++◌, true, false};
+ghost use Rattle.std.specs.Prelude.{◌≡◌, ◌≤◌, ◌+◌, ◌<◌, List, [], ◌∷◌, ◌++◌, true};
 ghost use denote.RawPtr.{Ptr};
 ghost use Rattle.cordyceps_base.specs.Boxes.{box_addresses};
 ghost use Rattle.cordyceps_base.specs.Spots.{AreNullComparable};
 ghost use Rattle.cordyceps_many.specs.Rows.{hook_at, KeepsOthers};
-ghost use Rattle.cordyceps_many.specs.Threads.{is_in, without, with_before, with_after, IsThread, IsParted};
+ghost use Rattle.cordyceps_many.specs.Threads.{is_in, without, with_before, with_after, IsThread, IsOpen, IsParted};
 
 use crate::block::Row;
 use crate::hook::{Ends, Hook};
 use crate::hooks::Hooks;
-use crate::rows::{hook_of, led_back, led_on, set_hook};
+use crate::rows::{hook_of, led_back, led_on, set_hook, unmark};
 use cordyceps_base::boxes::Address;
 use cordyceps_stable::addresses::address_of;
 use cordyceps_stable::stable_list::Spot;
@@ -20,8 +20,8 @@ pub(crate) fn put_last<T, H: Hooks>(row: &mut Row<T, H>, i: usize, at: Spot, end
     requires within { i < H.count }
     requires comparable { AreNullComparable (box_addresses row.old.boxes.blocks) }
     requires fits { ends.len < usize.MAX }
-    requires thread { (s : List Ptr) × IsThread (hook_at row.old.boxes.blocks i) ends s × (is_in at s ≡ false) }
-    ensures thread { (s : List Ptr) → IsThread (hook_at row.old.boxes.blocks i) ends s → is_in at s ≡ false
+    requires around { (s : List Ptr) × IsOpen (hook_at row.old.boxes.blocks i) ends s at }
+    ensures thread { (s : List Ptr) → IsOpen (hook_at row.old.boxes.blocks i) ends s at
         → IsThread (hook_at row.new.boxes.blocks i) result (s ++ at ∷ []) }
     ensures rest { KeepsOthers i row.old.boxes.blocks row.new.boxes.blocks }
 {
@@ -47,8 +47,8 @@ pub(crate) fn put_first<T, H: Hooks>(row: &mut Row<T, H>, i: usize, at: Spot, en
     requires within { i < H.count }
     requires comparable { AreNullComparable (box_addresses row.old.boxes.blocks) }
     requires fits { ends.len < usize.MAX }
-    requires thread { (s : List Ptr) × IsThread (hook_at row.old.boxes.blocks i) ends s × (is_in at s ≡ false) }
-    ensures thread { (s : List Ptr) → IsThread (hook_at row.old.boxes.blocks i) ends s → is_in at s ≡ false
+    requires around { (s : List Ptr) × IsOpen (hook_at row.old.boxes.blocks i) ends s at }
+    ensures thread { (s : List Ptr) → IsOpen (hook_at row.old.boxes.blocks i) ends s at
         → IsThread (hook_at row.new.boxes.blocks i) result (at ∷ s) }
     ensures rest { KeepsOthers i row.old.boxes.blocks row.new.boxes.blocks }
 {
@@ -81,10 +81,10 @@ fn put_between<T, H: Hooks>(
     requires within { i < H.count }
     requires comparable { AreNullComparable (box_addresses row.old.boxes.blocks) }
     requires fits { ends.len < usize.MAX }
-    requires thread { (s : List Ptr) × (t : List Ptr) × IsThread (hook_at row.old.boxes.blocks i) ends (s ++ t)
-        × IsParted (hook_at row.old.boxes.blocks i) ends s prev.ptr next.ptr t × (is_in at.ptr (s ++ t) ≡ false) }
-    ensures thread { (s t : List Ptr) → IsThread (hook_at row.old.boxes.blocks i) ends (s ++ t)
-        → IsParted (hook_at row.old.boxes.blocks i) ends s prev.ptr next.ptr t → is_in at.ptr (s ++ t) ≡ false
+    requires around { (s : List Ptr) × (t : List Ptr) × IsOpen (hook_at row.old.boxes.blocks i) ends (s ++ t) at.ptr
+        × IsParted (hook_at row.old.boxes.blocks i) ends s prev.ptr next.ptr t }
+    ensures thread { (s t : List Ptr) → IsOpen (hook_at row.old.boxes.blocks i) ends (s ++ t) at.ptr
+        → IsParted (hook_at row.old.boxes.blocks i) ends s prev.ptr next.ptr t
         → IsThread (hook_at row.new.boxes.blocks i) result (s ++ at.ptr ∷ t) }
     ensures rest { KeepsOthers i row.old.boxes.blocks row.new.boxes.blocks }
 {
@@ -116,10 +116,8 @@ pub(crate) fn put_before<T, H: Hooks>(
     requires within { i < H.count }
     requires comparable { AreNullComparable (box_addresses row.old.boxes.blocks) }
     requires fits { ends.len < usize.MAX }
-    requires thread { (s : List Ptr) × IsThread (hook_at row.old.boxes.blocks i) ends s
-        × (is_in other s ≡ true) × (is_in at s ≡ false) }
-    ensures thread { (s : List Ptr) → IsThread (hook_at row.old.boxes.blocks i) ends s
-        → is_in other s ≡ true → is_in at s ≡ false
+    requires around { (s : List Ptr) × IsOpen (hook_at row.old.boxes.blocks i) ends s at × (is_in other s ≡ true) }
+    ensures thread { (s : List Ptr) → IsOpen (hook_at row.old.boxes.blocks i) ends s at → is_in other s ≡ true
         → IsThread (hook_at row.new.boxes.blocks i) result (with_before other at s) }
     ensures rest { KeepsOthers i row.old.boxes.blocks row.new.boxes.blocks }
 {
@@ -141,10 +139,8 @@ pub(crate) fn put_after<T, H: Hooks>(
     requires within { i < H.count }
     requires comparable { AreNullComparable (box_addresses row.old.boxes.blocks) }
     requires fits { ends.len < usize.MAX }
-    requires thread { (s : List Ptr) × IsThread (hook_at row.old.boxes.blocks i) ends s
-        × (is_in other s ≡ true) × (is_in at s ≡ false) }
-    ensures thread { (s : List Ptr) → IsThread (hook_at row.old.boxes.blocks i) ends s
-        → is_in other s ≡ true → is_in at s ≡ false
+    requires around { (s : List Ptr) × IsOpen (hook_at row.old.boxes.blocks i) ends s at × (is_in other s ≡ true) }
+    ensures thread { (s : List Ptr) → IsOpen (hook_at row.old.boxes.blocks i) ends s at → is_in other s ≡ true
         → IsThread (hook_at row.new.boxes.blocks i) result (with_after other at s) }
     ensures rest { KeepsOthers i row.old.boxes.blocks row.new.boxes.blocks }
 {
@@ -154,20 +150,20 @@ pub(crate) fn put_after<T, H: Hooks>(
     put_between(row, i, at, other, next, ends)
 }
 
-/// Takes the node at `at` out of list `i`, and returns the ends of that.
-pub(crate) fn cut_out<T, H: Hooks>(row: &mut Row<T, H>, i: usize, at: Spot, ends: Ends) -> Ends
+/// Links the neighbours of the node at `at` in list `i` to each other, and returns the ends of the list without it. The
+/// hook of that node stays.
+pub(crate) fn cut_open<T, H: Hooks>(row: &mut Row<T, H>, i: usize, at: Spot, ends: Ends) -> Ends
     requires within { i < H.count }
     requires comparable { AreNullComparable (box_addresses row.old.boxes.blocks) }
     requires thread { (s : List Ptr) × IsThread (hook_at row.old.boxes.blocks i) ends s × (is_in at s ≡ true) }
-    ensures thread { (s : List Ptr) → IsThread (hook_at row.old.boxes.blocks i) ends s → is_in at s ≡ true
-        → IsThread (hook_at row.new.boxes.blocks i) result (without at s) }
+    ensures around { (s : List Ptr) → IsThread (hook_at row.old.boxes.blocks i) ends s → is_in at s ≡ true
+        → IsOpen (hook_at row.new.boxes.blocks i) result (without at s) at }
     ensures room { result.len < usize.MAX }
     ensures rest { KeepsOthers i row.old.boxes.blocks row.new.boxes.blocks }
 {
     let at = address_of(at);
     let Hook { next, prev, .. } = hook_of(row, i, at);
     let Ends { first, last, len } = ends;
-    set_hook(row, i, at, Hook::unlinked());
     let first = led_on(row, i, first, prev, next);
     let last = led_back(row, i, next, last, prev);
     Ends {
@@ -175,4 +171,19 @@ pub(crate) fn cut_out<T, H: Hooks>(row: &mut Row<T, H>, i: usize, at: Spot, ends
         last,
         len: len - 1,
     }
+}
+
+/// Takes the node at `at` out of list `i`, which is not list 0, and returns the ends of that.
+pub(crate) fn cut_out<T, H: Hooks>(row: &mut Row<T, H>, i: usize, at: Spot, ends: Ends) -> Ends
+    requires within { i < H.count }
+    requires not_all { 0 < i }
+    requires comparable { AreNullComparable (box_addresses row.old.boxes.blocks) }
+    requires thread { (s : List Ptr) × IsThread (hook_at row.old.boxes.blocks i) ends s × (is_in at s ≡ true) }
+    ensures thread { (s : List Ptr) → IsThread (hook_at row.old.boxes.blocks i) ends s → is_in at s ≡ true
+        → IsThread (hook_at row.new.boxes.blocks i) result (without at s) }
+    ensures rest { KeepsOthers i row.old.boxes.blocks row.new.boxes.blocks }
+{
+    let ends = cut_open(row, i, at, ends);
+    unmark(row, i, address_of(at));
+    ends
 }

@@ -1,13 +1,13 @@
 //! Lists that share their nodes: a node is in list 0, and at the same time in any of the others.
 //!
-//! A node of two lists is one block of memory. It has a hook for each list: its neighbours there, and whether the list
-//! has it.
+//! A node of three lists is one block of memory. It has its neighbours in each list, and for each list but list 0 a mark
+//! of one byte, which is set while that list has the node. List 0 has every node, so it needs no mark.
 //!
 //! ```text
-//!            hook 0               hook 1
-//! +------+------+--------+------+------+--------+----+-------+
-//! | next | prev | linked | next | prev | linked | id | value |
-//! +------+------+--------+------+------+--------+----+-------+
+//!     list 0        list 1        list 2      1   2
+//! +------+------+------+------+------+------+---+---+----+-------+
+//! | next | prev | next | prev | next | prev | m | m | id | value |
+//! +------+------+------+------+------+------+---+---+----+-------+
 //! ```
 ghost use Rattle.std.specs.Prelude.{◌≡◌, ◌≢◌, ℕ, ◌+◌, ◌<◌, ◌==◌, List, [], ◌∷◌, ◌++◌, length, true, false};
 ghost use Rattle.std.specs.Prelude.{MatchOption, IfSome, slice_get, Some};
@@ -16,7 +16,7 @@ ghost use denote.RawPtr.{Ptr, null_ptr, InBlock, Testable};
 ghost use Rattle.cordyceps_base.specs.BySpot.{HasSpot, HoldsAt, IsTaken};
 ghost use Rattle.cordyceps_base.specs.Element.{values};
 ghost use Rattle.cordyceps_base.specs.Nodes.{elements, spots, with_item};
-ghost use Rattle.cordyceps_base.specs.Spots.{index_of, AreDistinct};
+ghost use Rattle.cordyceps_base.specs.Spots.{index_of, AreDistinct, AreNullComparable};
 ghost use Rattle.cordyceps_many.specs.MultiList.{list_at, SameBut, IsFirstOf, IsLastOf, AreNextIn, HasNumber};
 ghost use Rattle.cordyceps_many.specs.MultiList.{FirstTaken};
 ghost use Rattle.cordyceps_many.specs.Threads.{is_in, without, with_before, with_after};
@@ -24,7 +24,7 @@ ghost use Rattle.cordyceps_many.specs.Threads.{is_in, without, with_before, with
 use crate::block::Row;
 use crate::hook::Ends;
 use crate::hooks::{EndsRow, Hooks};
-use crate::links::{cut_out, put_after, put_before, put_first, put_last};
+use crate::links::{cut_open, cut_out, put_after, put_before, put_first, put_last};
 use crate::node::MultiNode;
 use crate::rows::{hook_of, joined, taken};
 use cordyceps_base::boxes::{Address, Boxes};
@@ -200,7 +200,7 @@ impl<T: Drop, H: Hooks> MultiList<T, H> {
         ensures others { SameBut 0 self.old.lists self.new.lists }
     {
         let ends = self.ends.at(0);
-        let ends = cut_out(&mut self.row, 0, at, ends);
+        let ends = cut_open(&mut self.row, 0, at, ends);
         self.ends.set(0, ends);
         taken(&mut self.row, at)
     }
@@ -218,13 +218,14 @@ impl<T: Drop, H: Hooks> MultiList<T, H> {
 impl<T, H: Hooks> MultiList<T, H> {
     ghost use Rattle.cordyceps_many.specs.MultiLends.{LendsAt, with_value_at};
 
-    /// Does nothing when the program runs. Its contract states that no two nodes are at one spot, that each list has a
-    /// spot only once, and only spots of nodes, and that list 0 has all of these.
+    /// Does nothing when the program runs. Its contract states that no two nodes are at one spot, and that no spot is
+    /// null, that each list has a spot only once, and only spots of nodes, and that list 0 has all of these.
     ///
     /// # Complexity
     /// O(1).
     pub fn lists_agree(&self)
         ensures distinct { AreDistinct (spots self.now.nodes) }
+        ensures comparable { AreNullComparable (spots self.now.nodes) }
         ensures once { (i : ℕ) → AreDistinct (list_at i self.now.lists) }
         ensures inside { (i : ℕ) (p : Ptr) → is_in p (list_at i self.now.lists) ≡ true → HasSpot self.now.nodes p }
         ensures all { (p : Ptr) → HasSpot self.now.nodes p → is_in p (list_at 0 self.now.lists) ≡ true }
@@ -530,7 +531,7 @@ impl<T, H: Hooks> MultiList<T, H> {
         ensures kept { (p : Ptr) → HasSpot self.old.nodes p → HasSpot self.new.nodes p }
     {
         let ends = self.ends.at(i);
-        let rest = cut_out(&mut self.row, i, at, ends);
+        let rest = cut_open(&mut self.row, i, at, ends);
         let ends = put_last(&mut self.row, i, at, rest);
         self.ends.set(i, ends);
     }
@@ -550,7 +551,7 @@ impl<T, H: Hooks> MultiList<T, H> {
         ensures kept { (p : Ptr) → HasSpot self.old.nodes p → HasSpot self.new.nodes p }
     {
         let ends = self.ends.at(i);
-        let rest = cut_out(&mut self.row, i, at, ends);
+        let rest = cut_open(&mut self.row, i, at, ends);
         let ends = put_first(&mut self.row, i, at, rest);
         self.ends.set(i, ends);
     }

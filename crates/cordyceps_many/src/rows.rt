@@ -3,7 +3,7 @@ ghost use Rattle.std.specs.Prelude.{◌≡◌, ℕ, ◌<◌, true, false};
 ghost use Rattle.cordyceps_base.specs.Boxes.{box_addresses};
 ghost use Rattle.cordyceps_base.specs.Spots.{AreDistinct, AreNullComparable};
 ghost use Rattle.cordyceps_many.specs.Rows.{IsJoined, IsOut, hook_at, Reaches, KeepsOthers};
-ghost use Rattle.cordyceps_many.specs.Threads.{is_in, with_next, with_prev, Wrote, IsLedOn, IsLedBack};
+ghost use Rattle.cordyceps_many.specs.Threads.{is_in, with_next, with_prev, unmarked, Wrote, IsLedOn, IsLedBack};
 
 use crate::block::Row;
 use crate::hook::Hook;
@@ -29,10 +29,10 @@ pub(crate) fn joined<T: Drop, H: Hooks>(row: &mut Row<T, H>, node: MultiNode<T, 
     spot_at(at)
 }
 
-/// Takes the node at `at`, which is in no list, out of the row.
+/// Takes the node at `at`, which has no mark of a list but list 0, out of the row.
 pub(crate) fn taken<T: Drop, H: Hooks>(row: &mut Row<T, H>, at: Spot) -> MultiNode<T, H>
     requires there { is_in at (box_addresses row.old.boxes.blocks) ≡ true }
-    requires off { (i : ℕ) → (hook_at row.old.boxes.blocks i at).linked ≡ false }
+    requires off { (i : ℕ) → 0 < i → (hook_at row.old.boxes.blocks i at).linked ≡ false }
     ensures taken { IsOut row.old.boxes.blocks at result row.new.boxes.blocks }
     ensures distinct { AreDistinct (box_addresses row.new.boxes.blocks) }
     ensures comparable { AreNullComparable (box_addresses row.new.boxes.blocks) }
@@ -57,10 +57,11 @@ pub(crate) fn hook_of<T, H: Hooks>(row: &Row<T, H>, i: usize, at: Address) -> Ho
     row.boxes.from_address(at).get(at, 0).hooks.at(i)
 }
 
-/// Sets hook `i` of the node at `at`.
+/// Sets hook `i` of the node at `at`. That for list 0 always has its mark.
 pub(crate) fn set_hook<T, H: Hooks>(row: &mut Row<T, H>, i: usize, at: Address, hook: Hook)
     requires there { is_in at.ptr (box_addresses row.old.boxes.blocks) ≡ true }
     requires within { i < H.count }
+    requires on { i ≡ 0 → hook.linked ≡ true }
     ensures set { Wrote (hook_at row.old.boxes.blocks i) at.ptr hook (hook_at row.new.boxes.blocks i) }
     ensures rest { KeepsOthers i row.old.boxes.blocks row.new.boxes.blocks }
 {
@@ -76,9 +77,8 @@ fn set_next<T, H: Hooks>(row: &mut Row<T, H>, i: usize, at: Address, next: Addre
         (hook_at row.new.boxes.blocks i) }
     ensures rest { KeepsOthers i row.old.boxes.blocks row.new.boxes.blocks }
 {
-    let mut hook = hook_of(row, i, at);
-    hook.next = next;
-    set_hook(row, i, at, hook);
+    let block = row.boxes.at_mut(at);
+    block.hooks.set_next(i, next);
 }
 
 /// Makes the node at `at` lead back to `prev` in list `i`.
@@ -89,9 +89,21 @@ fn set_prev<T, H: Hooks>(row: &mut Row<T, H>, i: usize, at: Address, prev: Addre
         (hook_at row.new.boxes.blocks i) }
     ensures rest { KeepsOthers i row.old.boxes.blocks row.new.boxes.blocks }
 {
-    let mut hook = hook_of(row, i, at);
-    hook.prev = prev;
-    set_hook(row, i, at, hook);
+    let block = row.boxes.at_mut(at);
+    block.hooks.set_prev(i, prev);
+}
+
+/// Takes the mark of list `i`, which is not list 0, off the node at `at`.
+pub(crate) fn unmark<T, H: Hooks>(row: &mut Row<T, H>, i: usize, at: Address)
+    requires there { is_in at.ptr (box_addresses row.old.boxes.blocks) ≡ true }
+    requires within { i < H.count }
+    requires not_all { 0 < i }
+    ensures set { Wrote (hook_at row.old.boxes.blocks i) at.ptr (unmarked (hook_at row.old.boxes.blocks i at.ptr))
+        (hook_at row.new.boxes.blocks i) }
+    ensures rest { KeepsOthers i row.old.boxes.blocks row.new.boxes.blocks }
+{
+    let block = row.boxes.at_mut(at);
+    block.hooks.unmark(i);
 }
 
 /// Makes the node at `last`, if it is not null, lead to `next` in list `i`. Returns `first`, or `next` where `last` is

@@ -1,39 +1,22 @@
-use Rattle.std.proofs.Common.{◌≡◌, ◌-◌, true, sym, subst, ◌∙◌}
-use Rattle.cordyceps_many.specs.Rows.{hook_at, Reaches}
-use Rattle.cordyceps_many.specs.Threads.{is_in, without, IsThread, Wrote, IsLedOn, IsLedBack}
-use Rattle.cordyceps_many.proofs.Reached.{reach_moved, all_in, solid, prev_reached, next_reached}
-use Rattle.cordyceps_many.proofs.Threads.{thread_cut}
+use Rattle.std.proofs.Common.{◌≡◌, true, refl, sym, subst}
+use Rattle.cordyceps_base.specs.Boxes.{box_addresses}
+use Rattle.cordyceps_many.specs.Rows.{hook_at}
+use Rattle.cordyceps_many.specs.Threads.{is_in, without, unmarked, Wrote}
+use Rattle.cordyceps_many.proofs.HookRows.{keeps_both}
+use Rattle.cordyceps_many.proofs.Reached.{all_in}
+use Rattle.cordyceps_many.proofs.Threads.{thread_goes, closed}
 use Rattle.cordyceps_many.proofs.links.cut_out.Goals as goal
 
-pub hook_of-requires-clause-there : goal.hook_of-requires-clause-there
-hook_of-requires-clause-there g c =
-    let (s, w, has) = c.requires.thread in
-    all_in c.args.row.now.boxes.blocks c.requires.comparable c.args.i c.args.ends s w c.address_of-at.result.ptr (subst (λ z. is_in z s ≡ true) (sym c.address_of-at.ensures) has)
-
-pub set_hook-requires-clause-there : goal.set_hook-requires-clause-there
-set_hook-requires-clause-there g c =
-    let (s, w, has) = c.requires.thread in
-    all_in c.args.row.now.boxes.blocks c.requires.comparable c.args.i c.args.ends s w c.address_of-at.result.ptr (subst (λ z. is_in z s ≡ true) (sym c.address_of-at.ensures) has)
-
-pub led_on-first-requires-clause-reaches : goal.led_on-first-requires-clause-reaches
-led_on-first-requires-clause-reaches g c =
-    let ns = c.args.row.now.boxes.blocks in let i = c.args.i in let e = c.args.ends in let p = c.address_of-at.result.ptr in let (s, w, has) = c.requires.thread in let k = c.set_hook.ensures.rest in
-    let there = subst (λ z. is_in z s ≡ true) (sym c.address_of-at.ensures) has in
-    reach_moved c.hook_of.result.prev.ptr ns c.set_hook.new.row.boxes.blocks k.addresses (subst (λ h. Reaches h.prev.ptr ns) (sym c.hook_of.ensures) (prev_reached ns c.requires.comparable i e s w p there))
-
-pub led_back-last-requires-clause-reaches : goal.led_back-last-requires-clause-reaches
-led_back-last-requires-clause-reaches g c =
-    let ns = c.args.row.now.boxes.blocks in let i = c.args.i in let e = c.args.ends in let p = c.address_of-at.result.ptr in let (s, w, has) = c.requires.thread in let k = c.set_hook.ensures.rest in let l = c.led_on-first.ensures.rest in
-    let there = subst (λ z. is_in z s ≡ true) (sym c.address_of-at.ensures) has in
-    reach_moved c.hook_of.result.next.ptr ns c.led_on-first.new.row.boxes.blocks (l.addresses ∙ k.addresses) (subst (λ h. Reaches h.next.ptr ns) (sym c.hook_of.ensures) (next_reached ns c.requires.comparable i e s w p there))
+pub unmark-requires-clause-there : goal.unmark-requires-clause-there
+unmark-requires-clause-there g c =
+    let ns = c.args.row.now.boxes.blocks in let i = c.args.i in let e = c.args.ends in let (s, w, has) = c.requires.thread in
+    let here = all_in ns c.requires.comparable i e s (thread_goes (hook_at ns i) e s w) c.args.at has in
+    subst (λ q. is_in q (box_addresses c.cut_open-ends.new.row.boxes.blocks) ≡ true) (sym c.address_of.ensures) (subst (λ a. is_in c.args.at a ≡ true) (sym c.cut_open-ends.ensures.rest.addresses) here)
 
 pub returns-clause-thread : goal.returns-clause-thread
 returns-clause-thread g c = λ s w has.
-    let ns = c.args.row.now.boxes.blocks in let i = c.args.i in let a = c.address_of-at.result.ptr in let e = c.args.ends in
-    let there = subst (λ z. is_in z s ≡ true) (sym c.address_of-at.ensures) has in
-    let f0 = hook_at ns i in let f1 = hook_at c.set_hook.new.row.boxes.blocks i in let f2 = hook_at c.led_on-first.new.row.boxes.blocks i in let f3 = hook_at c.led_back-last.new.row.boxes.blocks i in
-    subst (λ q. IsThread f3 (record { first = c.led_on-first.result; last = c.led_back-last.result; len = e.len - 1 }) (without q s)) c.address_of-at.ensures
-    (thread_cut f0 f1 f2 f3 e s a c.led_on-first.result c.led_back-last.result w there (solid ns c.requires.comparable i e s w)
-    (subst (λ h. Wrote f0 a h f1) c.unlinked.ensures c.set_hook.ensures.set)
-    (subst (λ h. IsLedOn f1 h.prev.ptr h.next e.first.ptr f2 c.led_on-first.result.ptr) c.hook_of.ensures c.led_on-first.ensures.led)
-    (subst (λ h. IsLedBack f2 h.next.ptr h.prev e.last.ptr f3 c.led_back-last.result.ptr) c.hook_of.ensures c.led_back-last.ensures.led))
+    let i = c.args.i in let r = c.cut_open-ends in let f = hook_at r.new.row.boxes.blocks i in let h = hook_at c.unmark.new.row.boxes.blocks i in
+    closed f h r.result (without c.args.at s) c.args.at (unmarked (f c.args.at)) (r.ensures.around s w has) (subst (λ q. Wrote f q (unmarked (f q)) h) c.address_of.ensures c.unmark.ensures.set) refl
+
+pub returns-clause-rest : goal.returns-clause-rest
+returns-clause-rest g c = keeps_both c.args.i c.args.row.now.boxes.blocks c.cut_open-ends.new.row.boxes.blocks c.unmark.new.row.boxes.blocks c.cut_open-ends.ensures.rest c.unmark.ensures.rest

@@ -22,7 +22,7 @@ invariant_of-result g c =
     let back = c.cut_at-front.ensures.1 ∙ ap (λ ls. drop (index_of p (box_addresses ls)) ls) was ∙ u.back in
     let one = c.cut-one.ensures.0 ∙ ap (take 1) back ∙ (λ i. (u.lies i, u.node.1, block_of u.node) ∷ []) in
     let is : c.into_box-block.result.value ≡ block_of u.node = c.into_box-block.ensures ∙ ap (λ ls. get_or (box_values ls) 0 c.only.result.value) (sym c.only.ensures ∙ one) in
-    λ i. ap (λ b. (hook_in b.hooks i).linked) is ∙ sym (ap (λ (h : Hook). h.linked) (hook_cut ns p u i)) ∙ ap (λ q. (hook_at ns i q).linked) at ∙ c.requires.off i
+    λ i m. ap (λ b. (hook_in b.hooks i).linked) is ∙ sym (ap (λ (h : Hook). h.linked) (hook_cut ns p u i)) ∙ ap (λ q. (hook_at ns i q).linked) at ∙ c.requires.off i m
 
 pub returns-clause-taken : goal.returns-clause-taken
 returns-clause-taken g c =

@@ -1,6 +1,6 @@
 use Rattle.std.proofs.Common.{refl, sym, ap, ◌∙◌, subst}
 use Rattle.cordyceps_base.specs.Nodes.{spots}
-use Rattle.cordyceps_base.specs.Spots.{AreDistinct}
+use Rattle.cordyceps_base.specs.Spots.{AreDistinct, AreNullComparable}
 use Rattle.cordyceps_many.specs.MultiList.{list_at}
 use Rattle.cordyceps_many.proofs.Members.{once_distinct}
 use Rattle.cordyceps_many.proofs.Shared.{linked, spot_in, in_spot, listed, all_of, spots_are}
@@ -10,6 +10,11 @@ pub returns-clause-distinct : goal.returns-clause-distinct
 returns-clause-distinct g c =
     let ns = c.self.inside.row.boxes.blocks in let es = c.self.inside.ends in let v = c.args.self.now in let inv = c.self.invariant in let seen = c.self.view_is in let k = g.H.Rows.count in
     subst AreDistinct (sym (ap (λ m. spots m.nodes) (sym seen) ∙ spots_are ns)) inv.parts.distinct
+
+pub returns-clause-comparable : goal.returns-clause-comparable
+returns-clause-comparable g c =
+    let ns = c.self.inside.row.boxes.blocks in let inv = c.self.invariant in let seen = c.self.view_is in
+    subst AreNullComparable (sym (ap (λ m. spots m.nodes) (sym seen) ∙ spots_are ns)) inv.parts.comparable
 
 pub returns-clause-once : goal.returns-clause-once
 returns-clause-once g c =

@@ -9,6 +9,7 @@ use Rattle.cordyceps_many.proofs.Members.{earlier_in, lifted, if_some}
 use Rattle.cordyceps_many.proofs.Reached.{solid, prev_reached}
 use Rattle.cordyceps_many.proofs.Shared.{linked, in_spot, listed}
 use Rattle.cordyceps_many.proofs.Between.{prev_is}
+use Rattle.cordyceps_many.proofs.Threads.{thread_goes}
 use Rattle.cordyceps_many.proofs.multi_list.MultiList.prev.Goals as goal
 
 pub hook_of-requires : goal.hook_of-requires
@@ -20,14 +21,14 @@ pub spot_unless_null-requires : goal.spot_unless_null-requires
 spot_unless_null-requires g c =
     let ns = c.self.inside.row.boxes.blocks in let es = c.self.inside.ends in let v = c.args.self.now in let inv = c.self.invariant in let seen = c.self.view_is in let k = g.H.Rows.count in
     let i = c.args.i in let q = c.args.at in let s = list_at i v.lists in let e = ends_in es i in let w = linked k es ns v inv seen i in let is = c.hook_of.ensures ∙ ap (hook_at ns i) c.address_of.ensures in
-    subst (λ (h : Hook). Testable h.prev.ptr) (sym is) (prev_reached ns inv.parts.comparable i e s w q c.requires.in_list).testable
+    subst (λ (h : Hook). Testable h.prev.ptr) (sym is) (prev_reached ns inv.parts.comparable i e s (thread_goes (hook_at ns i) e s w) q c.requires.in_list).testable
 
 pub returns-clause-step : goal.returns-clause-step
 returns-clause-step g c =
     let ns = c.self.inside.row.boxes.blocks in let es = c.self.inside.ends in let v = c.args.self.now in let inv = c.self.invariant in let seen = c.self.view_is in let k = g.H.Rows.count in
-    let i = c.args.i in let q = c.args.at in let s = list_at i v.lists in let e = ends_in es i in let w = linked k es ns v inv seen i in let is = c.hook_of.ensures ∙ ap (hook_at ns i) c.address_of.ensures in let step = prev_is (hook_at ns i) e s q w c.requires.in_list in
+    let i = c.args.i in let q = c.args.at in let s = list_at i v.lists in let e = ends_in es i in let w = linked k es ns v inv seen i in let is = c.hook_of.ensures ∙ ap (hook_at ns i) c.address_of.ensures in let step = prev_is (hook_at ns i) e s q w.once w.chain c.requires.in_list in
     lifted c.spot_unless_null.result c.spot_unless_null.ensures
-    (λ z. step.1 (sym (ap (λ (h : Hook). h.prev.ptr) is) ∙ z) (solid ns inv.parts.comparable i e s w))
+    (λ z. step.1 (sym (ap (λ (h : Hook). h.prev.ptr) is) ∙ z) (solid ns inv.parts.comparable i e s (thread_goes (hook_at ns i) e s w)))
     (λ r d. let (l, m, eq) = step.0 (subst (λ (h : Hook). InBlock h.prev.ptr) is (subst InBlock d.1 d.0)) in record { before = l; after = m; whole = eq ∙ ap (λ z. l ++ z ∷ q ∷ m) (sym (d.1 ∙ ap (λ (h : Hook). h.prev.ptr) is)) })
 
 pub returns-clause-in_list : goal.returns-clause-in_list

@@ -10,7 +10,7 @@ pub cut_out-ends-requires : goal.cut_out-ends-requires
 cut_out-ends-requires g c =
     let ns = c.self.inside.row.boxes.blocks in let es = c.self.inside.ends in let v = c.args.self.now in let inv = c.self.invariant in let seen = c.self.view_is in let k = g.H.Rows.count in
     let i = c.args.i in let s = list_at i v.lists in let w = held k es ns v inv seen i c.at-ends.result c.at-ends.ensures in
-    record { within = c.requires.within; comparable = inv.parts.comparable; thread = (s, w, c.requires.in_list) }
+    record { within = c.requires.within; not_all = c.requires.not_all; comparable = inv.parts.comparable; thread = (s, w, c.requires.in_list) }
 
 pub invariant_of-self : goal.invariant_of-self
 invariant_of-self g c =

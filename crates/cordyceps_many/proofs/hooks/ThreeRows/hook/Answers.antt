@@ -1,5 +1,0 @@
-use Rattle.cordyceps_many.proofs.Indexed.{hook_is}
-use Rattle.cordyceps_many.proofs.hooks.ThreeRows.hook.Goals as goal
-
-pub returns : goal.returns
-returns c = hook_is c.args.row.now c.args.i
