@@ -2,6 +2,6 @@
 
 pub use cordyceps_base::stack::Links;
 pub use cordyceps_stack::stack::{
-    MAX_ROOMS, Party, QUANTUM, Replay, Stack, StepError, TransferAnswer, TransferCore,
+    Inbox, MAX_ROOMS, Party, QUANTUM, Replay, Stack, StepError, TransferAnswer, TransferCore,
     TransferStack, TransferStep, TryPushError, replay,
 };

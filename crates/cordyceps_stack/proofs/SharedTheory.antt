@@ -1,4 +1,5 @@
 -- Lemmas on what threads share.
+pub mod Batching
 pub mod CallsHold
 pub mod ChainJoins
 pub mod ChainKeeps

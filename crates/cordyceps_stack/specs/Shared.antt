@@ -1,5 +1,7 @@
 -- Definitions of what threads share.
+pub mod Batches
 pub mod Calls
+pub mod Inboxes
 pub mod Moves
 pub mod Order
 pub mod Parting

@@ -3,6 +3,7 @@
 pub(crate) mod batch;
 pub(crate) mod calls;
 pub(crate) mod chain;
+pub(crate) mod inbox;
 pub(crate) mod parting;
 pub(crate) mod plays;
 pub(crate) mod pool;

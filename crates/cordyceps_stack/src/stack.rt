@@ -5,6 +5,7 @@ pub use crate::cores::replay::replay;
 pub use crate::cores::replay_end::Replay;
 pub use crate::cores::steps::{TransferAnswer, TransferStep};
 pub use crate::shared::calls::{Party, TransferStack};
+pub use crate::shared::inbox::Inbox;
 pub use crate::shared::push_error::TryPushError;
 pub use cordyceps_base::shared::{MAX_ROOMS, StepError};
 pub use cordyceps_base::stack::Links;

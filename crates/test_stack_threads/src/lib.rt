@@ -4,6 +4,8 @@
 #[cfg(test)]
 mod compared;
 #[cfg(test)]
+mod inboxes;
+#[cfg(test)]
 mod items;
 #[cfg(test)]
 mod large_stacks;

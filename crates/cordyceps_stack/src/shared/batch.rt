@@ -3,6 +3,7 @@ ghost use Rattle.std.specs.Prelude.{◌≡◌, ◌≢◌, ℕ, [], ◌∷◌, �
 ghost use Rattle.cordyceps_shared.specs.FreeChains.{Tracks};
 ghost use Rattle.cordyceps_stack.specs.Shared.Parts.{IsSeatOf, HasTaken, EmptiesHand};
 ghost use Rattle.cordyceps_stack.specs.Cores.Stages.{room_elements};
+ghost use Rattle.cordyceps_stack.specs.Shared.Batches.{in_order, with_next};
 ghost use Rattle.cordyceps_stack.specs.Shared.Plays.{to_hand_out};
 ghost use Rattle.cordyceps_stack.specs.Shared.Slots.{Hand, view, hand, filled, vacant, link_or};
 
@@ -37,10 +38,21 @@ fn empty<E: Drop>(words: &Words<E>, seat: &mut PartySeat<E>, room: usize, after:
     (item, link)
 }
 
+/// Adds an element at the front of a batch if that is to have the oldest first, and at its back otherwise.
+fn add<T: Linked<Links<T>>, const OLDEST_FIRST: bool>(batch: &mut Stack<T>, item: T::Handle)
+    ensures { batch.new ≡ with_next OLDEST_FIRST batch.old (T.element item) }
+{
+    if OLDEST_FIRST {
+        batch.push(item);
+    } else {
+        put_last(batch, item);
+    }
+}
+
 /// Moves the elements that the party took out of their slots, from the room that `at` leads to on, and returns the
 /// slots. Their rooms, which stay linked, become the first free ones: the last of them leads to the party's other free
-/// rooms.
-pub(crate) fn hand_out<T: Linked<Links<T>>>(
+/// rooms. The elements come the last pushed first, or the oldest first.
+pub(crate) fn hand_out<T: Linked<Links<T>>, const OLDEST_FIRST: bool>(
     words: &Words<T::Handle>,
     seat: &mut PartySeat<T::Handle>,
     free: &mut FreeRooms,
@@ -50,7 +62,7 @@ pub(crate) fn hand_out<T: Linked<Links<T>>>(
     requires taken { HasTaken words.now.table_id.slots at seat.old.me }
     requires tracks { Tracks free.old (view seat.old.me).free }
     ensures table { seat.new.table_id ≡ seat.old.table_id }
-    ensures stack { result ≡ map T.element (room_elements (to_hand_out (view seat.old.me).doing)) }
+    ensures stack { result ≡ in_order OLDEST_FIRST (map T.element (room_elements (to_hand_out (view seat.old.me).doing))) }
     ensures seat { EmptiesHand words.now.table_id.slots seat.old.me seat.new.me }
     ensures tracks { Tracks free.new (view seat.new.me).free }
 {
@@ -65,7 +77,7 @@ pub(crate) fn hand_out<T: Linked<Links<T>>>(
     while at != 0 {
         last = at as usize - 1;
         let (item, below) = empty(words, seat, last, free.first);
-        put_last(&mut batch, item);
+        add::<T, OLDEST_FIRST>(&mut batch, item);
         count += 1;
         at = below;
     }

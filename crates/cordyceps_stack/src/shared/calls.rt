@@ -43,7 +43,7 @@ use std::marker::Model;
 /// |---|---|---|
 /// | `push`, `push_was_empty`, `push_all` | yes | each tries again when the other comes between its steps |
 /// | `try_push`, `try_push_all`, `refill_and_try_push` | yes | one may fail, and returns its elements |
-/// | `take_all`, `is_empty` | yes | one takes all elements that are there; the other finds none of them |
+/// | `take_all`, `take_all_in_order`, `is_empty` | yes | one takes all elements that are there; the other finds none of them |
 /// | `refill` | yes | one gets the rooms of the pool; the other finds none |
 /// | `refill_at_most` | yes | one gets rooms of the pool; the other finds what is left, or none |
 /// | `give_back` | yes | one puts its rooms into the pool; the other returns `false` |
@@ -280,7 +280,26 @@ impl<T: Linked<Links<T>>> TransferStack<T> {
     {
         let words = &self.rooms.shared;
         let at = steps::take(words, &mut party.seat);
-        hand_out(words, &mut party.seat, &mut party.free, at)
+        hand_out::<T, false>(words, &mut party.seat, &mut party.free, at)
+    }
+
+    /// Takes all elements, the one that was pushed first at the front. Their rooms become the party's.
+    ///
+    /// Of each party the elements come in the order in which it pushed them. With those that were taken before, the
+    /// stack is a queue whose elements cost one compare-exchange each, and a share of one swap.
+    ///
+    /// # Complexity
+    /// O(n), for n elements: one swap of the head, and then a walk through what it took.
+    ///
+    /// # Waits
+    /// Never.
+    pub fn take_all_in_order(&self, party: &mut Party<T>) -> Stack<T>
+        requires { party.old.table ≡ self.now }
+        ensures { (batch : List T.Handle) × (result ≡ reverse (map T.element batch)) × Takes batch party.old party.new }
+    {
+        let words = &self.rooms.shared;
+        let first = steps::take(words, &mut party.seat);
+        hand_out::<T, true>(words, &mut party.seat, &mut party.free, first)
     }
 
     /// Takes all rooms of the pool, which become the party's, and returns how many they are.

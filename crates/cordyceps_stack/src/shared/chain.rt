@@ -169,7 +169,7 @@ pub(crate) fn try_push_all<T: Linked<Links<T>>>(
     }
     relink(words, seat, last, 0);
     seat.turn();
-    Err(hand_out(words, seat, free, first))
+    Err(hand_out::<T, false>(words, seat, free, first))
 }
 
 /// Pushes all elements into the first free rooms, by as many tries as it needs, and returns whether the stack was

@@ -1,10 +1,11 @@
-use Rattle.std.proofs.Common.{◌≡◌, ◌+◌, ◌-◌, ◌∷◌, [], ◌++◌, map, suc, refl, sym, ap, ◌∙◌, subst, arith, rules, add-one, append_assoc}
+use Rattle.std.proofs.Common.{not, eqb, ◌≡◌, ◌+◌, ◌-◌, ◌∷◌, [], ◌++◌, map, suc, refl, sym, ap, ◌∙◌, subst, arith, rules, add-one}
 use Rattle.cordyceps_shared.specs.FreeChains.{Tracks, MayJoin}
 use Rattle.cordyceps_shared.specs.Slots.{Near}
 use Rattle.cordyceps_stack.specs.Cores.Stages.{room_elements}
 use Rattle.cordyceps_stack.specs.Shared.Plays.{to_hand_out}
 use Rattle.cordyceps_stack.specs.Shared.Slots.{start, rooms_of, link_or, filled, vacant, in_use, all_vacant, last_link}
 use Rattle.cordyceps_stack.specs.Shared.View.{held_rooms}
+use Rattle.cordyceps_stack.proofs.SharedTheory.Batching.{filled_up, fills_none, fills_next}
 use Rattle.cordyceps_stack.proofs.SharedTheory.PartsJoin.{hands_first, next_of, next_hand, hands_next, handed_out, handed_rooms, handed_back, tracks_back, first_or_none, vacant_back, back_joins}
 use Rattle.cordyceps_stack.proofs.SharedTheory.StepTells.{told}
 use Rattle.cordyceps_stack.proofs.SharedTheory.StepsKeep.{returns}
@@ -13,7 +14,8 @@ use Rattle.cordyceps_stack.proofs.shared.batch.hand_out.Goals as goal
 pub loop-at-init : goal.loop-at-init
 loop-at-init g c =
     let h = hands_first _ c.args.at c.args.free.now.first 0 c.args.seat.now.me c.requires.taken in
-    (refl, (h.0, ap (λ l. c.new-batch.result ++ map g.T.Linked.element (room_elements l)) h.1 ∙ ap (λ b. b ++ map g.T.Linked.element (room_elements (to_hand_out c.args.seat.now.me.0.doing))) c.new-batch.ensures))
+    let o = not (eqb g.row.OLDEST_FIRST 0) in let f = g.T.Linked.element in let all = to_hand_out c.args.seat.now.me.0.doing in
+    (refl, (h.0, ap (λ l. filled_up o c.new-batch.result (map f (room_elements l))) h.1 ∙ ap (λ b. filled_up o b (map f (room_elements all))) c.new-batch.ensures ∙ fills_none o (map f (room_elements all))))
 
 pub empty-item-requires-clause-filled : goal.empty-item-requires-clause-filled
 empty-item-requires-clause-filled g c =
@@ -42,15 +44,15 @@ loop-at-preserved g c =
     let t = hands_next c.loop-at.at after c.loop-at.last c.loop-at.count all m w k h n (e.1 ∙ ap (λ r. (w.0, rest ++ (r, vacant (link_or (start n.others) after)) ∷ [])) here)
     (c.loop-at.at - 1) (c.loop-at.count + 1) c.empty-item.result.1 here (add-one c.loop-at.count) (ap (λ r. r.1) e.0) in
     let item = ap (λ r. r.0) e.0 in
-    let f = g.T.Linked.element in (
+    let f = g.T.Linked.element in let o = not (eqb g.row.OLDEST_FIRST 0) in (
       search rules,
       (
         t.0,
-        ap (λ l. c.put_last.new.stack ++ map f (room_elements l)) t.1
-            ∙ (ap (λ b. b ++ map f (room_elements n.others)) c.put_last.ensures
-            ∙ (append_assoc c.loop-at.batch (f c.empty-item.result.0 ∷ []) (map f (room_elements n.others))
-            ∙ (ap (λ x. c.loop-at.batch ++ f x ∷ map f (room_elements n.others)) item
-            ∙ (ap (λ l. c.loop-at.batch ++ map f (room_elements l)) (sym n.is) ∙ i.1.1)))),
+        ap (λ l. filled_up o c.add.new.batch (map f (room_elements l))) t.1
+            ∙ (ap (λ b. filled_up o b (map f (room_elements n.others))) c.add.ensures
+            ∙ (fills_next o c.loop-at.batch (f c.empty-item.result.0) (map f (room_elements n.others))
+            ∙ (ap (λ x. filled_up o c.loop-at.batch (f x ∷ map f (room_elements n.others))) item
+            ∙ (ap (λ l. filled_up o c.loop-at.batch (map f (room_elements l))) (sym n.is) ∙ i.1.1)))),
       ),
     )
 

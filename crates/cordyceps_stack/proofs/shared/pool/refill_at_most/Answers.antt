@@ -1,4 +1,4 @@
-use Rattle.std.proofs.Common.{◌≡◌, ◌-◌, ℕ, sym, ap, subst}
+use Rattle.std.proofs.Common.{◌-◌, ℕ, sym, ap, subst}
 use Rattle.cordyceps_stack.specs.Shared.Parts.{RefillsAtMost}
 use Rattle.cordyceps_stack.specs.Shared.Plays.{SeatState}
 use Rattle.cordyceps_shared.specs.declared.free.FreeRooms.{FreeRooms}

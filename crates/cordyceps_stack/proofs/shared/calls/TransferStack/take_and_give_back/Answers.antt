@@ -1,4 +1,4 @@
-use Rattle.std.proofs.Common.{◌∙◌, refl}
+use Rattle.std.proofs.Common.{◌∙◌}
 use Rattle.cordyceps_stack.proofs.SharedTheory.GivingAll.{gives_all, never_fails}
 use Rattle.cordyceps_stack.proofs.shared.calls.TransferStack.take_and_give_back.Goals as goal
 

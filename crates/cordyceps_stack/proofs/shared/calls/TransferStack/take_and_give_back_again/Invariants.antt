@@ -1,4 +1,4 @@
-use Rattle.std.proofs.Common.{◌≡◌, ◌≤◌, []}
+use Rattle.std.proofs.Common.{◌≤◌, []}
 use Rattle.cordyceps_stack.specs.Shared.Calls.{Adds}
 use Rattle.cordyceps_stack.proofs.shared.calls.TransferStack.take_and_give_back_again.Given as goal
 
