@@ -7,6 +7,7 @@ pub use Rattle.cordyceps_heap.specs.Heap
 pub use Rattle.cordyceps_many.specs.Entries
 pub use Rattle.cordyceps_many.specs.MultiList
 pub use Rattle.cordyceps_many.specs.Threads
+pub use Rattle.cordyceps_map.specs.MapLends
 pub use Rattle.cordyceps_map.specs.StableMap
 pub use Rattle.cordyceps_stable.specs.Agreeing
 pub use Rattle.cordyceps_stable.specs.Arranged

@@ -22,6 +22,14 @@ without_shorter p s = split (is_in p s)
     (λ missing. let e = ap length (without_none p s missing) in omega (arith, e))
 
 module _ {K V : Type 0} where
+  -- the key may be told by another name, and the map before as another sees it
+  pub retold : (eq : K → K → Bool) (count : ℕ) (u v : Multi (K × V)) (k x : K) (o : Option (Element (K × V))) (w : Multi (K × V)) → u ≡ v → k ≡ x
+      → MatchOption o ((lookup (eq k) (pairs u.nodes) ≡ None) × (w ≡ u)) (λ n. IsRemoved eq count u k n w)
+      → MatchOption o ((lookup (eq x) (pairs v.nodes) ≡ None) × (w ≡ v)) (λ n. IsRemoved eq count v x n w)
+  retold eq count u v k x o w seen same m =
+      subst (λ z. MatchOption o ((lookup (eq z) (pairs v.nodes) ≡ None) × (w ≡ v)) (λ n. IsRemoved eq count v z n w)) same
+      (subst (λ (z : Multi (K × V)). MatchOption o ((lookup (eq k) (pairs z.nodes) ≡ None) × (w ≡ z)) (λ n. IsRemoved eq count z k n w)) seen m)
+
   -- a map of which a node may have been taken out has no more
   pub no_more : (eq : K → K → Bool) (count : ℕ) (v : Multi (K × V)) (k : K) (o : Option (Element (K × V))) (w : Multi (K × V)) (j : ℕ) → j < count
       → MatchOption o ((lookup (eq k) (pairs v.nodes) ≡ None) × (w ≡ v)) (λ n. IsRemoved eq count v k n w) → length (list_at j w.lists) ≤ length (list_at j v.lists)
@@ -34,8 +42,8 @@ module _ {K V : Type 0} where
   all_kept eq count v k None w (none, same) missing q h = subst (λ (z : Multi (K × V)). HasSpot z.nodes q) (sym same) h
   all_kept eq count v k (Some n) w r missing q h = let t = sym (value_of_entry eq k (pairs v.nodes) r.found.pair r.found.found) ∙ missing in absurd cc
 
-  module _ (hash : K → ℕ) (c : Nodes (Entry K V)) (ls : List (List Ptr)) (v : Multi (K × V)) (seen : record { nodes = shown c; lists = ls } ≡ v) (p : Ptr) (n : Element (Entry K V)) (m : Element (K × V)) (is : shown_element n ≡ m)
-      (j : Nodes (Entry K V)) (joined : j ≡ c ++ (p, n) ∷ []) (hs : List (Option Ptr)) (d : Nodes (Entry K V)) (ms : List (Option Ptr)) (r : IsEntered hash j hs p d ms) where
+  module _ (c : Nodes (Entry K V)) (ls : List (List Ptr)) (v : Multi (K × V)) (seen : record { nodes = shown c; lists = ls } ≡ v) (p : Ptr) (n : Element (Entry K V)) (m : Element (K × V)) (is : shown_element n ≡ m)
+      (j : Nodes (Entry K V)) (joined : j ≡ c ++ (p, n) ∷ []) (hs : List (Option Ptr)) (d : Nodes (Entry K V)) (ms : List (Option Ptr)) (b : ℕ) (r : IsEntered j hs b p d ms) where
     pub added : (ns : List (List Ptr)) → list_at 0 ns ≡ list_at 0 ls ++ p ∷ [] → SameBut 0 ls ns → IsAdded v p m (record { nodes = shown d; lists = ns })
     added ns back others = record {
       nodes = r.nodes.shows ∙ ap shown joined ∙ shown_joined c ((p, n) ∷ []) ∙ (λ i. (seen i).nodes ++ (p, is i) ∷ []);

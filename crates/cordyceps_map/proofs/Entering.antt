@@ -29,9 +29,6 @@ same_number j b e = eqb→eq j b (subst T (sym e) tt)
 pub other_number : (j b : ℕ) → (j == b) ≡ false → j ≢ b
 other_number j b e same = let t = eq-eqb j b same in cc
 
-pub other_than : (q p : Ptr) (s : List Ptr) → is_in q s ≡ true → is_in p s ≡ false → same_ptr q p ≡ false
-other_than q p s there out = differ q p s there out
-
 -- a list with one more at its end has the members of one with it at its front
 pub joined_members : (q p : Ptr) (s : List Ptr) → is_in q (s ++ p ∷ []) ≡ is_in q (p ∷ s)
 joined_members q p s = in_append q s (p ∷ []) ∙ turned (is_in q s) (same_ptr q p) where
@@ -64,12 +61,9 @@ module _ {K V : Type 0} (hash : K → ℕ) where
     reach = λ q e i v. m.reach q e i (sym (same q i) ∙ v);
   }
 
-  module _ (c : Nodes (Entry K V)) (hs : List (Option Ptr)) (p : Ptr) (d : Nodes (Entry K V)) (ms : List (Option Ptr)) (done : List Ptr) (out : is_in p done ≡ false) (r : IsEntered hash c hs p d ms) (m : AreChained hash (value_at c) hs done) where
-    abbrev bucket : ℕ
-    bucket = bucket_in (length hs) (hash r.entry.key)
-
-    was_entry : r.nodes.entry ≡ r.entry
-    was_entry = let t = sym r.nodes.was ∙ r.was in cc
+  module _ (c : Nodes (Entry K V)) (hs : List (Option Ptr)) (p : Ptr) (d : Nodes (Entry K V)) (ms : List (Option Ptr)) (done : List Ptr) (out : is_in p done ≡ false) (bucket : ℕ) (r : IsEntered c hs bucket p d ms) (entry : Entry K V) (was : value_at c p ≡ Some entry) (number : bucket ≡ bucket_in (length hs) (hash entry.key)) (m : AreChained hash (value_at c) hs done) where
+    was_entry : r.nodes.entry ≡ entry
+    was_entry = let t = sym r.nodes.was ∙ was in cc
 
     long : length ms ≡ length hs
     long = ap length r.heads ∙ length-set hs bucket (Some p)
@@ -93,7 +87,7 @@ module _ {K V : Type 0} (hash : K → ℕ) where
     first = (refl, record { entry = here_entry; says = r.nodes.here; on = kept bucket })
 
     key_is : bucket_in (length ms) (hash r.nodes.entry.key) ≡ bucket
-    key_is = ap (λ n. bucket_in n (hash r.nodes.entry.key)) long ∙ ap (λ (e : Entry K V). bucket_in (length hs) (hash e.key)) was_entry
+    key_is = ap (λ n. bucket_in n (hash r.nodes.entry.key)) long ∙ ap (λ (e : Entry K V). bucket_in (length hs) (hash e.key)) was_entry ∙ sym number
 
     own_old : (j : ℕ) (q : Ptr) → is_in q (m.chains j) ≡ true → IsInBucket hash (value_at d) (length ms) j q
     own_old j q i = let o = m.own j q i in record { entry = o.entry; says = r.nodes.others q (apart j q i) ∙ o.says; bucket = ap (λ n. bucket_in n (hash o.entry.key)) long ∙ o.bucket }

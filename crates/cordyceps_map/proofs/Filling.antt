@@ -13,7 +13,7 @@ use Rattle.cordyceps_many.proofs.Threads.{split}
 use Rattle.cordyceps_map.specs.declared.entry.Entry.{Entry}
 use Rattle.cordyceps_map.specs.Shown.{shown}
 use Rattle.cordyceps_map.specs.StableMap.{AreApart}
-use Rattle.cordyceps_map.specs.Chains.{AreChained, IsEmptyTable, IsEntered, IsMap}
+use Rattle.cordyceps_map.specs.Chains.{bucket_in, AreChained, IsEmptyTable, IsEntered, IsMap}
 use Rattle.cordyceps_map.proofs.Chained.{Says}
 use Rattle.cordyceps_map.proofs.Entering.{joined_members, renamed, entered}
 
@@ -64,13 +64,13 @@ module _ {K V : Type 0} (hash : K → ℕ) where
     fresh : is_in p w.front ≡ false
     fresh = clear_front w.front p w.here.0 (subst AreDistinct split_at once)
 
-    pub gone_on : (d : Nodes (Entry K V)) (ms : List (Option Ptr)) → IsEntered hash c hs p d ms → (o : Option Ptr) → MatchOption o (IsLastOf s p) (λ q. AreNextIn s p q) → IsFilling d ms s o
-    gone_on d ms r o n = record {
+    pub gone_on : (d : Nodes (Entry K V)) (ms : List (Option Ptr)) (j : ℕ) (r : IsEntered c hs j p d ms) (e : Entry K V) → value_at c p ≡ Some e → j ≡ bucket_in (length hs) (hash e.key) → (o : Option Ptr) → MatchOption o (IsLastOf s p) (λ q. AreNextIn s p q) → IsFilling d ms s o
+    gone_on d ms j r e says number o n = record {
       front = w.front ++ p ∷ [];
       back = w.here.0;
       whole = split_at ∙ sym (append_assoc w.front (p ∷ []) w.here.0);
       here = next_first s p w.front w.here.0 o once split_at n;
-      chained = renamed hash (value_at d) ms (p ∷ w.front) (w.front ++ p ∷ []) (λ q. joined_members q p w.front) (entered hash c hs p d ms w.front fresh r w.chained);
+      chained = renamed hash (value_at d) ms (p ∷ w.front) (w.front ++ p ∷ []) (λ q. joined_members q p w.front) (entered hash c hs p d ms w.front fresh j r e says number w.chained);
     }
 
     pub fewer : (o : Option Ptr) → MatchOption o (IsLastOf s p) (λ q. AreNextIn s p q) → length (from_place o s) < length (from_place (Some p) s)

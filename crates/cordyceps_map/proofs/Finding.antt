@@ -1,13 +1,13 @@
 -- What is known of a key's node, and of the one before it.
-use Rattle.std.proofs.Common.{◌≡◌, ◌<◌, ℕ, Bool, true, List, [], ◌∷◌, ◌++◌, Option, Some, None, MatchOption, refl, sym, ap, ◌∙◌, subst}
+use Rattle.std.proofs.Common.{◌≡◌, ◌<◌, ℕ, Bool, true, List, [], ◌∷◌, ◌++◌, length, Option, Some, None, MatchOption, refl, sym, ap, ◌∙◌, subst}
 use Rattle.std.specs.Prelude.{IfSome}
 use Rattle.std.specs.Cmp.{IsEquivalence}
 use Rattle.std.specs.Map.{lookup, lookup_entry}
 use denote.RawPtr.{Ptr}
-use Rattle.cordyceps_base.specs.BySpot.{HasSpot, IsTaken}
+use Rattle.cordyceps_base.specs.BySpot.{HasSpot, HoldsAt, IsTaken}
 use Rattle.cordyceps_base.specs.Element.{Element}
-use Rattle.cordyceps_base.specs.Nodes.{Nodes}
-use Rattle.cordyceps_base.specs.Spots.{same_ptr}
+use Rattle.cordyceps_base.specs.Nodes.{Nodes, spots}
+use Rattle.cordyceps_base.specs.Spots.{same_ptr, AreDistinct}
 use Rattle.cordyceps_base.proofs.SpotsMemory.{same_ptr_eq}
 use Rattle.cordyceps_many.specs.Entries.{value_at}
 use Rattle.cordyceps_many.specs.MultiList.{Multi, list_at}
@@ -16,13 +16,13 @@ use Rattle.cordyceps_many.proofs.Members.{in_has}
 use Rattle.cordyceps_many.proofs.Threads.{split, in_there}
 use Rattle.cordyceps_map.specs.declared.entry.Entry.{Entry}
 use Rattle.cordyceps_map.specs.Shown.{pair_of, shown_element, shown}
-use Rattle.cordyceps_map.specs.StableMap.{pairs, IsFound, IsRemoved}
-use Rattle.cordyceps_map.specs.Chains.{head_in, IsChain, IsMap, IsPlace, IsCut}
+use Rattle.cordyceps_map.specs.StableMap.{pairs, AreApart, IsFound, IsRemoved}
+use Rattle.cordyceps_map.specs.Chains.{bucket_in, head_in, IsChain, IsMap, IsBucketOf, IsPlace, IsCut}
 use Rattle.cordyceps_map.proofs.Chained.{Says, last_among}
 use Rattle.cordyceps_map.proofs.Leaving.{in_front, cut_shows}
-use Rattle.cordyceps_map.proofs.Looking.{none_of_entry, none_found}
+use Rattle.cordyceps_map.proofs.Looking.{value_of_entry, none_of_entry, none_found}
 use Rattle.cordyceps_map.proofs.ShownNodes.{shown_has, has_shown, shown_held, shown_taken, value_shown}
-use Rattle.cordyceps_map.proofs.ValueAt.{value_in, value_held}
+use Rattle.cordyceps_map.proofs.ValueAt.{value_in, value_held, held_value}
 
 pub when_none : {A N : Type 0} (S : A → Type 0) (o : Option A) → o ≡ None → N → MatchOption o N S
 when_none S None e n = n
@@ -40,11 +40,11 @@ module _ {K V : Type 0} where
       (λ same. (l.entry, ap f (same_ptr_eq q p same) ∙ l.says))
       (λ other. chain_in f l.entry.next s q l.on (sym (in_there q p s other) ∙ i))
 
-  module _ (eq : K → K → Bool) (hash : K → ℕ) (c : Nodes (Entry K V)) (hs : List (Option Ptr)) (k : K) (j : ℕ) where
-    pub placed_has : (before : Option Ptr) (p : Ptr) (w : IsPlace eq hash c hs k j before p) → HasSpot c p
+  module _ (eq : K → K → Bool) (c : Nodes (Entry K V)) (hs : List (Option Ptr)) (k : K) (j : ℕ) where
+    pub placed_has : (before : Option Ptr) (p : Ptr) (w : IsPlace eq c hs k j before p) → HasSpot c p
     placed_has before p w = in_has c p (value_in c p w.entry w.says)
 
-    pub before_has : (before : Option Ptr) (p : Ptr) (w : IsPlace eq hash c hs k j before p) → IfSome before (λ q. HasSpot c q)
+    pub before_has : (before : Option Ptr) (p : Ptr) (w : IsPlace eq c hs k j before p) → IfSome before (λ q. HasSpot c q)
     before_has None p w = tt
     before_has (Some q) p w =
         let r = chain_in (value_at c) (head_in hs j) (w.front ++ p ∷ w.back) q w.chain (in_front q w.front (p ∷ w.back) (last_among w.front q w.last)) in
@@ -54,7 +54,7 @@ module _ {K V : Type 0} where
     cut_has before p d ms u q h = has_shown d q (subst (λ z. HasSpot z q) (sym (cut_shows c hs j p d ms before u)) (shown_has c q h))
 
     module _ (ls : List (List Ptr)) (v : Multi (K × V)) (seen : record { nodes = shown c; lists = ls } ≡ v) where
-      pub placed_found : (before : Option Ptr) (p : Ptr) (w : IsPlace eq hash c hs k j before p) → IsFound eq v.nodes k p
+      pub placed_found : (before : Option Ptr) (p : Ptr) (w : IsPlace eq c hs k j before p) → IsFound eq v.nodes k p
       placed_found before p w = subst (λ (z : Multi (K × V)). IsFound eq z.nodes k p) seen
           (record { pair = pair_of w.entry; held = shown_held c p w.entry (value_held c p w.entry w.says); found = w.found })
 
@@ -62,7 +62,7 @@ module _ {K V : Type 0} where
       not_found e = subst (λ (z : Multi (K × V)). lookup (eq k) (pairs z.nodes) ≡ None) seen (none_of_entry eq k (pairs (shown c)) e)
 
       -- the node was taken out
-      pub removed : (before : Option Ptr) (p : Ptr) (w : IsPlace eq hash c hs k j before p) (d : Nodes (Entry K V)) (ms : List (Option Ptr)) (u : IsCut c hs j before p d ms)
+      pub removed : (before : Option Ptr) (p : Ptr) (w : IsPlace eq c hs k j before p) (d : Nodes (Entry K V)) (ms : List (Option Ptr)) (u : IsCut c hs j before p d ms)
           (n : Element (Entry K V)) (e : Nodes (Entry K V)) (taken : IsTaken d p n e) (count : ℕ) (ns : List (List Ptr)) (lists : (i : ℕ) → i < count → list_at i ns ≡ without p (list_at i ls))
           → IsRemoved eq count v k (shown_element n) (record { nodes = shown e; lists = ns })
       removed before p w d ms u n e taken count ns lists = record {
@@ -72,10 +72,36 @@ module _ {K V : Type 0} where
         lists = λ i less. lists i less ∙ ap (λ (z : Multi (K × V)). without p (list_at i z.lists)) seen;
       }
 
+  -- the bucket that a key's hash says, of a table with n buckets
+  pub bucket_said : (eq : K → K → Bool) (hash : K → ℕ) (c : Nodes (Entry K V)) (hs ms : List (Option Ptr)) (k : K) (n j : ℕ) → IsMap eq hash c hs → ms ≡ hs → n ≡ length ms → ((x : K) → eq k x ≡ true → hash k ≡ hash x)
+      → j ≡ bucket_in n (hash k) → j < n → IsBucketOf eq c ms k j
+  bucket_said eq hash c hs ms k n j m same long alike number within = record {
+    within = subst (λ z. j < z) long within;
+    hash = hash;
+    map = subst (IsMap eq hash c) (sym same) m;
+    alike = alike;
+    number = number ∙ ap (λ z. bucket_in z (hash k)) long;
+  }
+
   -- where the key of a node is looked for
   module _ (eq : K → K → Bool) (laws : IsEquivalence eq) (hash : K → ℕ) (c : Nodes (Entry K V)) (hs : List (Option Ptr)) (m : IsMap eq hash c hs) (at : Ptr) (e : Entry K V) (says : value_at c at ≡ Some e) where
     pub never_none : lookup_entry (eq e.key) (pairs (shown c)) ≡ None → ⊥
     never_none none = let no = none_found eq e.key (shown c) none at (pair_of e) (value_shown c at e says) in let yes = laws.refl e.key in cc
 
-    pub same_place : (j : ℕ) (before : Option Ptr) (p : Ptr) (w : IsPlace eq hash c hs e.key j before p) → p ≡ at
+    pub same_place : (j : ℕ) (before : Option Ptr) (p : Ptr) (w : IsPlace eq c hs e.key j before p) → p ≡ at
     same_place j before p w = m.apart p at (pair_of w.entry) (pair_of e) (value_shown c p w.entry w.says) (value_shown c at e says) (laws.symm w.entry.key e.key ∙ w.same)
+
+  -- one node has the key
+  module _ (eq : K → K → Bool) (laws : IsEquivalence eq) (c : Nodes (K × V)) (distinct : AreDistinct (spots c)) (apart : AreApart eq c) (k : K) where
+    pub one_spot : (p q : Ptr) → IsFound eq c k p → IsFound eq c k q → p ≡ q
+    one_spot p q f o =
+        let same : f.pair ≡ o.pair = let t = sym f.found ∙ o.found in cc in
+        apart p q f.pair o.pair (held_value c p f.pair distinct f.held) (held_value c q o.pair distinct o.held) (sym (ap (λ (z : K × V). eq f.pair.0 z.0) same) ∙ laws.refl f.pair.0)
+
+    pub value_found : (p : Ptr) (f : IsFound eq c k p) (x : K × V) → HoldsAt c p x → lookup (eq k) (pairs c) ≡ Some x.1
+    value_found p f x held =
+        let same : f.pair ≡ x = let t = sym (held_value c p f.pair distinct f.held) ∙ held_value c p x distinct held in cc in
+        value_of_entry eq k (pairs c) f.pair f.found ∙ ap (λ (z : K × V). Some z.1) same
+
+    pub none_there : lookup (eq k) (pairs c) ≡ None → (p : Ptr) → IsFound eq c k p → ⊥
+    none_there none p f = let t = sym none ∙ value_of_entry eq k (pairs c) f.pair f.found in cc

@@ -15,13 +15,13 @@ use Rattle.cordyceps_many.proofs.Threads.{split, differ}
 use Rattle.cordyceps_map.specs.declared.entry.Entry.{Entry}
 use Rattle.cordyceps_map.specs.Shown.{pair_of, shown_element, shown}
 use Rattle.cordyceps_map.specs.StableMap.{pairs}
-use Rattle.cordyceps_map.specs.Chains.{AreChained, IsMap, IsEntered}
+use Rattle.cordyceps_map.specs.Chains.{bucket_in, AreChained, IsMap, IsEntered}
 use Rattle.cordyceps_map.proofs.Entering.{joined_members, renamed, carried, entered}
 use Rattle.cordyceps_map.proofs.Looking.{none_found}
 use Rattle.cordyceps_map.proofs.ShownNodes.{spots_shown, shown_joined}
 use Rattle.cordyceps_map.proofs.ValueAt.{value_joined, value_came}
 
-module _ {K V : Type 0} (eq : K → K → Bool) (laws : IsEquivalence eq) (hash : K → ℕ) (c : Nodes (Entry K V)) (hs : List (Option Ptr)) (m : IsMap eq hash c hs) (p : Ptr) (n : Element (Entry K V)) (fresh : HasSpot c p → ⊥) (none : lookup_entry (eq n.value.key) (pairs (shown c)) ≡ None) (j : Nodes (Entry K V)) (joined : j ≡ c ++ (p, n) ∷ []) (d : Nodes (Entry K V)) (ms : List (Option Ptr)) (r : IsEntered hash j hs p d ms) where
+module _ {K V : Type 0} (eq : K → K → Bool) (laws : IsEquivalence eq) (hash : K → ℕ) (c : Nodes (Entry K V)) (hs : List (Option Ptr)) (m : IsMap eq hash c hs) (p : Ptr) (n : Element (Entry K V)) (fresh : HasSpot c p → ⊥) (none : lookup_entry (eq n.value.key) (pairs (shown c)) ≡ None) (j : Nodes (Entry K V)) (joined : j ≡ c ++ (p, n) ∷ []) (d : Nodes (Entry K V)) (ms : List (Option Ptr)) (b : ℕ) (r : IsEntered j hs b p d ms) (number : b ≡ bucket_in (length hs) (hash n.value.key)) where
   out : is_in p (spots c) ≡ false
   out = split (is_in p (spots c)) (λ yes. absurd (fresh (in_has c p yes))) (λ no. no)
 
@@ -52,7 +52,7 @@ module _ {K V : Type 0} (eq : K → K → Bool) (laws : IsEquivalence eq) (hash 
   pub inserted : 0 < length ms → IsMap eq hash d ms
   inserted some = record {
     some = some;
-    chained = renamed hash (value_at d) ms (p ∷ spots c) (spots d) same_members (entered hash j hs p d ms (spots c) out r before);
+    chained = renamed hash (value_at d) ms (p ∷ spots c) (spots d) same_members (entered hash j hs p d ms (spots c) out b r n.value (ap (λ z. value_at z p) joined ∙ value_came c p n out) number before);
     apart = λ q z x y v w same. split (same_ptr q p)
         (λ here. split (same_ptr z p)
         (λ there. same_ptr_eq q p here ∙ sym (same_ptr_eq z p there))

@@ -37,17 +37,17 @@ module _ {K V : Type 0} (c : Nodes (Entry K V)) (hs : List (Option Ptr)) (j : �
 
 module _ {K V : Type 0} (eq : K → K → Bool) (hash : K → ℕ) (c : Nodes (Entry K V)) (hs : List (Option Ptr)) (m : IsMap eq hash c hs) (k : K) (j : ℕ) (p : Ptr) (d : Nodes (Entry K V)) (ms : List (Option Ptr)) where
   -- where the chain of the bucket has the node
-  whole : (before : Option Ptr) (w : IsPlace eq hash c hs k j before p) → m.chained.chains j ≡ w.front ++ p ∷ w.back
+  whole : (before : Option Ptr) (w : IsPlace eq c hs k j before p) → m.chained.chains j ≡ w.front ++ p ∷ w.back
   whole before w = unique (value_at c) (head_in hs j) (m.chained.chains j) (w.front ++ p ∷ w.back) (m.chained.heads j) w.chain
 
-  once_whole : (before : Option Ptr) (w : IsPlace eq hash c hs k j before p) → Once (w.front ++ p ∷ w.back)
+  once_whole : (before : Option Ptr) (w : IsPlace eq c hs k j before p) → Once (w.front ++ p ∷ w.back)
   once_whole before w = subst Once (whole before w) (m.chained.once j)
 
-  same_entry : (before : Option Ptr) (w : IsPlace eq hash c hs k j before p) (u : IsCut c hs j before p d ms) → u.entry ≡ w.entry
+  same_entry : (before : Option Ptr) (w : IsPlace eq c hs k j before p) (u : IsCut c hs j before p d ms) → u.entry ≡ w.entry
   same_entry before w u = let t = sym u.was ∙ w.says in cc
 
   -- the chain of the bucket
-  cut_here : (before : Option Ptr) (w : IsPlace eq hash c hs k j before p) (u : IsCut c hs j before p d ms) → IsChain (value_at d) (head_in ms j) (w.front ++ w.back)
+  cut_here : (before : Option Ptr) (w : IsPlace eq c hs k j before p) (u : IsCut c hs j before p d ms) → IsChain (value_at d) (head_in ms j) (w.front ++ w.back)
   cut_here None w u =
       let none = no_last w.front w.last in
       let on : IsChain (value_at c) w.entry.next w.back = leads_on (value_at c) (head_in hs j) w.front p w.back w.entry w.chain w.says in
@@ -68,7 +68,7 @@ module _ {K V : Type 0} (eq : K → K → Bool) (hash : K → ℕ) (c : Nodes (E
       absurd (other (sym a.bucket ∙ ap (λ (y : Entry K V). bucket_in (length hs) (hash y.key)) t ∙ b.bucket)))
       (λ no. no)
 
-  cut_there : (before : Option Ptr) (w : IsPlace eq hash c hs k j before p) (u : IsCut c hs j before p d ms) (i : ℕ) → i ≢ j → IsChain (value_at d) (head_in ms i) (m.chained.chains i)
+  cut_there : (before : Option Ptr) (w : IsPlace eq c hs k j before p) (u : IsCut c hs j before p d ms) (i : ℕ) → i ≢ j → IsChain (value_at d) (head_in ms i) (m.chained.chains i)
   cut_there None w u i other =
       subst (λ z. IsChain (value_at d) z (m.chained.chains i)) (sym (ap (λ z. head_in z i) u.cut.1 ∙ get_or-set_other hs j i u.entry.next None other))
       (subst (λ z. IsChain (value_at z) (head_in hs i) (m.chained.chains i)) (sym u.cut.0) (m.chained.heads i))
@@ -77,7 +77,7 @@ module _ {K V : Type 0} (eq : K → K → Bool) (hash : K → ℕ) (c : Nodes (E
       subst (λ z. IsChain (value_at d) (head_in z i) (m.chained.chains i)) (sym u.cut.1)
       (framed (value_at c) (value_at d) (head_in hs i) (m.chained.chains i) (λ z here. u.cut.0.others z (elsewhere i q z other among here)) (m.chained.heads i))
 
-  module _ (before : Option Ptr) (w : IsPlace eq hash c hs k j before p) (u : IsCut c hs j before p d ms) (distinct : AreDistinct (spots c)) (n : Element (Entry K V)) (e b a : Nodes (Entry K V)) (was : d ≡ b ++ (p, n) ∷ a) (is_left : e ≡ b ++ a) where
+  module _ (before : Option Ptr) (w : IsPlace eq c hs k j before p) (u : IsCut c hs j before p d ms) (distinct : AreDistinct (spots c)) (n : Element (Entry K V)) (e b a : Nodes (Entry K V)) (was : d ≡ b ++ (p, n) ∷ a) (is_left : e ≡ b ++ a) where
     same_spots : spots d ≡ spots c
     same_spots = sym (spots_shown d) ∙ ap spots (cut_shows c hs j p d ms before u) ∙ spots_shown c
 

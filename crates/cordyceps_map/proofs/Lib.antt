@@ -1,12 +1,15 @@
 mod Added
 mod Chained
 mod Entering
-mod Leaving
+pub mod Fewer
 mod Filling
 mod Finding
 mod Inserting
+mod Leaving
 mod Lent
 pub mod Looking
+mod Nulls
+mod Ordered
 mod Redirecting
 mod Revalued
 mod Seen

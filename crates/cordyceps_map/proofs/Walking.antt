@@ -5,30 +5,20 @@ use Rattle.cordyceps_base.specs.Nodes.{Nodes, spots}
 use Rattle.cordyceps_base.specs.Spots.{same_ptr}
 use Rattle.cordyceps_base.proofs.SpotsMemory.{same_ptr_eq}
 use Rattle.cordyceps_many.specs.Entries.{value_at}
-use Rattle.cordyceps_many.specs.Threads.{is_in, without, Once}
-use Rattle.cordyceps_many.proofs.Members.{in_self}
-use Rattle.cordyceps_many.proofs.Threads.{split, differ, other_way, in_more, in_there, in_append, length_without, without_other}
+use Rattle.cordyceps_many.specs.Threads.{is_in}
+use Rattle.cordyceps_many.proofs.Members.{once_distinct}
+use Rattle.cordyceps_many.proofs.Threads.{split, in_there, in_append}
 use Rattle.cordyceps_map.specs.declared.entry.Entry.{Entry}
 use Rattle.cordyceps_map.specs.Shown.{shown}
 use Rattle.cordyceps_map.specs.Chains.{bucket_in, head_in, last_spot, Leads, IsChain, IsMap}
 use Rattle.cordyceps_map.proofs.Chained.{Says, unique}
+use Rattle.cordyceps_map.proofs.Fewer.{no_longer}
 use Rattle.cordyceps_map.proofs.ShownNodes.{shown_value}
 use Rattle.cordyceps_map.proofs.ValueAt.{value_in}
-
--- a list in which no spot comes twice is no longer than one that has all of its spots
-pub no_longer : (s t : List Ptr) → Once s → ((q : Ptr) → is_in q s ≡ true → is_in q t ≡ true) → length s ≤ length t
-no_longer [] t o i = omega arith
-no_longer (x ∷ s) t o i =
-    let rest = no_longer s (without x t) o.1 (λ q e. without_other x q t (other_way q x (differ q x s e o.0)) ∙ i q (in_more q x s e)) in
-    let long = length_without x t (i x (in_self x s)) in omega (arith, rest, long)
 
 last_joined : (o : Option Ptr) (s : List Ptr) (p : Ptr) → last_spot o (s ++ p ∷ []) ≡ Some p
 last_joined o [] p = refl
 last_joined o (x ∷ s) p = last_joined (Some x) s p
-
-pub none_of : (o : Option Ptr) → ((p : Ptr) → o ≡ Some p → ⊥) → o ≡ None
-none_of None f = refl
-none_of (Some p) f = absurd (f p refl)
 
 module _ {K V : Type 0} where
   -- where an entry leads, if there is one
@@ -103,7 +93,7 @@ module _ {K V : Type 0} where
     pub bounded : (before at : Option Ptr) (w : IsOnWay eq c (head_in hs j) k before at) → length (w.front ++ w.back) ≤ length (spots c)
     bounded before at w =
         let is = unique (value_at c) (head_in hs j) (m.chained.chains j) (w.front ++ w.back) (m.chained.heads j) w.whole in
-        subst (λ z. length z ≤ length (spots c)) is (no_longer (m.chained.chains j) (spots c) (m.chained.once j) (m.chained.only j))
+        subst (λ z. length z ≤ length (spots c)) is (no_longer (m.chained.chains j) (spots c) (once_distinct (m.chained.chains j) (m.chained.once j)) (m.chained.only j))
 
     pub nowhere : (before : Option Ptr) (w : IsOnWay eq c (head_in hs j) k before None) → (q : Ptr) (x : K × V) → value_at (shown c) q ≡ Some x → eq k x.0 ≡ false
     nowhere before w q x v = split (eq k x.0)

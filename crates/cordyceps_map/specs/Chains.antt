@@ -84,14 +84,21 @@ module _ {K V : Type 0} where
     pub here : value_at d p ≡ Some (record entry { next = next })
     pub others : SaysElse (value_at c) p (value_at d)
 
-  -- the node at p is the first of the chain of its bucket, before the one that was the first
-  pub record IsEntered (hash : K → ℕ) (c : Nodes (Entry K V)) (hs : List (Option Ptr)) (p : Ptr) (d : Nodes (Entry K V))
+  -- j is the bucket of the key k: the table and the nodes are a map by some hash, which equal keys share, and it says j
+  pub record IsBucketOf (eq : K → K → Bool) (c : Nodes (Entry K V)) (hs : List (Option Ptr)) (k : K) (j : ℕ) : Type 0
+    where
+      pub within : j < length hs
+      pub hash : K → ℕ
+      pub map : IsMap eq hash c hs
+      pub alike : (x : K) → eq k x ≡ true → hash k ≡ hash x
+      pub number : j ≡ bucket_in (length hs) (hash k)
+
+  -- the node at p is the first of the chain of bucket j, before the one that was the first
+  pub record IsEntered (c : Nodes (Entry K V)) (hs : List (Option Ptr)) (j : ℕ) (p : Ptr) (d : Nodes (Entry K V))
       (ms : List (Option Ptr)) : Type 0 where
-    pub entry : Entry K V
-    pub was : value_at c p ≡ Some entry
-    pub within : bucket_in (length hs) (hash entry.key) < length hs
-    pub nodes : IsRedirected c p (head_in hs (bucket_in (length hs) (hash entry.key))) d
-    pub heads : ms ≡ set hs (bucket_in (length hs) (hash entry.key)) (Some p)
+    pub within : j < length hs
+    pub nodes : IsRedirected c p (head_in hs j) d
+    pub heads : ms ≡ set hs j (Some p)
 
   -- the node before p in the chain of bucket j, or the bucket, leads to where p leads
   pub record IsCut (c : Nodes (Entry K V)) (hs : List (Option Ptr)) (j : ℕ) (before : Option Ptr) (p : Ptr)
@@ -101,9 +108,8 @@ module _ {K V : Type 0} where
     pub cut : MatchOption before ((d ≡ c) × (ms ≡ set hs j entry.next)) (λ q. IsRedirected c q entry.next d × (ms ≡ hs))
 
   -- the key k stands at p: its node is there, after the nodes at `front` in the chain of its bucket
-  pub record IsPlace (eq : K → K → Bool) (hash : K → ℕ) (c : Nodes (Entry K V)) (hs : List (Option Ptr)) (k : K) (j : ℕ)
+  pub record IsPlace (eq : K → K → Bool) (c : Nodes (Entry K V)) (hs : List (Option Ptr)) (k : K) (j : ℕ)
       (before : Option Ptr) (p : Ptr) : Type 0 where
-    pub bucket : j ≡ bucket_in (length hs) (hash k)
     pub within : j < length hs
     pub front : List Ptr
     pub back : List Ptr

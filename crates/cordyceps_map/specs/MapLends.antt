@@ -1,6 +1,6 @@
 -- What a map ends as, once a loan of a value has ended.
-use Rattle.std.specs.Prelude.{ℕ, zero, suc, [], ◌∷◌}
-use Rattle.std.specs.Borrow.{Fml, RattleType, MutBor, Lends}
+use Rattle.std.specs.Prelude.{◌≡◌, ℕ, zero, suc, Bool, [], ◌∷◌, Option}
+use Rattle.std.specs.Borrow.{Fml, RattleType, MutBor, Lends, LendsSo}
 use Rattle.std.specs.HashMap.Lent.{HashMembers}
 use Rattle.core.specs.declared.hash.Hasher as hasher
 use Rattle.core.specs.declared.hash.build.BuildHasher as builder
@@ -9,6 +9,7 @@ use Rattle.cordyceps_base.specs.Nodes.{Nodes, spots}
 use Rattle.cordyceps_base.specs.Spots.{index_of}
 use Rattle.cordyceps_many.specs.declared.hooks.Rows as rows
 use Rattle.cordyceps_many.specs.MultiList.{Multi}
+use Rattle.cordyceps_map.specs.StableMap.{IsFound}
 use Rattle.cordyceps_map.specs.contracts.stable_map.StableMap.{the_row}
 
 -- the same nodes with w as the value of the k-th
@@ -28,3 +29,15 @@ abbrev pub LendsValueAt : (K V H S A E B : RattleType) (key : HashMembers K.Deno
 LendsValueAt K V H S A E B key g b h l p r =
     Lends (the_row K V H S A E B (record { eq = key.eq }) (record { hash_input = key.hash_input }) g b h) V l r
     (with_value_at l.now p)
+
+-- the map w is v with x as the value of the key k, if v has a node of it
+abbrev pub IsWritten : {K V : Type 0} → (K → K → Bool) → Multi (K × V) → K → V → Multi (K × V) → Type 0
+IsWritten eq v k x w = (p : Ptr) → IsFound eq v.nodes k p → w ≡ with_value_at v p x
+
+-- the value of the key k is the last one written through r, and nothing else changes; where none was lent, nothing does
+abbrev pub LendsValueOf : (K V H S A E B : RattleType) (key : HashMembers K.Denot) (g : rows.Ghosts H.Denot A.Denot E.Denot)
+    (b : builder.Ghosts S.Denot B.Denot) (h : hasher.Ghosts B.Denot) → MutBor (Multi (K.Denot × V.Denot)) → K.Denot →
+    Option (MutBor V.Denot) → Fml
+LendsValueOf K V H S A E B key g b h l k r =
+    LendsSo (the_row K V H S A E B (record { eq = key.eq }) (record { hash_input = key.hash_input }) g b h) V l r
+    (λ w x. IsWritten key.eq l.now k x w) (λ w. w ≡ l.now)

@@ -2,6 +2,7 @@
 use Rattle.std.specs.Prelude.{map}
 use Rattle.cordyceps_base.specs.Element.{Element}
 use Rattle.cordyceps_base.specs.Nodes.{Nodes}
+use Rattle.cordyceps_many.specs.MultiList.{Multi}
 use Rattle.cordyceps_map.specs.declared.entry.Entry.{Entry}
 
 module _ {K V : Type 0} where
@@ -16,3 +17,7 @@ module _ {K V : Type 0} where
   -- the nodes, each with its number, its key and its value
   abbrev pub shown : Nodes (Entry K V) → Nodes (K × V)
   shown = map (λ n. (n.0, shown_element n.1))
+
+  -- the nodes as a contract sees them, and the lists
+  abbrev pub seen : Multi (Entry K V) → Multi (K × V)
+  seen m = record { nodes = shown m.nodes; lists = m.lists }

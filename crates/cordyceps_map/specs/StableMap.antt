@@ -1,5 +1,5 @@
 -- Maps whose nodes are in lists at the same time.
-use Rattle.std.specs.Prelude.{◌≡◌, ◌<◌, ℕ, Bool, List, true, [], ◌∷◌, ◌++◌, Option, Some, None, MatchOption}
+use Rattle.std.specs.Prelude.{◌≡◌, ◌<◌, ℕ, Bool, List, true, [], ◌∷◌, ◌++◌, map, Option, Some, None, MatchOption}
 use Rattle.std.specs.Map.{lookup, lookup_entry}
 use denote.RawPtr.{Ptr}
 use Rattle.cordyceps_base.specs.BySpot.{HoldsAt, IsTaken}
@@ -13,6 +13,10 @@ module _ {K V : Type 0} where
   -- the keys with their values, in the order in which the nodes came
   abbrev pub pairs : Nodes (K × V) → List (K × V)
   pairs c = values (elements c)
+
+  -- the nodes, each with its value alone
+  abbrev pub valued : Nodes (K × V) → Nodes V
+  valued = map (λ n. (n.0, record { id = n.1.id; value = n.1.value.1 }))
 
   -- no two nodes have equal keys
   abbrev pub AreApart : (K → K → Bool) → Nodes (K × V) → Type 0

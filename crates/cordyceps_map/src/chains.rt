@@ -1,15 +1,18 @@
 //! The chains of a map's buckets: a node is linked into that of its key, and taken out of it.
-ghost use Rattle.std.specs.Prelude.{◌≡◌, ◌<◌, length, None, MatchOption, IfSome};
-ghost use Rattle.std.specs.Map.{lookup_entry};
+ghost use Rattle.std.specs.Prelude.{◌≡◌, ◌<◌, ℕ, length, None, MatchOption, IfSome};
+ghost use Rattle.std.specs.Map.{lookup, lookup_entry};
+ghost use denote.RawPtr.{Ptr};
 ghost use Rattle.cordyceps_base.specs.BySpot.{HasSpot};
 ghost use Rattle.cordyceps_many.specs.Entries.{value_at};
 ghost use Rattle.cordyceps_many.specs.MultiList.{list_at};
-ghost use Rattle.cordyceps_map.specs.Chains.{AreChained, IsEmptyTable};
-ghost use Rattle.cordyceps_map.specs.Chains.{hash_of, bucket_in, IsEntered, IsRedirected, IsMap, IsPlace, IsCut};
-ghost use Rattle.cordyceps_map.specs.Shown.{shown};
-ghost use Rattle.cordyceps_map.specs.StableMap.{pairs};
+ghost use Rattle.cordyceps_map.specs.Chains.{AreChained, IsEmptyTable, hash_of, bucket_in, IsBucketOf};
+ghost use Rattle.cordyceps_map.specs.Chains.{IsEntered, IsRedirected, IsMap, IsPlace, IsCut};
+ghost use Rattle.cordyceps_map.specs.Shown.{shown, seen};
+ghost use Rattle.cordyceps_map.specs.StableMap.{pairs, IsFound, IsRemoved};
 
 use crate::entry::Entry;
+use crate::link::Link;
+use crate::map_node::MapNode;
 use cordyceps_many::hooks::Hooks;
 use cordyceps_many::multi_list::MultiList;
 use cordyceps_stable::stable_list::Spot;
@@ -37,7 +40,7 @@ pub(crate) fn bucket_of<K: Eq + Hash, S: BuildHasher>(key: &K, hasher: &S, count
 }
 
 /// Makes the node at `at` lead to `next`.
-pub(crate) fn redirect<K, V, H: Hooks>(nodes: &mut Nodes<K, V, H>, at: Spot, next: Option<Spot>)
+pub(crate) fn redirect<K, V, H: Hooks>(nodes: &mut Nodes<K, V, H>, at: Spot, next: Link)
     requires { HasSpot nodes.old.nodes at }
     ensures nodes { IsRedirected nodes.old.nodes at next nodes.new.nodes }
     ensures lists { nodes.new.lists ≡ nodes.old.lists }
@@ -46,44 +49,54 @@ pub(crate) fn redirect<K, V, H: Hooks>(nodes: &mut Nodes<K, V, H>, at: Spot, nex
     entry.next = next;
 }
 
-/// Links the node at `at` at the front of the chain of its bucket.
-pub(crate) fn enter<K: Eq + Hash, V, H: Hooks, S: BuildHasher>(
+/// Links the node at `at` at the front of the chain of a bucket.
+pub(crate) fn enter<K, V, H: Hooks>(
     nodes: &mut Nodes<K, V, H>,
-    buckets: &mut [Option<Spot>],
-    hasher: &S,
+    buckets: &mut [Link],
+    bucket: usize,
     at: Spot,
 )
+    requires within { bucket < length buckets.old }
     requires there { HasSpot nodes.old.nodes at }
-    requires some { 0 < length buckets.old }
-    ensures entered { IsEntered (λ k. hash_of S.BuildHasher S.Hasher.Hasher hasher.now (K.hash_input k)) nodes.old.nodes
-        buckets.old at nodes.new.nodes buckets.new }
+    ensures entered { IsEntered nodes.old.nodes buckets.old bucket at nodes.new.nodes buckets.new }
     ensures lists { nodes.new.lists ≡ nodes.old.lists }
 {
-    // for the proof: no two nodes are at one spot
+    // for the proof: no node is at null
     nodes.lists_agree();
-    let bucket = bucket_of(&nodes.get(at).key, hasher, buckets.len());
     redirect(nodes, at, buckets[bucket]);
-    buckets[bucket] = Some(at);
+    buckets[bucket] = Link::to(at);
 }
 
 /// Returns where a key stands, or `None` if no node has it.
 pub(crate) fn place_of<K: Eq + Hash, V, H: Hooks, S: BuildHasher>(
     nodes: &Nodes<K, V, H>,
-    buckets: &[Option<Spot>],
+    buckets: &[Link],
     hasher: &S,
     key: &K,
 ) -> Option<Place>
     requires { IsMap K.eq (λ k. hash_of S.BuildHasher S.Hasher.Hasher hasher.now (K.hash_input k)) nodes.now.nodes
         buckets.now }
     ensures { MatchOption result (lookup_entry (K.eq key.now) (pairs (shown nodes.now.nodes)) ≡ None)
-        (λ w. IsPlace K.eq (λ k. hash_of S.BuildHasher S.Hasher.Hasher hasher.now (K.hash_input k)) nodes.now.nodes
-        buckets.now key.now w.bucket w.before w.at) }
+        (λ w. IsPlace K.eq nodes.now.nodes buckets.now key.now w.bucket w.before w.at) }
+{
+    place_in(nodes, buckets, bucket_of(key, hasher, buckets.len()), key)
+}
+
+/// Returns where a key stands in the chain of its bucket, or `None` if no node has it.
+fn place_in<K: Eq, V, H: Hooks>(
+    nodes: &Nodes<K, V, H>,
+    buckets: &[Link],
+    bucket: usize,
+    key: &K,
+) -> Option<Place>
+    requires { IsBucketOf K.eq nodes.now.nodes buckets.now key.now bucket }
+    ensures { MatchOption result (lookup_entry (K.eq key.now) (pairs (shown nodes.now.nodes)) ≡ None)
+        (λ w. IsPlace K.eq nodes.now.nodes buckets.now key.now w.bucket w.before w.at) }
 {
     // for the proof: no two nodes are at one spot
     nodes.lists_agree();
-    let bucket = bucket_of(key, hasher, buckets.len());
     let mut before = None;
-    let mut at = buckets[bucket];
+    let mut at = buckets[bucket].spot();
     while let Some(spot) = at {
         let entry = nodes.get(spot);
         if *key == entry.key {
@@ -94,17 +107,13 @@ pub(crate) fn place_of<K: Eq + Hash, V, H: Hooks, S: BuildHasher>(
             });
         }
         before = at;
-        at = entry.next;
+        at = entry.next.spot();
     }
     None
 }
 
 /// Takes the node at a place out of the chain of its bucket.
-pub(crate) fn leave<K, V, H: Hooks>(
-    nodes: &mut Nodes<K, V, H>,
-    buckets: &mut [Option<Spot>],
-    place: Place,
-)
+pub(crate) fn leave<K, V, H: Hooks>(nodes: &mut Nodes<K, V, H>, buckets: &mut [Link], place: Place)
     requires within { place.bucket < length buckets.old }
     requires there { HasSpot nodes.old.nodes place.at }
     requires before { IfSome place.before (λ p. HasSpot nodes.old.nodes p) }
@@ -121,10 +130,39 @@ pub(crate) fn leave<K, V, H: Hooks>(
     }
 }
 
+/// Takes the node of a key out of the chain of its bucket and of every list, and returns it, or `None` if no node has
+/// the key.
+pub(crate) fn take_out<K: Eq + Drop, V: Drop, H: Hooks>(
+    nodes: &mut Nodes<K, V, H>,
+    buckets: &mut [Link],
+    bucket: usize,
+    key: &K,
+) -> Option<MapNode<K, V, H>>
+    requires { IsBucketOf K.eq nodes.old.nodes buckets.old key.now bucket }
+    ensures removed { MatchOption result
+        ((lookup (K.eq key.now) (pairs (shown nodes.old.nodes)) ≡ None) × (seen nodes.new ≡ seen nodes.old))
+        (λ n. IsRemoved K.eq H.count (seen nodes.old) key.now n (seen nodes.new)) }
+    ensures gone { lookup (K.eq key.now) (pairs (shown nodes.new.nodes)) ≡ None }
+    ensures kept { (p : Ptr) → HasSpot nodes.old.nodes p → (IsFound K.eq (shown nodes.old.nodes) key.now p → ⊥)
+        → HasSpot nodes.new.nodes p }
+    ensures map { (hash : K → ℕ) → IsMap K.eq hash nodes.old.nodes buckets.old
+        → IsMap K.eq hash nodes.new.nodes buckets.new }
+    ensures long { length buckets.new ≡ length buckets.old }
+{
+    // for the proof: no two nodes are at one spot
+    nodes.lists_agree();
+    let place = place_in(nodes, buckets, bucket, key)?;
+    let at = place.at;
+    leave(nodes, buckets, place);
+    Some(MapNode {
+        node: nodes.remove(at),
+    })
+}
+
 /// Links every node into the chain of its bucket in an empty table.
 pub(crate) fn fill<K: Eq + Hash, V, H: Hooks, S: BuildHasher>(
     nodes: &mut Nodes<K, V, H>,
-    buckets: &mut [Option<Spot>],
+    buckets: &mut [Link],
     hasher: &S,
 )
     requires { IsEmptyTable buckets.old }
@@ -138,7 +176,8 @@ pub(crate) fn fill<K: Eq + Hash, V, H: Hooks, S: BuildHasher>(
     while let Some(spot) = at {
         // for the proof: a list has a spot only once, and only those of nodes
         nodes.lists_agree();
-        enter(nodes, buckets, hasher, spot);
+        let bucket = bucket_of(&nodes.get(spot).key, hasher, buckets.len());
+        enter(nodes, buckets, bucket, spot);
         at = nodes.next(0, spot);
     }
 }

@@ -3,6 +3,8 @@
 
 mod chains;
 pub mod entry;
+mod in_order;
+mod link;
 mod links;
 pub mod map_node;
 pub mod seeded;

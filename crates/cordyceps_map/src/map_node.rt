@@ -2,6 +2,7 @@
 ghost use Rattle.std.specs.Prelude.{◌≡◌, IfOk, IfErr};
 
 use crate::entry::Entry;
+use crate::link::Link;
 use cordyceps_base::node::Refused;
 use cordyceps_many::hooks::Hooks;
 use cordyceps_many::node::MultiNode;
@@ -47,7 +48,7 @@ impl<K: Drop, V: Drop, H: Hooks> MapNode<K, V, H> {
         let entry = Entry {
             key,
             value,
-            next: None,
+            next: Link::none(),
         };
         match MultiNode::new(alloc, id, entry) {
             Ok(node) => Ok(MapNode { node }),

@@ -8,8 +8,8 @@ use std::hash::{BuildHasher, DefaultHasher};
 
 /// Hashes by SipHash-1-3 with two keys of the caller's.
 ///
-/// If others choose the keys of a map, take the two numbers from a source of random numbers. Others who do not know them
-/// cannot choose keys that share a bucket.
+/// If others choose the keys of a map, take the two numbers from a source of random numbers. Whoever does not know them
+/// cannot foresee which keys share a bucket, as SipHash promises. This is not proved.
 #[derive(Clone, Copy)]
 pub struct Seeded {
     key0: u64,

@@ -12,7 +12,7 @@
 //! Each node also has the hooks of a `MultiList`, which are not drawn.
 ghost use Rattle.std.specs.Prelude.{◌≡◌, ◌≢◌, ℕ, ◌<◌, ◌≤◌, ◌==◌, List, [], ◌∷◌, ◌++◌, length, true, false};
 ghost use Rattle.std.specs.Prelude.{MatchOption, IfSome, IfOk, is_some, option_copied, None, Some};
-ghost use Rattle.std.specs.Map.{lookup, lookup_entry};
+ghost use Rattle.std.specs.Map.{lookup};
 ghost use Rattle.std.specs.Borrow.{sem};
 ghost use denote.RawPtr.{Ptr};
 ghost use Rattle.cordyceps_base.specs.BySpot.{HasSpot, HoldsAt, IsTaken};
@@ -21,8 +21,9 @@ ghost use Rattle.cordyceps_many.specs.Threads.{is_in, without};
 ghost use Rattle.cordyceps_map.specs.StableMap.{pairs, AreApart, IsFound, IsRemoved, IsInserted};
 ghost use Rattle.cordyceps_map.specs.Chains.{IsEmptyTable};
 
-use crate::chains::{enter, fill, leave, place_of};
+use crate::chains::{bucket_of, enter, fill, leave, place_of, take_out};
 use crate::entry::Entry;
+use crate::link::Link;
 use crate::map_node::MapNode;
 use cordyceps_many::hooks::Hooks;
 use cordyceps_many::multi_list::MultiList;
@@ -52,7 +53,7 @@ use std::marker::Model;
 #[derive(Drop)]
 pub struct StableMap<K: Eq + Hash, V, H: Hooks, S: BuildHasher> {
     pub(crate) nodes: MultiList<Entry<K, V>, H>,
-    buckets: Vec<Option<Spot>>,
+    buckets: Vec<Link>,
     hasher: S,
 }
 
@@ -132,16 +133,11 @@ impl<K: Eq + Hash + Drop, V: Drop, H: Hooks, S: BuildHasher> StableMap<K, V, H, 
         ensures kept { (p : Ptr) → HasSpot self.old.nodes p → lookup (K.eq node.value.0) (pairs self.old.nodes) ≡ None
             → HasSpot self.new.nodes p }
     {
-        let replaced = self.remove(node.key());
-        // for the proof: no two nodes are at one spot
-        self.nodes.lists_agree();
+        let key = node.key();
+        let bucket = bucket_of(key, &self.hasher, self.buckets.len());
+        let replaced = take_out(&mut self.nodes, self.buckets.as_mut_slice(), bucket, key);
         let spot = self.nodes.insert(node.node);
-        enter(
-            &mut self.nodes,
-            self.buckets.as_mut_slice(),
-            &self.hasher,
-            spot,
-        );
+        enter(&mut self.nodes, self.buckets.as_mut_slice(), bucket, spot);
         Inserted { spot, replaced }
     }
 
@@ -156,14 +152,8 @@ impl<K: Eq + Hash + Drop, V: Drop, H: Hooks, S: BuildHasher> StableMap<K, V, H, 
         ensures kept { (p : Ptr) → HasSpot self.old.nodes p → (IsFound K.eq self.old.nodes key.now p → ⊥)
             → HasSpot self.new.nodes p }
     {
-        // for the proof: no two nodes are at one spot
-        self.nodes.lists_agree();
-        let place = place_of(&self.nodes, self.buckets.as_slice(), &self.hasher, key)?;
-        let at = place.at;
-        leave(&mut self.nodes, self.buckets.as_mut_slice(), place);
-        Some(MapNode {
-            node: self.nodes.remove(at),
-        })
+        let bucket = bucket_of(key, &self.hasher, self.buckets.len());
+        take_out(&mut self.nodes, self.buckets.as_mut_slice(), bucket, key)
     }
 }
 
@@ -304,7 +294,8 @@ impl<K: Eq + Hash, V, H: Hooks, S: BuildHasher> StableMap<K, V, H, S> {
 }
 
 impl<K: Eq + Hash, V, H: Hooks, S: BuildHasher> StableMap<K, V, H, S> {
-    ghost use Rattle.cordyceps_map.specs.MapLends.{LendsValueAt, with_value_at};
+    ghost use Rattle.std.specs.Option.{option_copied_mut};
+    ghost use Rattle.cordyceps_map.specs.MapLends.{LendsValueAt, LendsValueOf, with_value_at};
 
     /// Returns a mutable reference to the value at `at`. The key, the spot and the places of the node stay. Requires
     /// that `at` is valid.
@@ -322,6 +313,25 @@ impl<K: Eq + Hash, V, H: Hooks, S: BuildHasher> StableMap<K, V, H, S> {
         let entry = self.nodes.get_mut(at);
         &mut entry.value
     }
+
+    /// Returns a mutable reference to the value of a key, or `None` if no node has it. The key, the spot and the places
+    /// of the node stay.
+    ///
+    /// # Complexity
+    /// As `find`.
+    pub fn get_mut(&mut self, key: &K) -> Option<&mut V>
+        ensures* writes_back { sem 𝓛 (LendsValueOf K.row V.row H.row S.row H.HookArray.row H.EndsArray.row S.Hasher.row
+            K.Hash H.Rows S.BuildHasher S.Hasher.Hasher self.entry key.now result) }
+        ensures value { option_copied_mut result ≡ lookup (K.eq key.now) (pairs self.old.nodes) }
+        ensures found { IfSome result (λ _. (p : Ptr) × IsFound K.eq self.old.nodes key.now p) }
+        ensures kept { (written : V) (at p : Ptr) → IsFound K.eq self.old.nodes key.now at → HasSpot self.old.nodes p
+            → HasSpot (with_value_at self.old at written).nodes p }
+    {
+        // for the proof: no two nodes are at one spot
+        self.lists_agree();
+        let at = self.find(key)?;
+        Some(self.value_at_mut(at))
+    }
 }
 
 /// What `insert` returns: the spot of the node that was put in, and the node that had its key before.
@@ -332,7 +342,7 @@ pub struct Inserted<K, V, H: Hooks> {
 }
 
 /// Creates a table of at least `capacity` buckets, and at least one.
-fn empty_buckets(alloc: Global, capacity: usize) -> Result<Vec<Option<Spot>>, AllocError>
+fn empty_buckets(alloc: Global, capacity: usize) -> Result<Vec<Link>, AllocError>
     ensures { IfOk result (λ v. IsEmptyTable v.items) }
 {
     let count = capacity
@@ -340,6 +350,6 @@ fn empty_buckets(alloc: Global, capacity: usize) -> Result<Vec<Option<Spot>>, Al
         .checked_next_power_of_two()
         .ok_or(AllocError)?;
     let mut buckets = Vec::new(alloc);
-    buckets.resize(count, None)?;
+    buckets.resize(count, Link::none())?;
     Ok(buckets)
 }

@@ -10,6 +10,7 @@ use cordyceps_many::hooks::Hooks;
 use cordyceps_map::map_node::MapNode;
 use cordyceps_map::seeded::Seeded;
 use cordyceps_map::stable_map::{Inserted, StableMap};
+use cordyceps_single::sorted_list::Least;
 use cordyceps_stable::stable_list::Spot;
 use std::alloc::Global;
 use std::process::Abort;
@@ -158,6 +159,21 @@ fn link_beside<H: Hooks>(
     Reply::Done
 }
 
+/// Links the node of a key in list `i` where the order of the values puts it, unless it is in that.
+fn link_in_order<H: Hooks>(rt: &impl Abort, map: &mut Map<H>, i: usize, key: u64) -> Reply
+    requires { i < H.count }
+{
+    let Some(spot) = map.find(&key) else {
+        return Reply::NotMade;
+    };
+    if map.is_linked(i, spot) {
+        return Reply::NotMade;
+    }
+    room(rt, map, i);
+    map.link_in_order(i, spot, &Least);
+    Reply::Done
+}
+
 /// Moves the node of a key to an end of list `i`, if it is in that.
 fn move_to_end<H: Hooks>(map: &mut Map<H>, i: usize, key: u64, is_back: bool) -> Reply
     requires { i < H.count }
@@ -278,6 +294,10 @@ fn link<H: Hooks>(rt: &impl Abort, map: &mut Map<H>, last: usize, call: Call) ->
             at_most(rt, i, last);
             link_beside(rt, map, i, (key, other), true)
         }
+        Call::LinkInOrder(i, key) => {
+            at_most(rt, i, last);
+            link_in_order(rt, map, i, key)
+        }
         _ => relink(rt, map, last, call),
     }
 }
@@ -315,6 +335,13 @@ pub fn reply<H: Hooks>(
             }
             None => Reply::NotMade,
         },
+        Call::GetMut(key, value) => {
+            let old = map.get(&key).copied();
+            if let Some(it) = map.get_mut(&key) {
+                *it = value;
+            }
+            Reply::Value(old)
+        }
         Call::Rehash(capacity) => {
             made(rt, map.rehash(alloc, capacity));
             same(rt, map.bucket_count() >= capacity, true);

@@ -28,7 +28,7 @@ fn drawn(draws: &mut Draws, buckets: usize, last: usize, number: u64) -> Call {
     let other = draws.below(KEYS);
     let value = draws.below(1000);
     let i = draws.place(last.min(LISTS));
-    match draws.below(25) {
+    match draws.below(28) {
         0 | 1 | 2 | 3 => Call::Insert((number, key, value)),
         4 => Call::Remove(key),
         5 => Call::RemoveAt(key),
@@ -46,6 +46,8 @@ fn drawn(draws: &mut Draws, buckets: usize, last: usize, number: u64) -> Call {
         22 if value < 200 => Call::UnlinkOthers(key),
         23 if value < 200 => Call::Rehash(draws.place(buckets.min(64))),
         24 => Call::Write(key, value),
+        25 => Call::GetMut(key, value),
+        26 | 27 => Call::LinkInOrder(i, key),
         _ => Call::Get(key),
     }
 }

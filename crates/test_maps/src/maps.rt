@@ -72,6 +72,24 @@ const CALLS: &[(Call, Reply)] = &[
     // a map that has become empty goes on
     (Call::Insert((5, 7, 71)), Reply::Out(None)),
     (Call::Insert((6, 7, 72)), Reply::Out(Some((5, 7, 71)))),
+    // list 1 is 8, and then 7 8, 7 9 8 and 5 7 9 8: by the values, which are 80, 72, 72 and 51
+    (Call::Insert((7, 8, 80)), Reply::Out(None)),
+    (Call::Insert((8, 9, 72)), Reply::Out(None)),
+    (Call::Insert((9, 5, 51)), Reply::Out(None)),
+    (Call::LinkInOrder(1, 8), Reply::Done),
+    (Call::LinkInOrder(1, 7), Reply::Done),
+    (Call::LinkInOrder(1, 9), Reply::Done),
+    (Call::LinkInOrder(1, 5), Reply::Done),
+    (Call::LinkInOrder(1, 9), Reply::NotMade),
+    (Call::LinkInOrder(2, 6), Reply::NotMade),
+    (Call::PopFront(1), Reply::At(Some(5))),
+    (Call::PopFront(1), Reply::At(Some(7))),
+    (Call::PopFront(1), Reply::At(Some(9))),
+    (Call::PopFront(1), Reply::At(Some(8))),
+    (Call::GetMut(9, 90), Reply::Value(Some(72))),
+    (Call::Get(9), Reply::Value(Some(90))),
+    (Call::GetMut(6, 60), Reply::Value(None)),
+    (Call::Get(6), Reply::Value(None)),
 ];
 
 /// Makes the calls of the table with a map of at least so many buckets, which hashes by these two numbers.

@@ -17,8 +17,10 @@ pub enum Call {
     Find(u64),
     Get(u64),
     ContainsKey(u64),
-    /// Writes the value of this key.
+    /// Writes the value of this key, at its spot.
     Write(u64, u64),
+    /// Writes the value of this key, which the call finds.
+    GetMut(u64, u64),
     /// Makes a table of at least so many buckets.
     Rehash(usize),
     LinkBack(usize, u64),
@@ -27,6 +29,8 @@ pub enum Call {
     LinkBefore(usize, u64, u64),
     /// Links the first of two nodes after the second.
     LinkAfter(usize, u64, u64),
+    /// Links a node where the order of the values puts it.
+    LinkInOrder(usize, u64),
     Unlink(usize, u64),
     EnsureUnlinked(usize, u64),
     UnlinkOthers(u64),
@@ -153,6 +157,18 @@ impl Plain {
         Reply::Done
     }
 
+    /// Returns where the order of the values puts a key in a list: after the last whose value is not greater.
+    fn place_in_order(&self, i: usize, key: u64) -> usize {
+        let value = self.value(key);
+        let mut at = 0usize;
+        for (before, other) in self.list(i).iter().enumerate() {
+            if self.value(*other) <= value {
+                at = before.wrapping_add(1);
+            }
+        }
+        at
+    }
+
     /// Inserts a key into a list, at `to`. It is not made if no node has the key, if the list has it, or if the list
     /// has not the other.
     fn link(&mut self, rt: &impl Abort, i: usize, key: u64, to: To) -> Reply {
@@ -165,6 +181,7 @@ impl Plain {
             To::Back => Some(list.len()),
             To::Before(other) => place(list, other),
             To::After(other) => place(list, other).map(|it| it.wrapping_add(1)),
+            To::InOrder => Some(self.place_in_order(i, key)),
         };
         match at {
             Some(at) => put(rt, self.list_mut(rt, i), at, key),
@@ -201,6 +218,11 @@ impl Plain {
             Call::Get(key) => Reply::Value(self.value(key)),
             Call::ContainsKey(key) => Reply::Has(self.has_key(key)),
             Call::Write(key, value) => self.write(key, value),
+            Call::GetMut(key, value) => {
+                let old = self.value(key);
+                self.write(key, value);
+                Reply::Value(old)
+            }
             Call::Rehash(_) => Reply::Done,
             _ => self.call_of_links(rt, call),
         }
@@ -213,6 +235,7 @@ impl Plain {
             Call::LinkFront(i, key) => self.link(rt, i, key, To::Front),
             Call::LinkBefore(i, key, other) => self.link(rt, i, key, To::Before(other)),
             Call::LinkAfter(i, key, other) => self.link(rt, i, key, To::After(other)),
+            Call::LinkInOrder(i, key) => self.link(rt, i, key, To::InOrder),
             Call::MoveToBack(i, key) => self.moved(rt, i, key, To::Back),
             Call::MoveToFront(i, key) => self.moved(rt, i, key, To::Front),
             _ => self.call_of_unlinks(rt, call),
@@ -253,4 +276,5 @@ enum To {
     Back,
     Before(u64),
     After(u64),
+    InOrder,
 }

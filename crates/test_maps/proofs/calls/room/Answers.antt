@@ -1,6 +1,6 @@
 use Rattle.std.proofs.Common.{arith}
 use Rattle.cordyceps_many.specs.MultiList.{list_at}
-use Rattle.test_maps.proofs.Rooms.{no_longer}
+use Rattle.cordyceps_map.proofs.Fewer.{no_longer}
 use Rattle.test_maps.proofs.calls.room.Goals as goal
 
 -- src/calls.rt:27:1

@@ -12,14 +12,14 @@ place_of-requires g c =
 pub returns-in_err-place-clause-found : goal.returns-in_err-place-clause-found
 returns-in_err-place-clause-found g c =
     let eq = g.K.PartialEq.eq in let hash : g.row.K.Denot → ℕ = (λ (x : g.row.K.Denot). hash_of g.S.BuildHasher g.S.Hasher.Hasher c.self.inside.hasher (g.K.Hash.hash_input x)) in let ns = c.self.inside.nodes.nodes in let ls = c.self.inside.nodes.lists in let v = c.args.self.now in let seen = c.self.view_is in let k = c.args.key.now in
-    when_none (IsFound eq v.nodes k) c.from_residual.result c.from_residual.ensures (not_found eq hash ns c.as_slice.result.now k 0 ls v seen (c.in_err-place.ensures))
+    when_none (IsFound eq v.nodes k) c.from_residual.result c.from_residual.ensures (not_found eq ns c.as_slice.result.now k 0 ls v seen (c.in_err-place.ensures))
 
 pub returns-clause-found : goal.returns-clause-found
 returns-clause-found g c =
     let eq = g.K.PartialEq.eq in let hash : g.row.K.Denot → ℕ = (λ (x : g.row.K.Denot). hash_of g.S.BuildHasher g.S.Hasher.Hasher c.self.inside.hasher (g.K.Hash.hash_input x)) in let ns = c.self.inside.nodes.nodes in let ls = c.self.inside.nodes.lists in let v = c.args.self.now in let seen = c.self.view_is in let k = c.args.key.now in
-    placed_found eq hash ns c.as_slice.result.now k c.in_ok-place.place.bucket ls v seen c.in_ok-place.place.before c.in_ok-place.place.at (c.in_ok-place.ensures)
+    placed_found eq ns c.as_slice.result.now k c.in_ok-place.place.bucket ls v seen c.in_ok-place.place.before c.in_ok-place.place.at (c.in_ok-place.ensures)
 
 pub returns-clause-there : goal.returns-clause-there
 returns-clause-there g c =
     let eq = g.K.PartialEq.eq in let hash : g.row.K.Denot → ℕ = (λ (x : g.row.K.Denot). hash_of g.S.BuildHasher g.S.Hasher.Hasher c.self.inside.hasher (g.K.Hash.hash_input x)) in let ns = c.self.inside.nodes.nodes in let ls = c.self.inside.nodes.lists in let v = c.args.self.now in let seen = c.self.view_is in let k = c.args.key.now in
-    some_outer ns ls v seen (Some c.in_ok-place.place.at) (placed_has eq hash ns c.as_slice.result.now k c.in_ok-place.place.bucket c.in_ok-place.place.before c.in_ok-place.place.at (c.in_ok-place.ensures))
+    some_outer ns ls v seen (Some c.in_ok-place.place.at) (placed_has eq ns c.as_slice.result.now k c.in_ok-place.place.bucket c.in_ok-place.place.before c.in_ok-place.place.at (c.in_ok-place.ensures))

@@ -17,12 +17,12 @@ place_of-requires g c =
 pub get-requires : goal.get-requires
 get-requires g c =
     let eq = g.K.PartialEq.eq in let hash : g.row.K.Denot → ℕ = (λ (x : g.row.K.Denot). hash_of g.S.BuildHasher g.S.Hasher.Hasher c.self.inside.hasher (g.K.Hash.hash_input x)) in let ns = c.self.inside.nodes.nodes in let ls = c.self.inside.nodes.lists in let v = c.args.self.now in let seen = c.self.view_is in let k = c.args.key.now in
-    placed_has eq hash ns c.as_slice.result.now k c.in_ok-place.place.bucket c.in_ok-place.place.before c.in_ok-place.place.at c.in_ok-place.ensures
+    placed_has eq ns c.as_slice.result.now k c.in_ok-place.place.bucket c.in_ok-place.place.before c.in_ok-place.place.at c.in_ok-place.ensures
 
 pub returns-in_err-place : goal.returns-in_err-place
 returns-in_err-place g c =
     let eq = g.K.PartialEq.eq in let hash : g.row.K.Denot → ℕ = (λ (x : g.row.K.Denot). hash_of g.S.BuildHasher g.S.Hasher.Hasher c.self.inside.hasher (g.K.Hash.hash_input x)) in let ns = c.self.inside.nodes.nodes in let ls = c.self.inside.nodes.lists in let v = c.args.self.now in let seen = c.self.view_is in let k = c.args.key.now in
-    ap option_copied c.from_residual.ensures ∙ sym (not_found eq hash ns c.as_slice.result.now k 0 ls v seen c.in_err-place.ensures)
+    ap option_copied c.from_residual.ensures ∙ sym (not_found eq ns c.as_slice.result.now k 0 ls v seen c.in_err-place.ensures)
 
 pub returns : goal.returns
 returns g c =

@@ -25,48 +25,48 @@ pub unreachable-requires : goal.unreachable-requires
 unreachable-requires g c =
     let eq = g.K.PartialEq.eq in let hash : g.row.K.Denot → ℕ = (λ (x : g.row.K.Denot). hash_of g.S.BuildHasher g.S.Hasher.Hasher c.self.inside.hasher (g.K.Hash.hash_input x)) in let ns = c.self.inside.nodes.nodes in let ls = c.self.inside.nodes.lists in let v = c.args.self.now in let seen = c.self.view_is in
     let hs = c.self.inside.buckets.items in let at = c.args.at in let e = c.get.result.now in let k = e.key in let says = held_value ns at e c.lists_agree.ensures.distinct c.get.ensures in
-    let told : MatchOption c.place_of.result (lookup_entry (eq k) (pairs (shown ns)) ≡ None) (λ z. IsPlace eq hash ns c.as_slice.result.now k z.bucket z.before z.at) = c.place_of.ensures in
+    let told : MatchOption c.place_of.result (lookup_entry (eq k) (pairs (shown ns)) ≡ None) (λ z. IsPlace eq ns c.as_slice.result.now k z.bucket z.before z.at) = c.place_of.ensures in
     never_none eq g.met.K.Eq.laws hash ns hs c.self.invariant at e says
-    (subst (λ o. MatchOption o (lookup_entry (eq k) (pairs (shown ns)) ≡ None) (λ z. IsPlace eq hash ns c.as_slice.result.now k z.bucket z.before z.at)) (no_some c.place_of.result c.in_default.not-Some) told)
+    (subst (λ o. MatchOption o (lookup_entry (eq k) (pairs (shown ns)) ≡ None) (λ z. IsPlace eq ns c.as_slice.result.now k z.bucket z.before z.at)) (no_some c.place_of.result c.in_default.not-Some) told)
 
 pub leave-requires-clause-there : goal.leave-requires-clause-there
 leave-requires-clause-there g c =
     let eq = g.K.PartialEq.eq in let hash : g.row.K.Denot → ℕ = (λ (x : g.row.K.Denot). hash_of g.S.BuildHasher g.S.Hasher.Hasher c.self.inside.hasher (g.K.Hash.hash_input x)) in let ns = c.self.inside.nodes.nodes in let ls = c.self.inside.nodes.lists in let v = c.args.self.now in let seen = c.self.view_is in
     let hs = c.self.inside.buckets.items in let at = c.args.at in let e = c.get.result.now in let k = e.key in let says = held_value ns at e c.lists_agree.ensures.distinct c.get.ensures in
-    let told : MatchOption c.place_of.result (lookup_entry (eq k) (pairs (shown ns)) ≡ None) (λ z. IsPlace eq hash ns c.as_slice.result.now k z.bucket z.before z.at) = c.place_of.ensures in
+    let told : MatchOption c.place_of.result (lookup_entry (eq k) (pairs (shown ns)) ≡ None) (λ z. IsPlace eq ns c.as_slice.result.now k z.bucket z.before z.at) = c.place_of.ensures in
     let place = c.in-Some.place in let j = place.bucket in let before = place.before in
-    let w = subst (λ h. IsPlace eq hash ns h k j before place.at) c.as_slice.ensures.value (subst (λ o. MatchOption o (lookup_entry (eq k) (pairs (shown ns)) ≡ None) (λ z. IsPlace eq hash ns c.as_slice.result.now k z.bucket z.before z.at)) c.in-Some.is told) in
-    placed_has eq hash ns hs k j before place.at w
+    let w = subst (λ h. IsPlace eq ns h k j before place.at) c.as_slice.ensures.value (subst (λ o. MatchOption o (lookup_entry (eq k) (pairs (shown ns)) ≡ None) (λ z. IsPlace eq ns c.as_slice.result.now k z.bucket z.before z.at)) c.in-Some.is told) in
+    placed_has eq ns hs k j before place.at w
 
 pub leave-requires-clause-before : goal.leave-requires-clause-before
 leave-requires-clause-before g c =
     let eq = g.K.PartialEq.eq in let hash : g.row.K.Denot → ℕ = (λ (x : g.row.K.Denot). hash_of g.S.BuildHasher g.S.Hasher.Hasher c.self.inside.hasher (g.K.Hash.hash_input x)) in let ns = c.self.inside.nodes.nodes in let ls = c.self.inside.nodes.lists in let v = c.args.self.now in let seen = c.self.view_is in
     let hs = c.self.inside.buckets.items in let at = c.args.at in let e = c.get.result.now in let k = e.key in let says = held_value ns at e c.lists_agree.ensures.distinct c.get.ensures in
-    let told : MatchOption c.place_of.result (lookup_entry (eq k) (pairs (shown ns)) ≡ None) (λ z. IsPlace eq hash ns c.as_slice.result.now k z.bucket z.before z.at) = c.place_of.ensures in
+    let told : MatchOption c.place_of.result (lookup_entry (eq k) (pairs (shown ns)) ≡ None) (λ z. IsPlace eq ns c.as_slice.result.now k z.bucket z.before z.at) = c.place_of.ensures in
     let place = c.in-Some.place in let j = place.bucket in let before = place.before in
-    let w = subst (λ h. IsPlace eq hash ns h k j before place.at) c.as_slice.ensures.value (subst (λ o. MatchOption o (lookup_entry (eq k) (pairs (shown ns)) ≡ None) (λ z. IsPlace eq hash ns c.as_slice.result.now k z.bucket z.before z.at)) c.in-Some.is told) in
-    before_has eq hash ns hs k j before place.at w
+    let w = subst (λ h. IsPlace eq ns h k j before place.at) c.as_slice.ensures.value (subst (λ o. MatchOption o (lookup_entry (eq k) (pairs (shown ns)) ≡ None) (λ z. IsPlace eq ns c.as_slice.result.now k z.bucket z.before z.at)) c.in-Some.is told) in
+    before_has eq ns hs k j before place.at w
 
 pub remove-requires : goal.remove-requires
 remove-requires g c =
     let eq = g.K.PartialEq.eq in let hash : g.row.K.Denot → ℕ = (λ (x : g.row.K.Denot). hash_of g.S.BuildHasher g.S.Hasher.Hasher c.self.inside.hasher (g.K.Hash.hash_input x)) in let ns = c.self.inside.nodes.nodes in let ls = c.self.inside.nodes.lists in let v = c.args.self.now in let seen = c.self.view_is in
     let hs = c.self.inside.buckets.items in let at = c.args.at in let e = c.get.result.now in let k = e.key in let says = held_value ns at e c.lists_agree.ensures.distinct c.get.ensures in
-    let told : MatchOption c.place_of.result (lookup_entry (eq k) (pairs (shown ns)) ≡ None) (λ z. IsPlace eq hash ns c.as_slice.result.now k z.bucket z.before z.at) = c.place_of.ensures in
+    let told : MatchOption c.place_of.result (lookup_entry (eq k) (pairs (shown ns)) ≡ None) (λ z. IsPlace eq ns c.as_slice.result.now k z.bucket z.before z.at) = c.place_of.ensures in
     let place = c.in-Some.place in let j = place.bucket in let before = place.before in
-    let w = subst (λ h. IsPlace eq hash ns h k j before place.at) c.as_slice.ensures.value (subst (λ o. MatchOption o (lookup_entry (eq k) (pairs (shown ns)) ≡ None) (λ z. IsPlace eq hash ns c.as_slice.result.now k z.bucket z.before z.at)) c.in-Some.is told) in
-    let same = same_place eq g.met.K.Eq.laws hash ns hs c.self.invariant at e says j before place.at w in let here = subst (λ z. IsPlace eq hash ns hs k j before z) same w in
+    let w = subst (λ h. IsPlace eq ns h k j before place.at) c.as_slice.ensures.value (subst (λ o. MatchOption o (lookup_entry (eq k) (pairs (shown ns)) ≡ None) (λ z. IsPlace eq ns c.as_slice.result.now k z.bucket z.before z.at)) c.in-Some.is told) in
+    let same = same_place eq g.met.K.Eq.laws hash ns hs c.self.invariant at e says j before place.at w in let here = subst (λ z. IsPlace eq ns hs k j before z) same w in
     let d = c.leave.new.nodes.nodes in let ms = c.leave.new.buckets in
     let u = subst (λ h. IsCut ns h j before at d ms) c.as_mut_slice.ensures.value (subst (λ z. IsCut ns c.as_mut_slice.result.now j before z d ms) same c.leave.ensures.cut) in
-    cut_has eq hash ns hs k j before at d ms u at (placed_has eq hash ns hs k j before at here)
+    cut_has eq ns hs k j before at d ms u at (placed_has eq ns hs k j before at here)
 
 pub invariant_of-self : goal.invariant_of-self
 invariant_of-self g c =
     let eq = g.K.PartialEq.eq in let hash : g.row.K.Denot → ℕ = (λ (x : g.row.K.Denot). hash_of g.S.BuildHasher g.S.Hasher.Hasher c.self.inside.hasher (g.K.Hash.hash_input x)) in let ns = c.self.inside.nodes.nodes in let ls = c.self.inside.nodes.lists in let v = c.args.self.now in let seen = c.self.view_is in
     let hs = c.self.inside.buckets.items in let at = c.args.at in let e = c.get.result.now in let k = e.key in let says = held_value ns at e c.lists_agree.ensures.distinct c.get.ensures in
-    let told : MatchOption c.place_of.result (lookup_entry (eq k) (pairs (shown ns)) ≡ None) (λ z. IsPlace eq hash ns c.as_slice.result.now k z.bucket z.before z.at) = c.place_of.ensures in
+    let told : MatchOption c.place_of.result (lookup_entry (eq k) (pairs (shown ns)) ≡ None) (λ z. IsPlace eq ns c.as_slice.result.now k z.bucket z.before z.at) = c.place_of.ensures in
     let place = c.in-Some.place in let j = place.bucket in let before = place.before in
-    let w = subst (λ h. IsPlace eq hash ns h k j before place.at) c.as_slice.ensures.value (subst (λ o. MatchOption o (lookup_entry (eq k) (pairs (shown ns)) ≡ None) (λ z. IsPlace eq hash ns c.as_slice.result.now k z.bucket z.before z.at)) c.in-Some.is told) in
-    let same = same_place eq g.met.K.Eq.laws hash ns hs c.self.invariant at e says j before place.at w in let here = subst (λ z. IsPlace eq hash ns hs k j before z) same w in
+    let w = subst (λ h. IsPlace eq ns h k j before place.at) c.as_slice.ensures.value (subst (λ o. MatchOption o (lookup_entry (eq k) (pairs (shown ns)) ≡ None) (λ z. IsPlace eq ns c.as_slice.result.now k z.bucket z.before z.at)) c.in-Some.is told) in
+    let same = same_place eq g.met.K.Eq.laws hash ns hs c.self.invariant at e says j before place.at w in let here = subst (λ z. IsPlace eq ns hs k j before z) same w in
     let d = c.leave.new.nodes.nodes in let ms = c.leave.new.buckets in
     let u = subst (λ h. IsCut ns h j before at d ms) c.as_mut_slice.ensures.value (subst (λ z. IsCut ns c.as_mut_slice.result.now j before z d ms) same c.leave.ensures.cut) in
     let (b, a, was, is_left) = c.remove.ensures.taken in
@@ -77,10 +77,10 @@ pub returns-clause-taken : goal.returns-clause-taken
 returns-clause-taken g c =
     let eq = g.K.PartialEq.eq in let hash : g.row.K.Denot → ℕ = (λ (x : g.row.K.Denot). hash_of g.S.BuildHasher g.S.Hasher.Hasher c.self.inside.hasher (g.K.Hash.hash_input x)) in let ns = c.self.inside.nodes.nodes in let ls = c.self.inside.nodes.lists in let v = c.args.self.now in let seen = c.self.view_is in
     let hs = c.self.inside.buckets.items in let at = c.args.at in let e = c.get.result.now in let k = e.key in let says = held_value ns at e c.lists_agree.ensures.distinct c.get.ensures in
-    let told : MatchOption c.place_of.result (lookup_entry (eq k) (pairs (shown ns)) ≡ None) (λ z. IsPlace eq hash ns c.as_slice.result.now k z.bucket z.before z.at) = c.place_of.ensures in
+    let told : MatchOption c.place_of.result (lookup_entry (eq k) (pairs (shown ns)) ≡ None) (λ z. IsPlace eq ns c.as_slice.result.now k z.bucket z.before z.at) = c.place_of.ensures in
     let place = c.in-Some.place in let j = place.bucket in let before = place.before in
-    let w = subst (λ h. IsPlace eq hash ns h k j before place.at) c.as_slice.ensures.value (subst (λ o. MatchOption o (lookup_entry (eq k) (pairs (shown ns)) ≡ None) (λ z. IsPlace eq hash ns c.as_slice.result.now k z.bucket z.before z.at)) c.in-Some.is told) in
-    let same = same_place eq g.met.K.Eq.laws hash ns hs c.self.invariant at e says j before place.at w in let here = subst (λ z. IsPlace eq hash ns hs k j before z) same w in
+    let w = subst (λ h. IsPlace eq ns h k j before place.at) c.as_slice.ensures.value (subst (λ o. MatchOption o (lookup_entry (eq k) (pairs (shown ns)) ≡ None) (λ z. IsPlace eq ns c.as_slice.result.now k z.bucket z.before z.at)) c.in-Some.is told) in
+    let same = same_place eq g.met.K.Eq.laws hash ns hs c.self.invariant at e says j before place.at w in let here = subst (λ z. IsPlace eq ns hs k j before z) same w in
     let d = c.leave.new.nodes.nodes in let ms = c.leave.new.buckets in
     let u = subst (λ h. IsCut ns h j before at d ms) c.as_mut_slice.ensures.value (subst (λ z. IsCut ns c.as_mut_slice.result.now j before z d ms) same c.leave.ensures.cut) in
     subst (λ (z : Nodes (g.row.K.Denot × g.row.V.Denot)). IsTaken z at (shown_element c.remove.result) (shown c.remove.new.self.nodes))
@@ -91,10 +91,10 @@ pub returns-clause-kept : goal.returns-clause-kept
 returns-clause-kept g c =
     let eq = g.K.PartialEq.eq in let hash : g.row.K.Denot → ℕ = (λ (x : g.row.K.Denot). hash_of g.S.BuildHasher g.S.Hasher.Hasher c.self.inside.hasher (g.K.Hash.hash_input x)) in let ns = c.self.inside.nodes.nodes in let ls = c.self.inside.nodes.lists in let v = c.args.self.now in let seen = c.self.view_is in
     let hs = c.self.inside.buckets.items in let at = c.args.at in let e = c.get.result.now in let k = e.key in let says = held_value ns at e c.lists_agree.ensures.distinct c.get.ensures in
-    let told : MatchOption c.place_of.result (lookup_entry (eq k) (pairs (shown ns)) ≡ None) (λ z. IsPlace eq hash ns c.as_slice.result.now k z.bucket z.before z.at) = c.place_of.ensures in
+    let told : MatchOption c.place_of.result (lookup_entry (eq k) (pairs (shown ns)) ≡ None) (λ z. IsPlace eq ns c.as_slice.result.now k z.bucket z.before z.at) = c.place_of.ensures in
     let place = c.in-Some.place in let j = place.bucket in let before = place.before in
-    let w = subst (λ h. IsPlace eq hash ns h k j before place.at) c.as_slice.ensures.value (subst (λ o. MatchOption o (lookup_entry (eq k) (pairs (shown ns)) ≡ None) (λ z. IsPlace eq hash ns c.as_slice.result.now k z.bucket z.before z.at)) c.in-Some.is told) in
-    let same = same_place eq g.met.K.Eq.laws hash ns hs c.self.invariant at e says j before place.at w in let here = subst (λ z. IsPlace eq hash ns hs k j before z) same w in
+    let w = subst (λ h. IsPlace eq ns h k j before place.at) c.as_slice.ensures.value (subst (λ o. MatchOption o (lookup_entry (eq k) (pairs (shown ns)) ≡ None) (λ z. IsPlace eq ns c.as_slice.result.now k z.bucket z.before z.at)) c.in-Some.is told) in
+    let same = same_place eq g.met.K.Eq.laws hash ns hs c.self.invariant at e says j before place.at w in let here = subst (λ z. IsPlace eq ns hs k j before z) same w in
     let d = c.leave.new.nodes.nodes in let ms = c.leave.new.buckets in
     let u = subst (λ h. IsCut ns h j before at d ms) c.as_mut_slice.ensures.value (subst (λ z. IsCut ns c.as_mut_slice.result.now j before z d ms) same c.leave.ensures.cut) in
-    λ p h other. shown_has c.remove.new.self.nodes p (c.remove.ensures.kept p (cut_has eq hash ns hs k j before at d ms u p (inner_has ns ls v seen p h)) other)
+    λ p h other. shown_has c.remove.new.self.nodes p (c.remove.ensures.kept p (cut_has eq ns hs k j before at d ms u p (inner_has ns ls v seen p h)) other)
