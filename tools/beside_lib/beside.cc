@@ -39,6 +39,7 @@ int main(int count, char **words) {
 #else
   add_lists();
   add_many();
+  add_maps();
   add_shared();
 #endif
   std::string asked = count > 1 ? words[1] : "";

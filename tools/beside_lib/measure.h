@@ -102,9 +102,10 @@ using Row = std::function<Time(size_t number, size_t rounds)>;
 // The rows on one thread and those where threads meet, by their names and their peers'.
 extern std::map<std::pair<std::string, std::string>, Row> one_thread, meetings;
 
-// Adds the rows of lists and sorted sets, of nodes in two lists, and of stacks and queues that threads share.
+// Adds the rows of lists and sorted sets, of nodes in two lists, of maps, and of stacks and queues that threads share.
 void add_lists();
 void add_many();
+void add_maps();
 void add_shared();
 
 // Adds the rows of the calls for C, to a program that has no others.

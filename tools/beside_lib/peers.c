@@ -20,6 +20,7 @@ static void *made(size_t size) {
 }
 
 #ifdef WITH_CK
+#include <ck_ht.h>
 #include <ck_stack.h>
 
 void *ckstack_make(void) {
@@ -38,6 +39,67 @@ void *ckstack_take_all(void *stack) {
 
 void *ckstack_after(void *node) {
   return CK_STACK_NEXT((ck_stack_entry_t *)node);
+}
+
+static void *allocate(size_t size) {
+  return malloc(size);
+}
+
+static void release(void *memory, size_t size, bool is_deferred) {
+  (void)size;
+  (void)is_deferred;
+  free(memory);
+}
+
+static struct ck_malloc memory_of_tables = {.malloc = allocate, .free = release};
+
+static void hash_number(ck_ht_hash_t *hash, const void *key, size_t length, uint64_t seed) {
+  (void)length;
+  (void)seed;
+  hash->value = hash_key(*(const uint64_t *)key);
+}
+
+void *cktable_make(size_t count) {
+  ck_ht_t *table = made(sizeof *table);
+  if (!ck_ht_init(table, CK_HT_MODE_DIRECT, hash_number, &memory_of_tables, 2 * count, 0)) {
+    abort();
+  }
+  return table;
+}
+
+void cktable_free(void *at) {
+  ck_ht_t *table = at;
+  ck_ht_destroy(table);
+  free(table);
+}
+
+void cktable_put(void *at, uint64_t key, void *value) {
+  ck_ht_t *table = at;
+  ck_ht_hash_t hash;
+  ck_ht_entry_t entry;
+  ck_ht_hash_direct(&hash, table, key);
+  ck_ht_entry_set_direct(&entry, hash, key, (uintptr_t)value);
+  if (!ck_ht_put_spmc(table, hash, &entry)) {
+    abort();
+  }
+}
+
+void *cktable_get(void *at, uint64_t key) {
+  ck_ht_t *table = at;
+  ck_ht_hash_t hash;
+  ck_ht_entry_t entry;
+  ck_ht_hash_direct(&hash, table, key);
+  ck_ht_entry_key_set_direct(&entry, key);
+  return ck_ht_get_spmc(table, hash, &entry) ? ck_ht_entry_value(&entry) : NULL;
+}
+
+void *cktable_remove(void *at, uint64_t key) {
+  ck_ht_t *table = at;
+  ck_ht_hash_t hash;
+  ck_ht_entry_t entry;
+  ck_ht_hash_direct(&hash, table, key);
+  ck_ht_entry_key_set_direct(&entry, key);
+  return ck_ht_remove_spmc(table, hash, &entry) ? ck_ht_entry_value(&entry) : NULL;
 }
 #endif
 

@@ -1,13 +1,23 @@
-// Shared stacks and queues of C libraries, behind calls that optimization at link time inlines.
+// Shared stacks and queues of C libraries, behind calls that optimization at link time inlines, and a table of theirs.
 //
-// A node of theirs is one pointer. An element begins with one, so its address is its node's. What a library's package
-// would bring is there if WITH_CK or WITH_URCU is defined.
+// A node of a stack or queue is one pointer. An element begins with one, so its address is its node's. What a library's
+// package would bring is there if WITH_CK or WITH_URCU is defined.
 #ifndef BESIDE_PEERS_H
 #define BESIDE_PEERS_H
+
+#include <stddef.h>
+#include <stdint.h>
 
 #ifdef __cplusplus
 extern "C" {
 #endif
+
+// The hash of a key, as the toolchain's `FoldHasher` has it: a product of 128 bits, whose halves are joined.
+static inline uint64_t hash_key(uint64_t key) {
+  uint64_t state = 0x243f6a8885a308d3u ^ key;
+  unsigned __int128 product = (unsigned __int128)state * (0x9e3779b97f4a7c15u ^ 16);
+  return (uint64_t)product ^ (uint64_t)(product >> 64);
+}
 
 // Of a stack: an empty one, a push of a node, and a taking of all nodes, which returns the last one pushed, or a null
 // pointer. `after` returns the node that was pushed before a taken one, if there is one.
@@ -19,6 +29,16 @@ extern "C" {
 
 #ifdef WITH_CK
 STACK(ckstack);
+
+// A table of Concurrency Kit that finds pointers by numbers: one with room for `count` of them, as it is half full at
+// most. A number is neither 0 nor the greatest. The calls of its library are not inlined.
+void *cktable_make(size_t count);
+void cktable_free(void *table);
+void cktable_put(void *table, uint64_t key, void *value);
+
+// Both return the pointer of a key, or a null pointer if it has none.
+void *cktable_get(void *table, uint64_t key);
+void *cktable_remove(void *table, uint64_t key);
 #endif
 
 #ifdef WITH_URCU

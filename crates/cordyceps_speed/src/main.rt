@@ -21,6 +21,7 @@ use cordyceps_speed_rows::fault::Fault;
 use cordyceps_speed_rows::free_lists::show_free_lists;
 use cordyceps_speed_rows::lists::show_lists;
 use cordyceps_speed_rows::many::show_many;
+use cordyceps_speed_rows::maps::show_maps;
 use cordyceps_speed_rows::queues::show_queues;
 use cordyceps_speed_rows::sorteds::show_sorteds;
 use cordyceps_speed_rows::stable_sorteds::{show_by_spots, show_clocks, show_heaps, show_inserts};
@@ -69,6 +70,7 @@ enum Rows {
     Lists,
     Stables,
     Many,
+    Maps,
     Stacks,
     Sorteds,
     Heaps,
@@ -81,10 +83,11 @@ enum Rows {
 }
 
 /// The words that ask for them.
-const ROWS: [(&str, Rows); 20] = [
+const ROWS: [(&str, Rows); 21] = [
     ("lists", Rows::Lists),
     ("stables", Rows::Stables),
     ("many", Rows::Many),
+    ("maps", Rows::Maps),
     ("stacks", Rows::Stacks),
     ("sorteds", Rows::Sorteds),
     ("heaps", Rows::Heaps),
@@ -192,10 +195,12 @@ fn show_owned<R: Clock + Print>(rt: &R, alloc: Global, table: Table) -> Result<u
     let lists = show_lists(rt, alloc, table, ELEMENTS)?;
     let stables = show_stables(rt, alloc, table, ELEMENTS)?;
     let many = show_many(rt, alloc, table, ELEMENTS)?;
+    let maps = show_maps(rt, alloc, table, ELEMENTS)?;
     let stacks = show_stacks(rt, alloc, table, ELEMENTS)?;
     let sorteds = show_sorteds(rt, alloc, table, FEW)?;
     let others = stables.wrapping_add(stacks).wrapping_add(sorteds);
-    Ok(lists.wrapping_add(many).wrapping_add(others))
+    let in_lists = lists.wrapping_add(many).wrapping_add(maps);
+    Ok(in_lists.wrapping_add(others))
 }
 
 /// How many go into heaps and queues of times, and how many timers run.
@@ -287,6 +292,7 @@ fn show_alone<R: Clock + Print + Threads + Wait + Sync>(
         Rows::Lists => show_lists(rt, alloc, table, count)?,
         Rows::Stables => show_stables(rt, alloc, table, count)?,
         Rows::Many => show_many(rt, alloc, table, count)?,
+        Rows::Maps => show_maps(rt, alloc, table, count)?,
         Rows::Stacks => show_stacks(rt, alloc, table, count)?,
         Rows::Sorteds => show_sorteds(rt, alloc, table, count)?,
         Rows::Heaps => show_heaps(rt, alloc, table, count)?,

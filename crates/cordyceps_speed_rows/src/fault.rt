@@ -11,6 +11,8 @@ pub enum Fault {
     Clock,
     /// Memory was refused.
     Memory,
+    /// The values that were found are not those that were put in.
+    Sum,
     /// A thread could not be started.
     Threads,
     /// A line could not be written.
@@ -28,6 +30,7 @@ impl fmt::Display for Fault {
             }
             Fault::Clock => write!(f, "no time from the clock"),
             Fault::Memory => write!(f, "out of memory"),
+            Fault::Sum => write!(f, "a sum of values is wrong"),
             Fault::Threads => write!(f, "a thread could not be started"),
             Fault::Write => write!(f, "write failed"),
         }

@@ -9,6 +9,7 @@ pub mod fault;
 pub mod free_lists;
 pub mod lists;
 pub mod many;
+pub mod maps;
 pub mod nodes;
 pub mod numbered;
 pub mod numbered_clock;
