@@ -54,17 +54,16 @@ impl Model for Spot {
 /// Dropping the list frees each node once: O(n), for n elements.
 ///
 /// # Examples
-/// From `recency::Cache::insert` of `cordyceps_uses`:
+/// From `timer_wheel::TimerWheel::start` of `cordyceps_uses`:
 /// ```
-/// let spot = self.list.push_front(node);
-/// let put: Result<_, _> = self.spots.insert(key, spot);
+/// let spot = self.slots[slot].push_back(timer);
+/// Ok(Ticket { deadline, spot })
 /// ```
 ///
-/// From `recency::Cache::get` of `cordyceps_uses`:
+/// From `timer_wheel::TimerWheel::cancel` of `cordyceps_uses`:
 /// ```
-/// let spot = *self.spots.get(&key)?;
-/// let value = self.list.get(spot).value;
-/// self.list.move_to_front(spot);
+/// let slot = self.slot(ticket.deadline);
+/// self.slots[slot].remove(ticket.spot)
 /// ```
 #[derive(Drop)]
 pub struct StableList<T> {

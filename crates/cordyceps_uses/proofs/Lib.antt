@@ -1,9 +1,12 @@
 mod Arriving
 mod Best
+mod ByKey
 mod Draining
-mod Entries
+mod HandedOver
 mod Idlest
 mod Ordered
 mod Placing
+mod Renewing
 mod States
+mod Tabled
 pub mod Turning

@@ -1,9 +1,8 @@
--- The entries of lists: which is found, in which order they are, and what nodes that come and go leave of them.
-use Rattle.std.proofs.Common.{◌≡◌, ◌<◌, ◌≤◌, ℕ, zero, suc, Bool, true, false, if◌then◌else◌, cond, List, [], ◌∷◌, ◌++◌, length, Option, Some, None, nat_lt, refl, sym, ap, ◌∙◌, subst, arith, length-append}
+-- Sequences of entries: which is found, in which order they are, and what the values at spots make of it.
+use Rattle.std.proofs.Common.{◌≡◌, ◌≤◌, ℕ, zero, suc, Bool, true, false, if◌then◌else◌, cond, List, [], ◌∷◌, ◌++◌, length, Option, Some, None, refl, sym, ap, ◌∙◌, subst, arith, length-append}
 use Rattle.std.specs.List.{All}
 use Rattle.std.specs.Map.{lookup, lookup_entry, remove_entry}
 use Rattle.std.proofs.lemmas.List.Elements.{All-nil, All-cons, All-head, All-tail}
-use Rattle.std.proofs.lemmas.Bool.{lt-ltb, le-ltb}
 use denote.RawPtr.{Ptr}
 use Rattle.cordyceps.specs.Spots.BySpot.{HasSpot}
 use Rattle.cordyceps.specs.Elements.Nodes.{Nodes}
@@ -15,7 +14,7 @@ use Rattle.cordyceps.proofs.Spots.Members.{in_self, has_in}
 use Rattle.cordyceps.proofs.Spots.Threads.{split, in_more, not_in}
 use Rattle.cordyceps.proofs.Spots.ValueAt.{value_here, value_there, in_value}
 use Rattle.cordyceps.specs.Spots.StableMap.{pairs}
-use Rattle.cordyceps_uses.specs.Expiring.{Entry, live, moved_back, used, IsOut, with_value, in_order, AreFrom}
+use Rattle.cordyceps_uses.specs.Keyed.{moved_back, IsOut, with_value, in_order, AreFrom}
 
 -- ---- which entry is found
 module _ {K X : Type 0} (t : K → Bool) where
@@ -62,7 +61,7 @@ module _ {K X : Type 0} (t : K → Bool) where
       (λ yes. let u = sym (ap (λ (b : Bool). cond b (Some y) (lookup_entry t s)) yes) ∙ e in let is : y ≡ x = cc in subst (λ (z : K × X). t z.0 ≡ true) is yes)
       (λ no. passes s x (sym (ap (λ (b : Bool). cond b (Some y) (lookup_entry t s)) no) ∙ e))
 
-  shorter : (s : List (K × X)) (x : K × X) → lookup_entry t s ≡ Some x → length s ≡ suc (length (remove_entry t s))
+  pub shorter : (s : List (K × X)) (x : K × X) → lookup_entry t s ≡ Some x → length s ≡ suc (length (remove_entry t s))
   shorter [] x e = absurd cc
   shorter (y ∷ s) x e = split (t y.0)
       (λ yes. sym (ap (λ (b : Bool). suc (length (cond b s (y ∷ remove_entry t s)))) yes))
@@ -77,47 +76,47 @@ module _ {K X : Type 0} (t : K → Bool) where
       (λ same. let is : n.1.value ≡ x = let u = sym (value_here n c q same) ∙ v in cc in subst (λ (z : K × X). t z.0 ≡ false) is no)
       (λ other. unlike c (sym (ap (λ (b : Bool). cond b (Some n.1.value.1) (lookup t (pairs c))) no) ∙ e) q x (sym (value_there n c q other) ∙ v)))
 
-pub moved_long : {K V : Type 0} (t : K → Bool) (s : List (Entry K V)) (x : Entry K V) → lookup_entry t s ≡ Some x → length (moved_back t s) ≡ length s
-moved_long {K} {V} t s x e =
-    let f : Option (Entry K V) → List (Entry K V) = λ o. elim o [ Some y ↦ remove_entry t s ++ y ∷ [] | None ↦ s ] in
-    ap (λ o. length (f o)) e ∙ (let a = length-append (remove_entry t s) (x ∷ []) in let b = shorter t s x e in omega (arith, a, b))
+module _ {K X : Type 0} where
+  -- what moving the entry of a key makes
+  pub moved_here : (t : K → Bool) (s : List (K × X)) (x : K × X) → lookup_entry t s ≡ Some x → moved_back t s ≡ remove_entry t s ++ x ∷ []
+  moved_here t s x e = let f : Option (K × X) → List (K × X) = λ o. elim o [ Some y ↦ remove_entry t s ++ y ∷ [] | None ↦ s ] in ap f e
 
-pub used_here : {K V : Type 0} (now : ℕ) (t : K → Bool) (s : List (Entry K V)) (x : Entry K V) → live now t s ≡ Some x → used now t s ≡ moved_back t s
-used_here {K} {V} now t s x e = let f : Option (Entry K V) → List (Entry K V) = λ o. elim o [ Some y ↦ moved_back t s | None ↦ s ] in ap f e
+  pub moved_long : (t : K → Bool) (s : List (K × X)) (x : K × X) → lookup_entry t s ≡ Some x → length (moved_back t s) ≡ length s
+  moved_long t s x e = ap length (moved_here t s x e) ∙ (let a = length-append (remove_entry t s) (x ∷ []) in let b = shorter t s x e in omega (arith, a, b))
 
--- where one went
-pub shrunk : {K V : Type 0} (eq : K → K → Bool) (s : List (Entry K V)) (x : Entry K V) (rest : List (Entry K V)) → IsOut eq s x rest → length s ≡ suc (length rest)
-shrunk eq s x rest o = shorter (eq x.0) s x o.found ∙ ap suc (sym (ap length o.left))
+  -- where one went
+  pub shrunk : (eq : K → K → Bool) (s : List (K × X)) (x : K × X) (rest : List (K × X)) → IsOut eq s x rest → length s ≡ suc (length rest)
+  shrunk eq s x rest o = shorter (eq x.0) s x o.found ∙ ap suc (sym (ap length o.left))
 
--- ---- which entry is not expired
-module _ {K V : Type 0} (now : ℕ) (t : K → Bool) (s : List (Entry K V)) (x : Entry K V) (e : lookup_entry t s ≡ Some x) where
-  live_by : (b : Bool) → nat_lt now x.1.until ≡ b → live now t s ≡ (if b then Some x else None)
-  live_by b is = ap (λ (o : Option (Entry K V)). elim o [ Some y ↦ if nat_lt now y.1.until then Some y else None | None ↦ None ]) e
-      ∙ ap (λ (z : Bool). if z then Some x else None) is
-
-  pub live_here : now < x.1.until → live now t s ≡ Some x
-  live_here l = live_by true (lt-ltb now x.1.until l)
-
-  pub live_gone : x.1.until ≤ now → live now t s ≡ None
-  live_gone l = live_by false (le-ltb now x.1.until l)
-
--- ---- the order of the times
-module _ {K V : Type 0} where
-  pub from_less : (u v : ℕ) (s : List (Entry K V)) → v ≤ u → AreFrom u s → AreFrom v s
+-- ---- the order of ranks
+module _ {K X : Type 0} (rank : X → ℕ) where
+  pub from_less : (u v : ℕ) (s : List (K × X)) → v ≤ u → AreFrom rank u s → AreFrom rank v s
   from_less u v [] le h = tt
   from_less u v (x ∷ s) le h = (let a = h.0 in omega (arith, le, a), h.1)
 
-  pub from_mid : (u : ℕ) (f b : List (Entry K V)) (x : Entry K V) → AreFrom u (f ++ x ∷ b) → (u ≤ x.1.until) × AreFrom x.1.until b
+  pub from_mid : (u : ℕ) (f b : List (K × X)) (x : K × X) → AreFrom rank u (f ++ x ∷ b) → (u ≤ rank x.1) × AreFrom rank (rank x.1) b
   from_mid u [] b x h = h
-  from_mid u (y ∷ f) b x h = let r = from_mid y.1.until f b x h.1 in (let a = h.0 in let l = r.0 in omega (arith, a, l), r.1)
+  from_mid u (y ∷ f) b x h = let r = from_mid (rank y.1) f b x h.1 in (let a = h.0 in let l = r.0 in omega (arith, a, l), r.1)
 
-  pub from_cut : (u : ℕ) (f b : List (Entry K V)) (x : Entry K V) → AreFrom u (f ++ x ∷ b) → AreFrom u (f ++ b)
-  from_cut u [] b x h = from_less x.1.until u b h.0 h.1
-  from_cut u (y ∷ f) b x h = (h.0, from_cut y.1.until f b x h.1)
+  pub from_cut : (t : K → Bool) (u : ℕ) (s : List (K × X)) → AreFrom rank u s → AreFrom rank u (remove_entry t s)
+  from_cut t u [] h = tt
+  from_cut t u (x ∷ s) h = split (t x.0)
+      (λ yes. subst (AreFrom rank u) (sym (ap (λ (b : Bool). cond b s (x ∷ remove_entry t s)) yes)) (from_less (rank x.1) u s h.0 h.1))
+      (λ no. subst (AreFrom rank u) (sym (ap (λ (b : Bool). cond b s (x ∷ remove_entry t s)) no)) (h.0, from_cut t (rank x.1) s h.1))
 
-  pub from_put : (u : ℕ) (f b : List (Entry K V)) (x y : Entry K V) → AreFrom u (f ++ x ∷ b) → x.1.until ≤ y.1.until → AreFrom y.1.until b → AreFrom u (f ++ x ∷ y ∷ b)
+  pub from_put : (u : ℕ) (f b : List (K × X)) (x y : K × X) → AreFrom rank u (f ++ x ∷ b) → rank x.1 ≤ rank y.1 → AreFrom rank (rank y.1) b → AreFrom rank u (f ++ x ∷ y ∷ b)
   from_put u [] b x y h le l = (h.0, (le, l))
-  from_put u (z ∷ f) b x y h le l = (h.0, from_put z.1.until f b x y h.1 le l)
+  from_put u (z ∷ f) b x y h le l = (h.0, from_put (rank z.1) f b x y h.1 le l)
+
+  pub all_from : (u : ℕ) (s : List (K × X)) → AreFrom rank u s → All (λ y. u ≤ rank y.1) s
+  all_from u [] h = All-nil (λ y. u ≤ rank y.1)
+  all_from u (x ∷ s) h = All-cons (λ y. u ≤ rank y.1) x s h.0 (all_from u s (from_less (rank x.1) u s h.0 h.1))
+
+  pub all_before : (u v : ℕ) (f b : List (K × X)) (x : K × X) → AreFrom rank u (f ++ x ∷ b) → rank x.1 ≤ v → All (λ y. rank y.1 ≤ v) (f ++ x ∷ [])
+  all_before u v [] b x h le = All-cons (λ y. rank y.1 ≤ v) x [] le (All-nil (λ y. rank y.1 ≤ v))
+  all_before u v (z ∷ f) b x h le =
+      let r = (from_mid (rank z.1) f b x h.1).0 in
+      All-cons (λ y. rank y.1 ≤ v) z (f ++ x ∷ []) (omega (arith, r, le)) (all_before (rank z.1) v f b x h.1 le)
 
 -- ---- the values at spots
 with_joined : {X : Type 0} (o : Option X) (a b : List X) → with_value o (a ++ b) ≡ with_value o a ++ b

@@ -1,7 +1,10 @@
 pub mod Connections
 pub mod Expiring
 pub mod ExpiringLends
+pub mod Keyed
 pub mod Ranks
 pub mod Recency
+pub mod RecencyLends
+pub mod TaskTable
 pub mod Tasks
 pub mod TimerWheel

@@ -1,38 +1,33 @@
--- A cache by recency: keys and values, the most recently used first.
-use Rattle.std.specs.Prelude.{ℕ, List, [], ◌∷◌, Option, Some, None, map, take, slice_get, ◌-◌, ◌==◌, if◌then◌else◌}
-use Rattle.cordyceps.specs.Elements.Nodes.{Nodes}
-use Rattle.cordyceps_uses.specs.declared.recency.Entry.{Entry}
+-- A cache by recency: keys and values, what was used longest ago first.
+use Rattle.std.specs.Prelude.{◌<◌, ◌≤◌, ℕ, Bool, List, [], ◌∷◌, ◌++◌, length, Option, Some, None, drop, slice_get, nat_lt, if◌then◌else◌}
+use Rattle.std.specs.Map.{lookup_entry, remove_entry}
+use Rattle.cordyceps.specs.Spots.MultiList.{Multi}
+use Rattle.cordyceps_uses.specs.Keyed.{order}
 
 -- what a contract sees of a cache
-pub record Held (V : Type 0) : Type 0 where
-  pub entries : List (ℕ × V)
+pub record Held (K V : Type 0) : Type 0 where
+  pub entries : List (K × V)
   pub capacity : ℕ
 
-module _ {V : Type 0} where
-  -- the keys and values of nodes
-  abbrev pub pairs : Nodes (Entry V) → List (ℕ × V)
-  pairs c = map (λ n. (n.1.id, n.1.value.value)) c
+module _ {K V : Type 0} where
+  -- the entry that goes when one comes whose key passes the test: the old entry of the key, or the first one of a full
+  -- cache
+  abbrev pub displaced : ℕ → (K → Bool) → List (K × V) → Option (K × V)
+  displaced capacity test s =
+      elim (lookup_entry test s) [ Some x ↦ Some x | None ↦ if nat_lt (length s) capacity then None else slice_get s 0 ]
 
-  abbrev pub held : Nodes (Entry V) → ℕ → Held V
-  held c capacity = record { entries = pairs c; capacity = capacity }
+  -- the entries without that one
+  abbrev pub remaining : ℕ → (K → Bool) → List (K × V) → List (K × V)
+  remaining capacity test s =
+      elim (lookup_entry test s) [
+        | Some x ↦ remove_entry test s
+        | None ↦ if nat_lt (length s) capacity then s else drop 1 s
+      ]
 
-  -- the first entry with a key
-  abbrev pub find : ℕ → List (ℕ × V) → Option (ℕ × V)
-  find k [] = None
-  find k (x ∷ s) = if x.0 == k then Some x else find k s
+  -- the entries after x came, whose key alone passes the test
+  abbrev pub stored : ℕ → (K → Bool) → K × V → List (K × V) → List (K × V)
+  stored capacity test x s = remaining capacity test s ++ x ∷ []
 
-  -- the entries without that of a key
-  abbrev pub others : ℕ → List (ℕ × V) → List (ℕ × V)
-  others k [] = []
-  others k (x ∷ s) = if x.0 == k then s else x ∷ others k s
-
-  -- the entries after a key was used
-  abbrev pub used : ℕ → List (ℕ × V) → List (ℕ × V)
-  used k s = elim (find k s) [ Some x ↦ x ∷ others k s | None ↦ s ]
-
-  -- the entries after a key was given a value, and the entry that went for it
-  abbrev pub stored : ℕ → ℕ → V → List (ℕ × V) → List (ℕ × V)
-  stored capacity k v s = take capacity ((k, v) ∷ others k s)
-
-  abbrev pub displaced : ℕ → ℕ → List (ℕ × V) → Option (ℕ × V)
-  displaced capacity k s = elim (find k s) [ Some x ↦ Some x | None ↦ slice_get s (capacity - 1) ]
+  pub record IsHeld (m : Multi (K × V)) (capacity : ℕ) : Type 0 where
+    pub some : 0 < capacity
+    pub fits : length (order 0 m) ≤ capacity

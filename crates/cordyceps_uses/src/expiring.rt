@@ -2,19 +2,22 @@
 //!
 //! It keeps what is valid for a time, such as addresses of names, sessions or tokens. Each entry is one node, which a
 //! table finds by its key, and which is at the same time in the order of use and in the order of the times.
+//!
+//! A table of connections is such a cache: the key is a connection's number, the order of use tells which is idle
+//! longest, and the time is its deadline, which `renew` puts off.
 ghost use Rattle.std.specs.Prelude.{◌≡◌, ◌<◌, ◌≤◌, ◌⊎◌, [], ◌∷◌, ◌++◌, length, true, false, None, Some};
-ghost use Rattle.std.specs.Prelude.{MatchOption, IfSome, IfOk, IfErr, OnErr, option_map, option_copied};
+ghost use Rattle.std.specs.Prelude.{MatchOption, IfSome, IfOk, IfErr, OnErr, option_map, option_copied, is_some};
 ghost use Rattle.std.specs.Borrow.{sem};
 ghost use Rattle.std.specs.List.{All};
 ghost use Rattle.std.specs.Map.{lookup_entry, remove_entry};
 ghost use Rattle.cordyceps.specs.Spots.BySpot.{HasSpot};
 ghost use Rattle.cordyceps.specs.Spots.Entries.{value_at};
-ghost use Rattle.cordyceps.specs.Spots.MultiList.{list_at};
-ghost use Rattle.cordyceps.specs.Spots.Threads.{is_in};
-ghost use Rattle.cordyceps_uses.specs.Expiring.{IsLive, live, moved_back, by_use, by_time, AreFrom, AreTimed};
-ghost use Rattle.cordyceps_uses.specs.Expiring.{IsAt, HasAt, IsOut, IsFirstExpired, IsLongestUnused, HasRoom, IsStored};
-ghost use Rattle.cordyceps_uses.specs.Expiring.{IsPassed, IsLinkedIn, HasCome};
+ghost use Rattle.cordyceps_uses.specs.Expiring.{IsLive, live, renewed, with_until, by_use, AreTimed};
+ghost use Rattle.cordyceps_uses.specs.Expiring.{IsFirstExpired, IsLongestUnused, HasRoom, IsStored};
+ghost use Rattle.cordyceps_uses.specs.Keyed.{HasAt, IsAt, IsOut, moved_back};
 
+use crate::keyed::{count, lists_agree, move_back, put, spot_of, take_out, value_of};
+use crate::ranked::{Ranked, link_by_rank};
 use cordyceps::Refused;
 use cordyceps::stable_map::{MapNode, Spot, StableMap, Two};
 use std::alloc::{AllocError, Global};
@@ -28,6 +31,14 @@ pub struct Timed<V> {
     pub value: V,
     /// The time from which on the value is expired.
     pub until: u64,
+}
+
+impl<V> Ranked for Timed<V> {
+    ghost rank = { λ t. t.until };
+
+    fn rank(&self) -> u64 {
+        self.until
+    }
 }
 
 /// A cache of values by their keys, up to a capacity, each up to its time. A contract sees its entries, that which was
@@ -105,7 +116,7 @@ impl<K: Eq + Hash, V, S: BuildHasher> ExpiringCache<K, V, S> {
         ensures { option_copied result ≡ option_map (λ x. x.1.value) (live now (K.eq key.now) self.now.entries) }
     {
         let at = live_spot(&self.map, now, key)?;
-        Some(&timed_at(&self.map, at).value)
+        Some(&value_of(&self.map, at).value)
     }
 
     /// Returns a reference to the value of a key, whose entry becomes the last used one, or `None` if the key has no
@@ -119,8 +130,27 @@ impl<K: Eq + Hash, V, S: BuildHasher> ExpiringCache<K, V, S> {
         ensures value { option_copied result ≡ option_map (λ x. x.1.value) (live now (K.eq key.now) self.old.entries) }
     {
         let spot = live_spot(&self.map, now, key)?;
-        renew(&mut self.map, key, spot);
-        Some(&timed_at(&self.map, spot).value)
+        use_at(&mut self.map, key, spot);
+        Some(&value_of(&self.map, spot).value)
+    }
+
+    /// Gives the entry of a key a new time, makes it the last used one, and returns `true`. If the key has no entry or
+    /// that is expired, it returns `false`, and nothing changes.
+    ///
+    /// # Complexity
+    /// As `insert`, without an allocation.
+    pub fn renew(&mut self, key: &K, now: u64, until: u64) -> bool
+        ensures answer { result ≡ is_some (live now (K.eq key.now) self.old.entries) }
+        ensures entries { self.new.entries ≡ renewed now until (K.eq key.now) self.old.entries }
+        ensures capacity { self.new.capacity ≡ self.old.capacity }
+    {
+        match live_spot(&self.map, now, key) {
+            Some(at) => {
+                set_until(&mut self.map, key, at, until);
+                true
+            }
+            None => false,
+        }
     }
 }
 
@@ -191,36 +221,6 @@ impl<K: Eq + Hash + Drop, V: Drop, S: BuildHasher> ExpiringCache<K, V, S> {
     }
 }
 
-/// Returns the number of nodes.
-fn count<K: Eq + Hash, V, S: BuildHasher>(map: &Nodes<K, V, S>) -> usize
-    ensures { result ≡ length (by_use map.now) }
-{
-    // for the proof: no list has a spot twice, and no two nodes have equal keys
-    map.lists_agree();
-    map.len()
-}
-
-/// Returns the value and the time at `at`.
-fn timed_at<K: Eq + Hash, V, S: BuildHasher>(map: &Nodes<K, V, S>, at: Spot) -> &Timed<V>
-    requires { HasSpot map.now.nodes at }
-    ensures { HasAt map.now (λ x. x.1 ≡ result.now) at }
-{
-    // for the proof: no list has a spot twice, and no two nodes have equal keys
-    map.lists_agree();
-    map.value_at(at)
-}
-
-/// Returns the spot of the entry of a key, or `None` if the key has none.
-fn spot_of<K: Eq + Hash, V, S: BuildHasher>(map: &Nodes<K, V, S>, key: &K) -> Option<Spot>
-    ensures found { MatchOption result (lookup_entry (K.eq key.now) (by_use map.now) ≡ None)
-        (λ p. IsAt K.eq map.now key.now p) }
-    ensures there { IfSome result (λ p. HasSpot map.now.nodes p) }
-{
-    // for the proof: no list has a spot twice, and no two nodes have equal keys
-    map.lists_agree();
-    map.find(key)
-}
-
 /// Returns the spot of the entry of a key, or `None` if the key has none or that is expired.
 fn live_spot<K: Eq + Hash, V, S: BuildHasher>(
     map: &Nodes<K, V, S>,
@@ -228,13 +228,13 @@ fn live_spot<K: Eq + Hash, V, S: BuildHasher>(
     key: &K,
 ) -> Option<Spot>
     ensures found { MatchOption result (live now (K.eq key.now) (by_use map.now) ≡ None)
-        (λ p. IsAt K.eq map.now key.now p) }
+        (λ p. IsAt K.eq 0 map.now key.now p) }
     ensures live { IfSome result
         (λ p. HasAt map.now (λ x. live now (K.eq key.now) (by_use map.now) ≡ Some x) p) }
     ensures there { IfSome result (λ p. HasSpot map.now.nodes p) }
 {
     let at = spot_of(map, key)?;
-    if now < timed_at(map, at).until {
+    if now < value_of(map, at).until {
         Some(at)
     } else {
         None
@@ -242,18 +242,41 @@ fn live_spot<K: Eq + Hash, V, S: BuildHasher>(
 }
 
 /// Makes the entry of a key, which is at `at`, the last used one.
-fn renew<K: Eq + Hash, V, S: BuildHasher>(map: &mut Nodes<K, V, S>, key: &K, at: Spot)
+fn use_at<K: Eq + Hash, V, S: BuildHasher>(map: &mut Nodes<K, V, S>, key: &K, at: Spot)
     requires timed { AreTimed map.old }
-    requires at { IsAt K.eq map.old key.now at }
+    requires at { IsAt K.eq 0 map.old key.now at }
     requires there { HasSpot map.old.nodes at }
     ensures timed { AreTimed map.new }
     ensures nodes { map.new.nodes ≡ map.old.nodes }
     ensures there { HasSpot map.new.nodes at }
     ensures moved { by_use map.new ≡ moved_back (K.eq key.now) (by_use map.old) }
 {
-    // for the proof: no list has a spot twice, and no two nodes have equal keys
-    map.lists_agree();
-    map.move_to_back(0, at);
+    lists_agree(map);
+    move_back(map, key, at);
+}
+
+/// Gives the entry of a key, which is at `at`, a new time, and makes it the last used one.
+fn set_until<K: Eq + Hash, V, S: BuildHasher>(
+    map: &mut Nodes<K, V, S>,
+    key: &K,
+    at: Spot,
+    until: u64,
+)
+    requires timed { AreTimed map.old }
+    requires at { IsAt K.eq 0 map.old key.now at }
+    requires there { HasSpot map.old.nodes at }
+    ensures timed { AreTimed map.new }
+    ensures renewed { HasAt map.old (λ x. by_use map.new ≡ remove_entry (K.eq key.now) (by_use map.old)
+        ++ with_until until x ∷ []) at }
+{
+    lists_agree(map);
+    // for the proof: list 1 is as long as list 0, whose length fits
+    let _len = map.len();
+    map.unlink(1, at);
+    map.value_at_mut(at).until = until;
+    lists_agree(map);
+    move_back(map, key, at);
+    link_by_rank(map, 1, at);
 }
 
 /// Takes the node at `at` out, and returns its entry.
@@ -267,9 +290,8 @@ fn taken<K: Eq + Hash + Drop, V: Drop, S: BuildHasher>(
     ensures out { IsOut K.eq (by_use map.old) result (by_use map.new) }
     ensures timed { AreTimed map.new }
 {
-    // for the proof: no list has a spot twice, and no two nodes have equal keys
-    map.lists_agree();
-    map.remove_at(at).into_pair()
+    lists_agree(map);
+    take_out(map, at).into_pair()
 }
 
 /// Returns the spot of the entry that expires first, if it is expired, or `None` if no entry is expired.
@@ -279,10 +301,9 @@ fn first_expired<K: Eq + Hash, V, S: BuildHasher>(map: &Nodes<K, V, S>, now: u64
         (λ p. HasAt map.now (IsFirstExpired now (by_use map.now)) p) }
     ensures there { IfSome result (λ p. HasSpot map.now.nodes p) }
 {
-    // for the proof: no list has a spot twice, and no two nodes have equal keys
-    map.lists_agree();
+    lists_agree(map);
     let at = map.first(1)?;
-    if timed_at(map, at).until <= now {
+    if value_of(map, at).until <= now {
         Some(at)
     } else {
         None
@@ -297,8 +318,7 @@ fn victim<K: Eq + Hash, V, S: BuildHasher>(map: &Nodes<K, V, S>, now: u64) -> Op
         ⊎ IsLongestUnused now (by_use map.now) x) p) }
     ensures there { IfSome result (λ p. HasSpot map.now.nodes p) }
 {
-    // for the proof: no list has a spot twice, and no two nodes have equal keys
-    map.lists_agree();
+    lists_agree(map);
     match first_expired(map, now) {
         Some(at) => Some(at),
         None => map.first(0),
@@ -331,25 +351,6 @@ fn make_room<K: Eq + Hash + Drop, V: Drop, S: BuildHasher>(
     }
 }
 
-/// Puts a node in, whose key no other has, and returns its spot.
-fn put<K: Eq + Hash + Drop, V: Drop, S: BuildHasher>(
-    map: &mut Nodes<K, V, S>,
-    node: MapNode<K, Timed<V>, Two>,
-) -> Spot
-    requires absent { lookup_entry (K.eq node.value.0) (by_use map.old) ≡ None }
-    requires fits { length (by_use map.old) < usize.MAX }
-    requires timed { AreTimed map.old }
-    ensures come { HasCome map.old node.value result map.new }
-    ensures there { HasSpot map.new.nodes result }
-{
-    // for the proof: no list has a spot twice, and no two nodes have equal keys
-    map.lists_agree();
-    let put = map.insert(node);
-    // for the proof: no list has a spot twice, and no two nodes have equal keys
-    map.lists_agree();
-    put.spot
-}
-
 /// Puts a node in, whose key no other has, also in the order of the times.
 fn put_by_time<K: Eq + Hash + Drop, V: Drop, S: BuildHasher>(
     map: &mut Nodes<K, V, S>,
@@ -362,42 +363,7 @@ fn put_by_time<K: Eq + Hash + Drop, V: Drop, S: BuildHasher>(
     ensures found { lookup_entry (K.eq node.value.0) (by_use map.new) ≡ Some node.value }
     ensures timed { AreTimed map.new }
 {
+    lists_agree(map);
     let at = put(map, node);
-    link_by_time(map, at);
-}
-
-/// Links the node at `at` into list 1, after those that expire no later.
-fn link_by_time<K: Eq + Hash, V, S: BuildHasher>(map: &mut Nodes<K, V, S>, at: Spot)
-    requires there { HasSpot map.old.nodes at }
-    requires not_in { is_in at (list_at 1 map.old.lists) ≡ false }
-    requires fits { length (list_at 1 map.old.lists) < usize.MAX }
-    requires sorted { AreFrom 0 (by_time map.old) }
-    ensures { IsLinkedIn map.old at map.new }
-{
-    // for the proof: no list has a spot twice, and no two nodes have equal keys
-    map.lists_agree();
-    match place_by_time(map, timed_at(map, at).until) {
-        Some(before) => map.link_after(1, at, before),
-        None => map.link_front(1, at),
-    }
-}
-
-/// Returns the spot of the last node of list 1 that expires at `until` or before, or `None` if all expire later.
-fn place_by_time<K: Eq + Hash, V, S: BuildHasher>(map: &Nodes<K, V, S>, until: u64) -> Option<Spot>
-    requires { AreFrom 0 (by_time map.now) }
-    ensures place { MatchOption result (AreFrom until (by_time map.now))
-        (λ p. IsPassed map.now.nodes (list_at 1 map.now.lists) until p) }
-    ensures early { IfSome result (λ p. HasAt map.now (λ x. x.1.until ≤ until) p) }
-    ensures in_list { IfSome result (λ p. is_in p (list_at 1 map.now.lists) ≡ true) }
-{
-    // for the proof: no list has a spot twice, and no two nodes have equal keys
-    map.lists_agree();
-    let mut at = map.last(1);
-    while let Some(spot) = at {
-        if timed_at(map, spot).until <= until {
-            return Some(spot);
-        }
-        at = map.prev(1, spot);
-    }
-    None
+    link_by_rank(map, 1, at);
 }

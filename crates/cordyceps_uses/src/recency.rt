@@ -1,215 +1,204 @@
-//! A cache of bounded size that evicts the entry that was used least recently.
+//! A cache of bounded size that evicts the entry that was used longest ago.
 //!
-//! It keeps what is expensive to compute or to read again, such as rows of a table or the results of lookups. A map
-//! finds the spot of a key's node, so no call walks through the entries.
-ghost use Rattle.std.specs.Prelude.{ℕ, ◌≡◌, ◌-◌, ◌<◌, ◌≤◌, [], length, take, slice_get, nat_eq, option_map, is_some, None, IsSome, IsOk, IfOk, IfErr, OnOk, OnErr};
-ghost use Rattle.std.specs.HashMap.{get, spare};
-ghost use Rattle.cordyceps.specs.Spots.Agreeing.{Agrees};
-ghost use Rattle.cordyceps_uses.specs.Recency.{pairs, used, find, others, stored, displaced};
+//! It keeps what is expensive to compute or to read again, such as rows of a table or the results of lookups. Each
+//! entry is one node, which a table finds by its key, and which is at the same time in the order of use.
+ghost use Rattle.std.specs.Prelude.{◌≡◌, ◌<◌, ◌≤◌, [], length, is_some, None};
+ghost use Rattle.std.specs.Prelude.{IfOk, IfErr, OnOk, OnErr, option_map, option_copied};
+ghost use Rattle.std.specs.Borrow.{sem};
+ghost use Rattle.std.specs.Map.{lookup_entry, remove_entry};
+ghost use Rattle.cordyceps_uses.specs.Keyed.{order, moved_back};
+ghost use Rattle.cordyceps_uses.specs.Recency.{remaining, stored, displaced};
 
-use cordyceps::list::Links;
-use cordyceps::{Linked, Node, Refused, Spot, StableList};
-use std::alloc::Global;
-use std::collections::HashMap;
+use crate::keyed::{count, move_back, put, spot_of, take_out, value_of};
+use cordyceps::Refused;
+use cordyceps::stable_map::{MapNode, One, StableMap};
+use std::alloc::{AllocError, Global};
+use std::hash::{BuildHasher, Hash};
 use std::marker::Model;
-use std::mem;
 
-/// The value that a cache keeps for a key. The key is the number of the entry's node.
-#[derive(Drop)]
-pub struct Entry<V> {
-    /// The value of the key.
-    pub value: V,
-}
-
-impl<V: Drop> Linked<Links<Entry<V>>> for Entry<V> {
-    type Handle = Node<Entry<V>, Links<Entry<V>>>;
-
-    ghost element = { λ h. h };
-
-    fn into_ptr(handle: Node<Entry<V>, Links<Entry<V>>>) -> Node<Entry<V>, Links<Entry<V>>> {
-        handle
-    }
-
-    fn from_ptr(node: Node<Entry<V>, Links<Entry<V>>>) -> Node<Entry<V>, Links<Entry<V>>>
-        ensures { result ≡ node }
-    {
-        node
-    }
-}
-
-/// A cache of values by their keys, up to a capacity. A contract sees its entries, the most recently used first, and
-/// its capacity.
+/// A cache of values by their keys, up to a capacity. A contract sees its entries, that which was used longest ago
+/// first, and its capacity.
 ///
 /// # Complexity
-/// A call that takes a key finds it in a hash map. This is O(1) expected, and O(n) at worst, for n entries. Dropping
-/// the cache frees the map and the node of each entry: O(n).
+/// A call that takes a key is O(1) if the hashes of the keys are spread, and O(n) at the worst, for n entries. Dropping
+/// the cache frees the table and the node of each entry: O(n).
 #[derive(Drop)]
-pub struct Cache<V> {
-    spots: HashMap<u64, Spot>,
-    list: StableList<Entry<V>>,
+pub struct Cache<K: Eq + Hash, V, S: BuildHasher> {
+    // Of list 0 the first was used longest ago.
+    map: StableMap<K, V, One, S>,
     capacity: usize,
 }
 
-impl<V> Model for Cache<V> {
-    ghost use Rattle.std.specs.Prelude.{◌≤◌, ◌<◌, length, nat_eq};
-    ghost use Rattle.std.specs.HashMap.{get};
-    ghost use Rattle.cordyceps.specs.Spots.Agreeing.{Agrees};
-    ghost use Rattle.cordyceps_uses.specs.Recency.{Held, held};
+impl<K: Eq + Hash, V, S: BuildHasher> Model for Cache<K, V, S> {
+    ghost use Rattle.cordyceps_uses.specs.Keyed.{order};
+    ghost use Rattle.cordyceps_uses.specs.Recency.{Held, IsHeld};
 
-    ghost Value = { Held V };
+    ghost Value = { Held K V };
 
-    ghost view = { λ c. held c.list c.capacity };
+    ghost view = { λ c. record { entries = order 0 c.map; capacity = c.capacity } };
 
-    ghost invariant = { λ c. Agrees (get nat_eq c.spots) c.list × (length c.list ≤ c.capacity) × (0 < c.capacity) };
+    ghost invariant = { λ c. IsHeld c.map c.capacity };
 }
 
-impl<V: Drop> Cache<V> {
-    /// Creates an empty cache for at most `capacity` entries. Requires a capacity of at least 1. Allocates nothing.
+impl<K: Eq + Hash + Drop, V: Drop, S: BuildHasher + Drop> Cache<K, V, S> {
+    /// Creates an empty cache for at most `capacity` entries, with a table for as many, and hashes keys by `hasher`.
+    /// Requires a capacity of at least 1.
+    ///
+    /// # Errors
+    /// If memory for the table is refused, it returns `AllocError`.
     ///
     /// # Complexity
-    /// O(1).
-    pub fn new(alloc: Global, capacity: usize) -> Cache<V>
+    /// O(c), for a capacity of c, with one allocation.
+    pub fn new(alloc: Global, capacity: usize, hasher: S) -> Result<Cache<K, V, S>, AllocError>
         requires { 0 < capacity }
-        ensures entries { result.entries ≡ [] }
-        ensures capacity { result.capacity ≡ capacity }
+        ensures entries { IfOk result (λ c. c.entries ≡ []) }
+        ensures capacity { IfOk result (λ c. c.capacity ≡ capacity) }
     {
-        Cache {
-            spots: HashMap::new(alloc),
-            list: StableList::new(),
-            capacity,
-        }
+        let map = StableMap::with_capacity(alloc, capacity, hasher)?;
+        Ok(Cache { map, capacity })
     }
+}
+
+impl<K: Eq + Hash, V, S: BuildHasher> Cache<K, V, S> {
+    ghost use Rattle.cordyceps_uses.specs.RecencyLends.{ends_used};
 
     /// Returns the number of entries.
     ///
     /// # Complexity
     /// O(1).
     pub fn len(&self) -> usize
-        ensures { result ≡ length self.now.entries }
+        ensures length { result ≡ length self.now.entries }
+        ensures fits { result ≤ self.now.capacity }
     {
-        self.list.len()
+        count(&self.map)
     }
 
-    /// Makes the entry of a key the most recently used one and returns `true`, or returns `false` if the key has no
+    /// Returns `true` if the key has an entry. The order of use stays.
+    ///
+    /// # Complexity
+    /// O(1) if the hashes of the keys are spread.
+    pub fn contains(&self, key: &K) -> bool
+        ensures { result ≡ is_some (lookup_entry (K.eq key.now) self.now.entries) }
+    {
+        spot_of(&self.map, key).is_some()
+    }
+
+    /// Returns a reference to the value of a key, or `None` if the key has no entry. The order of use stays.
+    ///
+    /// # Complexity
+    /// O(1) if the hashes of the keys are spread.
+    pub fn peek(&self, key: &K) -> Option<&V>
+        ensures { option_copied result ≡ option_map (λ x. x.1) (lookup_entry (K.eq key.now) self.now.entries) }
+    {
+        let at = spot_of(&self.map, key)?;
+        Some(value_of(&self.map, at))
+    }
+
+    /// Returns a reference to the value of a key, whose entry becomes the last used one, or `None` if the key has no
     /// entry.
     ///
     /// # Complexity
-    /// O(1) expected.
-    pub fn touch(&mut self, key: u64) -> bool
-        ensures entries { self.new.entries ≡ used key self.old.entries }
-        ensures capacity { self.new.capacity ≡ self.old.capacity }
-        ensures answer { result ≡ is_some (find key self.old.entries) }
+    /// O(1) if the hashes of the keys are spread.
+    pub fn get(&mut self, key: &K) -> Option<&V>
+        ensures* uses { sem 𝓛 (ends_used K.row V.row S.row S.Hasher.row K.Hash S.BuildHasher S.Hasher.Hasher
+            self.entry (K.eq key.now)) }
+        ensures value { option_copied result ≡ option_map (λ x. x.1) (lookup_entry (K.eq key.now) self.old.entries) }
     {
-        match self.spots.get(&key) {
-            Some(&spot) => {
-                self.list.move_to_front(spot);
+        let spot = spot_of(&self.map, key)?;
+        move_back(&mut self.map, key, spot);
+        Some(value_of(&self.map, spot))
+    }
+
+    /// Makes the entry of a key the last used one and returns `true`, or returns `false` if the key has no entry.
+    ///
+    /// # Complexity
+    /// O(1) if the hashes of the keys are spread.
+    pub fn touch(&mut self, key: &K) -> bool
+        ensures entries { self.new.entries ≡ moved_back (K.eq key.now) self.old.entries }
+        ensures capacity { self.new.capacity ≡ self.old.capacity }
+        ensures answer { result ≡ is_some (lookup_entry (K.eq key.now) self.old.entries) }
+    {
+        match spot_of(&self.map, key) {
+            Some(at) => {
+                move_back(&mut self.map, key, at);
                 true
             }
             None => false,
         }
     }
+}
 
-    /// Returns the value of a key, whose entry becomes the most recently used one, or returns `None` if the key has no
-    /// entry.
+impl<K: Eq + Hash + Drop, V: Drop, S: BuildHasher> Cache<K, V, S> {
+    /// Inserts a value for a key, whose entry becomes the last used one. Returns the entry that goes for it: the old
+    /// entry of the key, or, if a new key comes to a full cache, the entry that was used longest ago.
     ///
-    /// # Complexity
-    /// O(1) expected.
-    pub fn get(&mut self, key: u64) -> Option<V>
-    where
-        V: Copy,
-        ensures entries { self.new.entries ≡ used key self.old.entries }
-        ensures capacity { self.new.capacity ≡ self.old.capacity }
-        ensures value { result ≡ option_map (λ x. x.1) (find key self.old.entries) }
-    {
-        let spot = *self.spots.get(&key)?;
-        let value = self.list.get(spot).value;
-        self.list.move_to_front(spot);
-        Some(value)
-    }
-
-    /// Inserts a value for a key, whose entry becomes the most recently used one. Returns the entry that it displaces:
-    /// the old entry of the key, or, if a new key comes to a full cache, the entry that was used least recently.
-    ///
-    /// A key that has an entry keeps its node. For a new key it allocates one node, and more memory if the map has to
-    /// grow.
+    /// It allocates one node.
     ///
     /// # Errors
-    /// If memory is refused, the value is returned, and the cache is unchanged. For a key that has an entry this never
-    /// happens.
+    /// If memory is refused, the key and the value are returned, and the cache is unchanged.
     ///
     /// # Complexity
-    /// O(1) expected, amortized over the growth of the map.
+    /// O(1) if the hashes of the keys are spread.
     pub fn insert(
         &mut self,
         alloc: Global,
-        key: u64,
+        key: K,
         value: V,
-    ) -> Result<Option<(u64, V)>, Refused<V>>
-        ensures entries { OnOk result (self.new.entries ≡ stored self.old.capacity key value self.old.entries) }
-        ensures displaced { IfOk result (λ out. out ≡ displaced self.old.capacity key self.old.entries) }
-        ensures returned { IfErr result (λ e. e.value ≡ value) }
+    ) -> Result<Option<(K, V)>, Refused<(K, V)>>
+        ensures entries { OnOk result
+            (self.new.entries ≡ stored self.old.capacity (K.eq key) (key, value) self.old.entries) }
+        ensures displaced { IfOk result (λ out. out ≡ displaced self.old.capacity (K.eq key) self.old.entries) }
+        ensures returned { IfErr result (λ e. e.value ≡ (key, value)) }
         ensures kept { OnErr result (self.new ≡ self.old) }
-        ensures succeeds { IsSome (find key self.old.entries) → IsOk result }
         ensures capacity { self.new.capacity ≡ self.old.capacity }
     {
-        if let Some(&spot) = self.spots.get(&key) {
-            self.list.move_to_front(spot);
-            let old = mem::replace(&mut self.list.get_mut(spot).value, value);
-            return Ok(Some((key, old)));
-        }
-        if self.spots.reserve(1).is_err() {
-            return Err(Refused { value });
-        }
-        let node = match Node::new(alloc, key, Entry { value }) {
-            Ok(node) => node,
-            Err(refused) => {
-                return Err(Refused {
-                    value: refused.value.value,
-                });
+        match MapNode::new(alloc, 0, key, value) {
+            Ok(node) => {
+                let out = make_room(&mut self.map, self.capacity, node.key());
+                put(&mut self.map, node);
+                Ok(out)
             }
-        };
-        let out = make_room(&mut self.spots, &mut self.list, self.capacity);
-        let spot = self.list.push_front(node);
-        let put: Result<_, _> = self.spots.insert(key, spot);
-        put.unwrap();
-        Ok(out)
+            Err(refused) => Err(refused),
+        }
     }
 
-    /// Removes the entry of a key and returns its value, or returns `None` if the key has no entry.
+    /// Removes the entry of a key and returns it, or returns `None` if the key has no entry.
     ///
     /// # Complexity
-    /// O(1) expected.
-    pub fn remove(&mut self, key: u64) -> Option<V>
-        ensures entries { self.new.entries ≡ others key self.old.entries }
+    /// O(1) if the hashes of the keys are spread.
+    pub fn remove(&mut self, key: &K) -> Option<(K, V)>
+        ensures entries { self.new.entries ≡ remove_entry (K.eq key.now) self.old.entries }
         ensures capacity { self.new.capacity ≡ self.old.capacity }
-        ensures value { result ≡ option_map (λ x. x.1) (find key self.old.entries) }
+        ensures answer { result ≡ lookup_entry (K.eq key.now) self.old.entries }
+        ensures gone { lookup_entry (K.eq key.now) self.new.entries ≡ None }
     {
-        let spot = self.spots.remove(&key)?;
-        Some(self.list.remove(spot).into_value().value)
+        let at = spot_of(&self.map, key)?;
+        Some(take_out(&mut self.map, at).into_pair())
     }
 }
 
-/// Removes the last entry of a full cache and returns it, or returns `None` if the cache is not full.
-fn make_room<V: Drop>(
-    spots: &mut HashMap<u64, Spot>,
-    list: &mut StableList<Entry<V>>,
+/// Removes the entry of a key, or, if the key has none and the cache is full, the entry that was used longest ago.
+/// Returns what it removes.
+fn make_room<K: Eq + Hash + Drop, V: Drop, S: BuildHasher>(
+    map: &mut StableMap<K, V, One, S>,
     capacity: usize,
-) -> Option<(u64, V)>
-    requires agree { Agrees (get nat_eq spots.old) list.old }
-    requires fits { length list.old ≤ capacity }
+    key: &K,
+) -> Option<(K, V)>
     requires some { 0 < capacity }
-    ensures agree { Agrees (get nat_eq spots.new) list.new }
-    ensures room { length list.new < capacity }
-    ensures left { pairs list.new ≡ take (capacity - 1) (pairs list.old) }
-    ensures out { result ≡ slice_get (pairs list.old) (capacity - 1) }
-    ensures absent { (k : ℕ) → get nat_eq spots.old k ≡ None → get nat_eq spots.new k ≡ None }
-    ensures spare { spare spots.old ≤ spare spots.new }
+    requires fits { length (order 0 map.old) ≤ capacity }
+    ensures left { order 0 map.new ≡ remaining capacity (K.eq key.now) (order 0 map.old) }
+    ensures out { result ≡ displaced capacity (K.eq key.now) (order 0 map.old) }
+    ensures absent { lookup_entry (K.eq key.now) (order 0 map.new) ≡ None }
+    ensures room { length (order 0 map.new) < capacity }
 {
-    if list.len() < capacity {
-        return None;
+    match spot_of(map, key) {
+        Some(at) => Some(take_out(map, at).into_pair()),
+        None => {
+            if count(map) < capacity {
+                return None;
+            }
+            let at = map.first(0)?;
+            Some(take_out(map, at).into_pair())
+        }
     }
-    let node = list.pop_back()?;
-    let key = node.id();
-    spots.remove(&key);
-    Some((key, node.into_value().value))
 }

@@ -15,6 +15,7 @@ use cordyceps::mpsc_queue::Batch;
 use cordyceps::multi_list::{MultiList, MultiNode, Spot, Two};
 use cordyceps::sorted_list::Least;
 use cordyceps::stable_map::{MapNode, StableMap};
+use cordyceps::stack::Inbox;
 use cordyceps::{
     List, MpscQueue, Node, Refused, SortedList, StableList, Stack, TransferStack, list, mpsc_queue,
     stack,
@@ -187,6 +188,39 @@ pub fn hand_over<R: Wait>(
     // When the other thread has ended, the taker absorbs its party, and has its rooms and its history.
     shared.absorb(&mut taker, pusher);
     Ok(shared.take_all(&mut taker))
+}
+
+/// Pushes two jobs to a stack that threads share, and receives the one that was pushed first.
+///
+/// # Errors
+/// If memory is refused, it returns `AllocError`, and the jobs are dropped.
+///
+/// # Complexity
+/// O(1), with a fixed number of allocations, besides the tries of `TransferStack::push`.
+///
+/// # Waits
+/// As `hand_over`.
+pub fn receive<R: Wait>(
+    rt: &R,
+    alloc: Global,
+    first: StackJob,
+    second: StackJob,
+) -> Result<Option<StackJob>, AllocError>
+    ensures { IfOk result (λ came. came ≡ Some first) }
+{
+    let (shared, mut taker) = TransferStack::<Job>::new(alloc, 8)?;
+    let mut pusher = shared.split(&mut taker, 4);
+    shared.push(rt, &mut pusher, first);
+    shared.push(rt, &mut pusher, second);
+    shared.absorb(&mut taker, pusher);
+    // The inbox takes both jobs at once, and hands out the one that was pushed first.
+    let mut inbox = Inbox::new(&shared, taker);
+    let came = inbox.pop();
+    // What it took and did not hand out is returned with its party.
+    let (left, party) = inbox.finish();
+    drop(left);
+    drop(shared.close(party));
+    Ok(came)
 }
 
 /// Sends two jobs through a queue, and returns those that have arrived, the oldest first. The result is never `None`,

@@ -22,6 +22,8 @@ enum Call {
     Get(u64, u64, Option<u64>),
     /// Returns the value of a key at a time.
     Peek(u64, u64, Option<u64>),
+    /// Gives a key at a time another time until which it is valid, and returns whether that was done.
+    Renew(u64, u64, u64, bool),
     /// Removes a key, and returns its entry.
     Remove(u64, Option<Entry>),
     /// Removes at a time the entry that expires first.
@@ -55,6 +57,7 @@ fn returns(rt: &impl Abort, alloc: Global, cache: &mut Cache<u64>, call: Call) {
         }
         Call::Get(key, now, value) => same(rt, cache.get(now, &key).copied(), value),
         Call::Peek(key, now, value) => same(rt, cache.peek(now, &key).copied(), value),
+        Call::Renew(key, now, until, done) => same(rt, cache.renew(&key, now, until), done),
         Call::Remove(key, entry) => same(rt, plain(cache.remove(&key)), entry),
         Call::Expire(now, entry) => same(rt, plain(cache.remove_expired(now)), entry),
         Call::Len(len) => same(rt, cache.len(), len),
@@ -62,7 +65,7 @@ fn returns(rt: &impl Abort, alloc: Global, cache: &mut Cache<u64>, call: Call) {
 }
 
 /// Calls of a cache of three entries.
-const CALLS: [Call; 24] = [
+const CALLS: [Call; 33] = [
     Call::Expire(9, None),
     Call::Get(1, 0, None),
     Call::Insert(1, 10, 0, 50, None),
@@ -91,6 +94,16 @@ const CALLS: [Call; 24] = [
     Call::Remove(1, None),
     Call::Expire(999, None),
     Call::Len(0),
+    Call::Renew(6, 50, 90, false),
+    Call::Insert(6, 60, 50, 70, None),
+    Call::Insert(7, 70, 51, 80, None),
+    Call::Insert(8, 80, 52, 90, None),
+    // 6 expires last now, and was used last
+    Call::Renew(6, 69, 95, true),
+    Call::Renew(7, 80, 99, false),
+    Call::Expire(85, Some((7, 70, 80))),
+    Call::Expire(94, Some((8, 80, 90))),
+    Call::Remove(6, Some((6, 60, 95))),
 ];
 
 #[test]
@@ -164,14 +177,35 @@ fn insert_beside(
     };
     let out = cut(&mut beside.entries, at);
     made(rt, beside.entries.push(entry));
-    let old = beside.came.as_slice().iter().position(|it| it.0 == entry.0);
+    come_beside(rt, beside, entry.0, turn);
+    out
+}
+
+/// Writes down the turn in which a key came last into the order of the times.
+fn come_beside(rt: &impl Abort, beside: &mut Beside, key: u64, turn: u64) {
+    let old = beside.came.as_slice().iter().position(|it| it.0 == key);
     if let Some(at) = old
         && at < beside.came.len()
     {
         drop(beside.came.remove(at));
     }
-    made(rt, beside.came.push((entry.0, turn)));
-    out
+    made(rt, beside.came.push((key, turn)));
+}
+
+/// Gives a key of the vectors another time until which it is valid, if it is not expired, and returns whether it did.
+fn renew_beside(rt: &impl Abort, beside: &mut Beside, call: (u64, u64, u64), turn: u64) -> bool {
+    let (key, now, until) = call;
+    let at = place(&beside.entries, key);
+    let Some(old) = at.and_then(|at| beside.entries.get(at).copied()) else {
+        return false;
+    };
+    if old.2 <= now {
+        return false;
+    }
+    cut(&mut beside.entries, at);
+    made(rt, beside.entries.push((key, old.1, until)));
+    come_beside(rt, beside, key, turn);
+    true
 }
 
 /// Uses a key of a vector, and returns its value, if it is not expired.
@@ -196,7 +230,12 @@ fn step(
 ) {
     let key = draws.below(KEYS);
     let now = turn / 4;
-    match draws.below(8) {
+    match draws.below(9) {
+        8 => {
+            let until = now + draws.below(12);
+            let wanted = renew_beside(rt, beside, (key, now, until), turn);
+            same(rt, cache.renew(&key, now, until), wanted);
+        }
         0 | 1 | 2 => {
             let entry = (key, turn, now + draws.below(12));
             let wanted = insert_beside(rt, beside, entry, now, turn);

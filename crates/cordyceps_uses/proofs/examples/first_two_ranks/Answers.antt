@@ -1,4 +1,4 @@
-use Rattle.std.proofs.Common.{rules, ◌≡◌, ℕ, zero, suc, ◌+◌, ◌%◌, List, [], ◌∷◌, length, map, slice_get, Some, ap, ◌∙◌, subst, arith, mod-eq_of_lt}
+use Rattle.std.proofs.Common.{rules, ◌≡◌, ℕ, zero, suc, ◌+◌, ◌%◌, [], ◌∷◌, length, map, slice_get, Some, ap, ◌∙◌, subst, arith, mod-eq_of_lt}
 use Rattle.cordyceps.specs.Elements.Element.{Element, Elements, values}
 use Rattle.cordyceps.specs.Cursors.Places.{next_place}
 use Rattle.cordyceps_uses.specs.declared.job.Job.{Job}

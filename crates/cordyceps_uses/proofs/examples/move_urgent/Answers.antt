@@ -1,6 +1,6 @@
-use Rattle.std.proofs.Common.{rules, ◌≡◌, ◌<◌, [], ◌∷◌, ◌++◌, length, sym, ◌∙◌, subst, arith, length-append}
+use Rattle.std.proofs.Common.{rules, ◌≡◌, [], ◌∷◌, ◌++◌, sym, ◌∙◌, subst, arith, length-append}
 use Rattle.std.specs.Prelude.{nat_le}
-use Rattle.cordyceps.specs.Elements.Element.{Element, Elements}
+use Rattle.cordyceps.specs.Elements.Element.{Elements}
 use Rattle.cordyceps.specs.Cursors.DrainFilter.{elements, place, predicate_of}
 use Rattle.cordyceps_uses.specs.contracts.examples.fn.move_urgent.drain_filter as closure
 use Rattle.cordyceps_uses.specs.declared.job.Job.{Job}

@@ -1,19 +1,16 @@
-use Rattle.std.proofs.Common.{Some, sym, ap, ◌∙◌}
-use Rattle.cordyceps.proofs.Spots.ValueAt.{held_value}
-use Rattle.cordyceps_uses.proofs.States.{sound, taken_out, taken_timed}
+use Rattle.std.proofs.Common.{Some, sym, ap, subst, ◌∙◌}
+use Rattle.cordyceps_uses.specs.Keyed.{IsOut}
+use Rattle.cordyceps_uses.specs.Expiring.{by_use}
+use Rattle.cordyceps_uses.proofs.States.{taken_timed}
 use Rattle.cordyceps_uses.proofs.expiring.taken.Goals as goal
 
 pub returns-clause-value : goal.returns-clause-value
-returns-clause-value g c =
-    let n = c.remove_at.result in let (b, a, was, left) = c.remove_at.ensures.taken in
-    held_value c.args.map.now.nodes c.args.at n.value c.lists_agree.ensures.distinct (b, n.id, a, was) ∙ ap (λ x. Some x) (sym c.into_pair.ensures)
+returns-clause-value g c = c.take_out.ensures.value ∙ ap (λ x. Some x) (sym c.into_pair.ensures)
 
 pub returns-clause-out : goal.returns-clause-out
-returns-clause-out g c =
-    let eq = g.K.PartialEq.eq in let m = c.args.map.now in let e = c.lists_agree.ensures in let r = c.remove_at.ensures in
-    taken_out eq g.met.K.Eq.laws m (sound eq m e.distinct e.once e.inside e.all e.apart) c.args.at c.into_pair.result (returns-clause-value g c) c.remove_at.result (sym c.into_pair.ensures) c.remove_at.new.self r.taken r.lists
+returns-clause-out g c = subst (λ x. IsOut g.K.PartialEq.eq (by_use c.args.map.now) x (by_use c.take_out.new.map)) (sym c.into_pair.ensures) c.take_out.ensures.out
 
 pub returns-clause-timed : goal.returns-clause-timed
 returns-clause-timed g c =
-    let eq = g.K.PartialEq.eq in let m = c.args.map.now in let e = c.lists_agree.ensures in let r = c.remove_at.ensures in
-    taken_timed eq g.met.K.Eq.laws m (sound eq m e.distinct e.once e.inside e.all e.apart) c.args.at c.into_pair.result (returns-clause-value g c) c.remove_at.result (sym c.into_pair.ensures) c.remove_at.new.self r.taken r.lists c.requires.timed
+    let r = c.take_out.ensures in
+    taken_timed g.K.PartialEq.eq c.args.map.now c.lists_agree.ensures c.requires.timed c.args.at c.take_out.result.value r.value c.take_out.new.map r

@@ -1,43 +1,26 @@
-use Rattle.std.proofs.Common.{arith, ap, sym, ◌∙◌, nat_eq, option_map}
-use Rattle.std.specs.HashMap.{get}
-use Rattle.cordyceps.proofs.Spots.Agreeing.{answer_spot, moved_front_agrees}
-use Rattle.cordyceps_uses.specs.Recency.{Held, used, find}
-use Rattle.cordyceps_uses.proofs.Entries.{absent_find, absent_used, held_value, moved_length, moved_used}
+use Rattle.std.proofs.Common.{◌≡◌, List, length, Some, refl, arith, ap, sym, ◌∙◌, option_map}
+use Rattle.std.specs.Map.{lookup_entry}
+use Rattle.cordyceps.specs.Spots.Entries.{value_at}
+use Rattle.cordyceps_uses.specs.Keyed.{order, moved_back}
+use Rattle.cordyceps_uses.specs.Recency.{Held}
+use Rattle.cordyceps_uses.proofs.Ordered.{moved_long}
 use Rattle.cordyceps_uses.proofs.recency.Cache.get.Goals as goal
 
-pub returns-in_err-spot-clause-entries : goal.returns-in_err-spot-clause-entries
-returns-in_err-spot-clause-entries g c =
-    sym (ap (λ (h : Held _). h.entries) c.self.view_is)
-    ∙ sym (absent_used (get nat_eq c.self.inside.spots) c.args.key c.self.inside.list c.self.invariant.0 (sym c.in_err-spot.ensures.value))
-    ∙ ap (λ (h : Held _). used c.args.key h.entries) c.self.view_is
+pub invariant_of-self-2 : goal.invariant_of-self-2
+invariant_of-self-2 g c =
+    let a = c.in_ok-spot.ensures.found in let long = ap length c.move_back.ensures.moved in let fits = c.self.invariant.fits in
+    let same = moved_long (g.K.PartialEq.eq c.args.key.now) (order 0 c.self.inside.map) a.entry a.found in
+    record { some = c.self.invariant.some; fits = omega (arith, long, same, fits) }
 
-pub returns-in_err-spot-clause-value : goal.returns-in_err-spot-clause-value
-returns-in_err-spot-clause-value g c =
-    c.from_residual.ensures
-    ∙ sym (ap (λ o. option_map (λ x. x.1) o) (absent_find (get nat_eq c.self.inside.spots) c.args.key c.self.inside.list c.self.invariant.0 (sym c.in_err-spot.ensures.value)))
-    ∙ ap (λ (h : Held _). option_map (λ x. x.1) (find c.args.key h.entries)) c.self.view_is
-
-pub get-requires-2 : goal.get-requires-2
-get-requires-2 g c = answer_spot (get nat_eq c.self.inside.spots) c.self.inside.list c.self.invariant.0 c.args.key c.in_ok-spot.field-0.now (sym c.in_ok-spot.ensures.value)
-
-pub invariant_of-self : goal.invariant_of-self
-invariant_of-self g c =
-    let f = get nat_eq c.self.inside.spots in
-    let long = moved_length f c.args.key c.self.inside.list c.move_to_front.new.self c.in_ok-spot.field-0.now c.self.invariant.0 (sym c.in_ok-spot.ensures.value) c.move_to_front.ensures.moved in (
-      moved_front_agrees f c.self.inside.list c.move_to_front.new.self c.in_ok-spot.field-0.now c.self.invariant.0 c.move_to_front.ensures.moved c.move_to_front.ensures.distinct,
-      omega (arith, long, c.self.invariant.1),
-      c.self.invariant.2,
+pub returns : goal.returns
+returns g c =
+    let test = g.K.PartialEq.eq c.args.key.now in let a = c.in_ok-spot.ensures.found in let x = c.value_of.ensures in
+    let is : a.entry ≡ x.entry = (let t = sym a.value ∙ sym (ap (λ n. value_at n c.in_ok-spot.spot) c.move_back.ensures.nodes) ∙ x.value in cc) in
+    let kept : List (_ × _) → Held _ _ = λ es. record { entries = es; capacity = c.self.inside.capacity } in (
+      (refl, λ _. tt, ap kept c.move_back.ensures.moved ∙ ap (λ (h : Held _ _). record { entries = moved_back test h.entries; capacity = h.capacity }) c.self.view_is),
+      record {
+        uses = tt;
+        value = ap (λ v. Some v) (sym x.holds ∙ sym (ap (λ (y : _ × _). y.1) is)) ∙ sym (ap (λ o. option_map (λ y. y.1) o) a.found)
+            ∙ ap (λ (h : Held _ _). option_map (λ y. y.1) (lookup_entry test h.entries)) c.self.view_is;
+      },
     )
-
-pub returns-clause-entries : goal.returns-clause-entries
-returns-clause-entries g c =
-    moved_used (get nat_eq c.self.inside.spots) c.args.key c.self.inside.list c.move_to_front.new.self c.in_ok-spot.field-0.now c.self.invariant.0 (sym c.in_ok-spot.ensures.value) c.move_to_front.ensures.moved
-    ∙ ap (λ (h : Held _). used c.args.key h.entries) c.self.view_is
-
-pub returns-clause-value : goal.returns-clause-value
-returns-clause-value g c =
-    sym (ap (λ o. option_map (λ x. x.1) o) (held_value (get nat_eq c.self.inside.spots) c.args.key c.self.inside.list c.in_ok-spot.field-0.now c.get-2.result.now c.self.invariant.0 (sym c.in_ok-spot.ensures.value) c.get-2.ensures))
-    ∙ ap (λ (h : Held _). option_map (λ x. x.1) (find c.args.key h.entries)) c.self.view_is
-
-pub move_to_front-requires : goal.move_to_front-requires
-move_to_front-requires g c = answer_spot (get nat_eq c.self.inside.spots) c.self.inside.list c.self.invariant.0 c.args.key c.in_ok-spot.field-0.now (sym c.in_ok-spot.ensures.value)
