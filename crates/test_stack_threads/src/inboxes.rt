@@ -32,7 +32,10 @@ fn push_all(
 }
 
 /// Asserts the numbers that an inbox pops, and that then nothing is there.
-fn receives(rt: &impl Abort, inbox: &mut Inbox<Counted>, wanted: &[u64]) {
+fn receives(rt: &impl Abort, inbox: &mut Inbox<Counted>, wanted: &[u64])
+    ensures table { inbox.new.party.table ≡ inbox.old.party.table }
+    ensures share { inbox.new.party.share ≡ inbox.old.party.share }
+{
     for wanted in wanted {
         same(rt, number(inbox.pop()), Some(*wanted));
     }

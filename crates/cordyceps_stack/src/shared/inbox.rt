@@ -79,7 +79,9 @@ impl<'a, T: Linked<Links<T>>> Inbox<'a, T> {
     /// # Waits
     /// Never.
     pub fn pop(&mut self) -> Option<T::Handle>
-        ensures { ReceivesFrom T.element self.old.taken self.old.party result self.new }
+        ensures popped { ReceivesFrom T.element self.old.taken self.old.party result self.new }
+        ensures table { self.new.party.table ≡ self.old.party.table }
+        ensures share { self.new.party.share ≡ self.old.party.share }
     {
         if !self.taken.is_empty() {
             return self.taken.pop();

@@ -14,8 +14,8 @@ module _ {T H : Type 0} (element : H → Element T) where
   received before after stack batch result none same took first =
       subst (λ xs. ReceivesFrom element xs before.party result after) (sym none) (batch, took, subst (λ z. IsFirstOut element z result after.taken) same first)
 
-pub returns : goal.returns
-returns g c =
+pub returns-clause-popped : goal.returns-clause-popped
+returns-clause-popped g c =
     let element = g.T.Linked.element in
     let t = c.take_all_in_order.ensures in
     let none = nil_from_length c.self.inside.taken (first_of (search rules, grind (arith, common_steps))) in
