@@ -1,5 +1,5 @@
 -- An entry of a map gets another time, and becomes the last used one.
-use Rattle.std.proofs.Common.{◌≡◌, ℕ, zero, suc, Bool, true, false, if◌then◌else◌, List, [], ◌∷◌, ◌++◌, length, Some, refl, sym, ap, ◌∙◌, subst, arith, length-append}
+use Rattle.std.proofs.Common.{◌≡◌, ℕ, zero, suc, Bool, true, false, if◌then◌else◌, [], ◌∷◌, ◌++◌, length, Some, refl, sym, ap, ◌∙◌, subst, arith, length-append}
 use Rattle.std.specs.Map.{remove_entry}
 use denote.RawPtr.{Ptr}
 use Rattle.cordyceps.specs.Elements.Nodes.{Nodes, spots}

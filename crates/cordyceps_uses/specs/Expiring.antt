@@ -1,5 +1,5 @@
 -- A cache with a bound and with expiry: keys with values and times, what was used longest ago first.
-use Rattle.std.specs.Prelude.{◌≡◌, ◌<◌, ◌≤◌, ◌⊎◌, ℕ, Bool, true, false, List, [], ◌∷◌, ◌++◌, length, Option, Some, None, MatchOption, nat_lt, if◌then◌else◌}
+use Rattle.std.specs.Prelude.{◌≡◌, ◌<◌, ◌≤◌, ◌⊎◌, ℕ, Bool, true, List, [], ◌∷◌, ◌++◌, length, Option, Some, None, MatchOption, nat_lt, if◌then◌else◌}
 use Rattle.std.specs.List.{All}
 use Rattle.std.specs.Map.{lookup_entry, remove_entry}
 use denote.RawPtr.{Ptr}

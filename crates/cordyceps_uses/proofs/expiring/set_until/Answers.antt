@@ -1,4 +1,4 @@
-use Rattle.std.proofs.Common.{◌≡◌, [], ◌∷◌, ◌++◌, length, ap, sym, subst, arith, ◌∙◌}
+use Rattle.std.proofs.Common.{◌≡◌, [], ◌∷◌, ◌++◌, ap, sym, subst, arith, ◌∙◌}
 use Rattle.std.specs.Map.{remove_entry}
 use Rattle.cordyceps.specs.Spots.BySpot.{HoldsAt}
 use Rattle.cordyceps.proofs.Spots.ValueAt.{held_value}

@@ -26,7 +26,7 @@ returns g c =
     let given = c.split-pusher.ensures.1 ∙ ap (λ (z : Seat). giving 4 z) new in
     let one = c.push.ensures.pushed in
     let two = c.push-2.ensures.pushed in
-    let both : (batch : List (Element Job)) → Takes batch c.new-inbox.result.party c.pop-came.new.inbox.party → batch ≡ a.second ∷ a.first ∷ [] = λ batch took.
-    came c.in_ok-shared.shared c.split-pusher.new.party c.split-pusher.result c.push.new.party c.push-2.new.party c.absorb.new.party c.pop-came.new.inbox.party (suc one.0) (suc two.0) one.1 two.1 a.first a.second batch
-    kept given one.2 two.2 c.absorb.ensures (subst (λ z. Takes batch z c.pop-came.new.inbox.party) c.new-inbox.ensures.party took) in
-    received c.new-inbox.result.party c.new-inbox.result.taken a.first a.second c.pop-came.result c.pop-came.new.inbox c.new-inbox.ensures.taken both c.pop-came.ensures.popped
+    let both : (batch : List (Element Job)) → Takes batch c.new-inbox.result.party c.pop-came.new.self.party → batch ≡ a.second ∷ a.first ∷ [] = λ batch took.
+    came c.in_ok-shared.shared c.split-pusher.new.party c.split-pusher.result c.push.new.party c.push-2.new.party c.absorb.new.party c.pop-came.new.self.party (suc one.0) (suc two.0) one.1 two.1 a.first a.second batch
+    kept given one.2 two.2 c.absorb.ensures (subst (λ z. Takes batch z c.pop-came.new.self.party) c.new-inbox.ensures.party took) in
+    received c.new-inbox.result.party c.new-inbox.result.taken a.first a.second c.pop-came.result c.pop-came.new.self c.new-inbox.ensures.taken both c.pop-came.ensures.popped
