@@ -63,12 +63,11 @@ pub(crate) trait Rows {
         requires within { i < count }
         ensures { hooks row.new ≡ set (hooks row.old) i (with_prev (hook_in (hooks row.old) i) prev) };
 
-    /// Takes the mark of list `i`, which is not list 0, off a node.
+    /// Takes the mark of list `i` off a node, unless it is list 0, which has no marks.
     fn unmark(row: &mut Self::HookArray, i: usize)
         requires long { length (hooks row.old) ≡ count }
         requires within { i < count }
-        requires not_all { 0 < i }
-        ensures { hooks row.new ≡ set (hooks row.old) i (unmarked (hook_in (hooks row.old) i)) };
+        ensures { 0 < i → hooks row.new ≡ set (hooks row.old) i (unmarked (hook_in (hooks row.old) i)) };
 
     /// Returns the ends of lists with no node.
     fn no_ends() -> Self::EndsArray

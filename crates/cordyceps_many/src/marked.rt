@@ -89,15 +89,16 @@ impl<const N: usize, const M: usize> Marked<N, M> {
         self.links[i].prev = prev;
     }
 
-    /// Takes the mark of list `i`, which is not list 0, off.
+    /// Takes the mark of list `i` off, unless it is list 0, which has no marks.
     pub(crate) fn unmark(&mut self, i: usize)
         requires long { length (hooks_of self.old.links self.old.marks) ≡ N }
         requires within { i < N }
         requires marks { N ≡ M + 1 }
-        requires not_all { 0 < i }
-        ensures { hooks_of self.new.links self.new.marks ≡ set (hooks_of self.old.links self.old.marks) i
+        ensures { 0 < i → hooks_of self.new.links self.new.marks ≡ set (hooks_of self.old.links self.old.marks) i
             (unmarked (hook_in (hooks_of self.old.links self.old.marks) i)) }
     {
-        self.marks[i - 1] = false;
+        if i > 0 {
+            self.marks[i - 1] = false;
+        }
     }
 }
