@@ -10,3 +10,4 @@ mod Renewing
 mod States
 mod Tabled
 pub mod Turning
+mod Written

@@ -3,18 +3,20 @@
 //! It keeps what is expensive to compute or to read again, such as rows of a table or the results of lookups. Each
 //! entry is one node, which a table finds by its key, and which is at the same time in the order of use.
 ghost use Rattle.std.specs.Prelude.{◌≡◌, ◌<◌, ◌≤◌, [], length, is_some, None};
-ghost use Rattle.std.specs.Prelude.{IfOk, IfErr, OnOk, OnErr, option_map, option_copied};
+ghost use Rattle.std.specs.Prelude.{IsSome, IsOk, IfOk, IfErr, OnOk, OnErr, option_map, option_copied};
 ghost use Rattle.std.specs.Borrow.{sem};
 ghost use Rattle.std.specs.Map.{lookup_entry, remove_entry};
-ghost use Rattle.cordyceps_uses.specs.Keyed.{order, moved_back};
-ghost use Rattle.cordyceps_uses.specs.Recency.{remaining, stored, displaced};
+ghost use Rattle.cordyceps.specs.Spots.BySpot.{HasSpot};
+ghost use Rattle.cordyceps_uses.specs.Keyed.{order, moved_back, IsAt};
+ghost use Rattle.cordyceps_uses.specs.Recency.{evicted, with_room, stored, displaced, IsReplaced};
 
-use crate::keyed::{count, move_back, put, spot_of, take_out, value_of};
+use crate::keyed::{count, lists_agree, move_back, put, spot_of, take_out, value_of};
 use cordyceps::Refused;
-use cordyceps::stable_map::{MapNode, One, StableMap};
+use cordyceps::stable_map::{MapNode, One, Spot, StableMap};
 use std::alloc::{AllocError, Global};
 use std::hash::{BuildHasher, Hash};
 use std::marker::Model;
+use std::mem;
 
 /// A cache of values by their keys, up to a capacity. A contract sees its entries, that which was used longest ago
 /// first, and its capacity.
@@ -129,13 +131,15 @@ impl<K: Eq + Hash, V, S: BuildHasher> Cache<K, V, S> {
 }
 
 impl<K: Eq + Hash + Drop, V: Drop, S: BuildHasher> Cache<K, V, S> {
-    /// Inserts a value for a key, whose entry becomes the last used one. Returns the entry that goes for it: the old
-    /// entry of the key, or, if a new key comes to a full cache, the entry that was used longest ago.
+    /// Inserts a value for a key, whose entry becomes the last used one. Returns what goes for it: the given key with
+    /// its old value, or, if a new key comes to a full cache, the entry that was used longest ago.
     ///
-    /// It allocates one node.
+    /// A key that has an entry keeps its node, and the key that is stored there stays. For a new key one node is
+    /// allocated.
     ///
     /// # Errors
-    /// If memory is refused, the key and the value are returned, and the cache is unchanged.
+    /// If memory is refused, the key and the value are returned, and the cache is unchanged. This does not happen for
+    /// a key that has an entry.
     ///
     /// # Complexity
     /// O(1) if the hashes of the keys are spread.
@@ -147,19 +151,20 @@ impl<K: Eq + Hash + Drop, V: Drop, S: BuildHasher> Cache<K, V, S> {
     ) -> Result<Option<(K, V)>, Refused<(K, V)>>
         ensures entries { OnOk result
             (self.new.entries ≡ stored self.old.capacity (K.eq key) (key, value) self.old.entries) }
-        ensures displaced { IfOk result (λ out. out ≡ displaced self.old.capacity (K.eq key) self.old.entries) }
+        ensures displaced { IfOk result (λ out. out ≡ displaced self.old.capacity (K.eq key) key self.old.entries) }
         ensures returned { IfErr result (λ e. e.value ≡ (key, value)) }
         ensures kept { OnErr result (self.new ≡ self.old) }
+        ensures succeeds { IsSome (lookup_entry (K.eq key) self.old.entries) → IsOk result }
         ensures capacity { self.new.capacity ≡ self.old.capacity }
     {
-        match MapNode::new(alloc, 0, key, value) {
-            Ok(node) => {
-                let out = make_room(&mut self.map, self.capacity, node.key());
-                put(&mut self.map, node);
-                Ok(out)
-            }
-            Err(refused) => Err(refused),
+        if let Some(at) = spot_of(&self.map, &key) {
+            let old = replace(&mut self.map, &key, at, value);
+            return Ok(Some((key, old)));
         }
+        let node = MapNode::new(alloc, 0, key, value)?;
+        let evicted = make_room(&mut self.map, self.capacity);
+        put(&mut self.map, node);
+        Ok(evicted)
     }
 
     /// Removes the entry of a key and returns it, or returns `None` if the key has no entry.
@@ -177,28 +182,40 @@ impl<K: Eq + Hash + Drop, V: Drop, S: BuildHasher> Cache<K, V, S> {
     }
 }
 
-/// Removes the entry of a key, or, if the key has none and the cache is full, the entry that was used longest ago.
-/// Returns what it removes.
+/// Gives the entry of a key, which is at `at`, another value, and makes it the last used one. Returns its old value.
+fn replace<K: Eq + Hash, V, S: BuildHasher>(
+    map: &mut StableMap<K, V, One, S>,
+    key: &K,
+    at: Spot,
+    value: V,
+) -> V
+    requires at { IsAt K.eq 0 map.old key.now at }
+    requires there { HasSpot map.old.nodes at }
+    ensures { IsReplaced (K.eq key.now) result value (order 0 map.old) (order 0 map.new) }
+{
+    lists_agree(map);
+    let old = mem::replace(map.value_at_mut(at), value);
+    lists_agree(map);
+    move_back(map, key, at);
+    old
+}
+
+/// Removes the entry that was used longest ago, if the cache is full, and returns it.
 fn make_room<K: Eq + Hash + Drop, V: Drop, S: BuildHasher>(
     map: &mut StableMap<K, V, One, S>,
     capacity: usize,
-    key: &K,
 ) -> Option<(K, V)>
     requires some { 0 < capacity }
     requires fits { length (order 0 map.old) ≤ capacity }
-    ensures left { order 0 map.new ≡ remaining capacity (K.eq key.now) (order 0 map.old) }
-    ensures out { result ≡ displaced capacity (K.eq key.now) (order 0 map.old) }
-    ensures absent { lookup_entry (K.eq key.now) (order 0 map.new) ≡ None }
+    ensures out { result ≡ evicted capacity (order 0 map.old) }
+    ensures left { order 0 map.new ≡ with_room capacity (order 0 map.old) }
+    ensures absent { (k : K) → lookup_entry (K.eq k) (order 0 map.old) ≡ None
+        → lookup_entry (K.eq k) (order 0 map.new) ≡ None }
     ensures room { length (order 0 map.new) < capacity }
 {
-    match spot_of(map, key) {
-        Some(at) => Some(take_out(map, at).into_pair()),
-        None => {
-            if count(map) < capacity {
-                return None;
-            }
-            let at = map.first(0)?;
-            Some(take_out(map, at).into_pair())
-        }
+    if count(map) < capacity {
+        return None;
     }
+    let at = map.first(0)?;
+    Some(take_out(map, at).into_pair())
 }

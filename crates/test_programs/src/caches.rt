@@ -86,12 +86,16 @@ fn frees_each_value_once(rt: HostRuntime) {
         same(&rt, put.is_ok(), true);
     }
     same(&rt, drops.count(), 1);
-    let taken = cache.remove(&2);
-    same(&rt, (taken.is_some(), drops.count()), (true, 1));
-    drop(taken);
+    let replaced = cache.insert(rt.alloc(), 3, counted(&rt, 4, &drops));
+    same(&rt, (replaced.is_ok(), drops.count()), (true, 1));
+    drop(replaced);
     same(&rt, drops.count(), 2);
-    drop(cache);
+    let taken = cache.remove(&2);
+    same(&rt, (taken.is_some(), drops.count()), (true, 2));
+    drop(taken);
     same(&rt, drops.count(), 3);
+    drop(cache);
+    same(&rt, drops.count(), 4);
 }
 
 /// How many keys the long test has, and a number without a factor in common with that.
