@@ -8,4 +8,5 @@ pub use Rattle.cordyceps_queue.proofs.SharedTheory.OwnNames
 pub use Rattle.cordyceps_queue.proofs.SharedTheory.PartyBalances
 pub use Rattle.cordyceps_queue.proofs.SharedTheory.PartyMoves
 pub use Rattle.cordyceps_queue.proofs.SharedTheory.Sending
+pub use Rattle.cordyceps_queue.proofs.SharedTheory.ToldFinds
 pub use Rattle.cordyceps_queue.proofs.SharedTheory.WaitingTries

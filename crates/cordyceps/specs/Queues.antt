@@ -6,5 +6,6 @@ pub use Rattle.cordyceps_queue.specs.Shared.Batches
 pub use Rattle.cordyceps_queue.specs.Shared.Calls
 pub use Rattle.cordyceps_queue.specs.Shared.Moves
 pub use Rattle.cordyceps_queue.specs.Shared.OwnedConsumer
+pub use Rattle.cordyceps_queue.specs.Shared.Receipts
 pub use Rattle.cordyceps_queue.specs.Shared.Sending
 pub use Rattle.cordyceps_queue.specs.declared.cores.steps.TryDequeueError

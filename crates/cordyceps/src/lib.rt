@@ -22,6 +22,10 @@
 //!
 //! The module [`replay`] runs commands on tables of sixteen lists, stacks or sorted lists of [`Item`]s. A contract says
 //! that each reply, and what the structures hold afterwards, are what the commands mean.
+//!
+//! Take it where a crate uses several collections. It has no function of its own: each name is defined, proved and
+//! tested in the crate that a `pub use` below names, whose head says what is proved and what nodes and calls cost. A
+//! crate that uses lists alone names `cordyceps_base` and `cordyceps_list`, and has fewer libraries to prove.
 #![tactic(auto)]
 
 pub mod clock_queue;

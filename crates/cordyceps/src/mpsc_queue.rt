@@ -3,5 +3,5 @@
 pub use cordyceps_base::mpsc_queue::Links;
 pub use cordyceps_queue::mpsc_queue::{
     Batch, Closed, Consumer, MAX_ROOMS, MpscQueue, OwnedConsumer, Party, QUANTUM, QueueAnswer,
-    QueueCore, QueueStep, Replay, StepError, TryDequeueError, replay,
+    QueueCore, QueueStep, Receipt, Replay, StepError, TryDequeueError, replay,
 };

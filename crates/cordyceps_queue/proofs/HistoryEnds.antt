@@ -24,7 +24,7 @@ pub reverse-cons : {A : Type 0} (x : A) (xs : List A) → reverse (x ∷ xs) ≡
 reverse-cons x xs = reverse-append (x ∷ []) xs
 
 module _ {P E : Type 0} where
-  holder_from-append : (o : Option P) (h t : List (Event P E)) → holder_from o (h ++ t) ≡ holder_from (holder_from o h) t
+  pub holder_from-append : (o : Option P) (h t : List (Event P E)) → holder_from o (h ++ t) ≡ holder_from (holder_from o h) t
   holder_from-append o [] t = refl
   holder_from-append o (x ∷ h) t = holder_from-append (holder_after o x) h t
 

@@ -18,6 +18,8 @@ pub mod PartySeats
 pub mod PoolCalls
 pub mod PoolJoins
 pub mod PoolKeeps
+pub mod ReceiptKeeps
+pub mod ReceiptSeats
 pub mod Regroups
 pub mod ReturnKeeps
 pub mod RightHolds
@@ -27,6 +29,7 @@ pub mod SpareKeeps
 pub mod SpareRooms
 pub mod StepTells
 pub mod StubKeeps
+pub mod ToldFinds
 pub mod TriesInTurn
 pub mod UsesKeep
 pub mod UsesShare

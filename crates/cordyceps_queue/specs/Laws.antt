@@ -3,15 +3,18 @@ use Rattle.std.specs.Prelude.{◌≡◌, ℕ, suc, ◌+◌, ◌≤◌, ◌⊎◌
 use Rattle.std.specs.Prelude.{Result, Some, Err, ◌↔◌}
 use Rattle.atomic_table.specs.Seated.{TableId}
 use Rattle.cordyceps_shared.specs.Histories.{plain, AllOwn}
-use Rattle.cordyceps_shared.specs.Shares.{Name, IsOf}
+use Rattle.cordyceps_shared.specs.Knowing.{IsPrefixOf}
+use Rattle.cordyceps_shared.specs.Shares.{Name, IsOf, IsShare}
 use Rattle.cordyceps_shared.specs.Standings.{name_of, new_party, GivesBack}
 use Rattle.cordyceps_queue.specs.declared.cores.steps.TryDequeueError.{TryDequeueError}
 use Rattle.cordyceps_queue.specs.declared.cores.steps.TryDequeueError.TheVariants as error
 use Rattle.cordyceps_queue.specs.Shared.Calls.{PartyOf, Legal, NonePending, NoneHolds, Adds, Dequeues, Consumes}
-use Rattle.cordyceps_queue.specs.Shared.Calls.{Enqueues, Refills}
+use Rattle.cordyceps_queue.specs.Shared.Calls.{Enqueues, Refills, AtLast}
 use Rattle.cordyceps_queue.specs.Shared.Moves.{Balances, got_by_try}
+use Rattle.cordyceps_queue.specs.Shared.Receipts.{Learns, TellsOfMore}
 use Rattle.cordyceps_queue.specs.History as told
-use Rattle.cordyceps_queue.specs.History.{Event, Take, Busy, actor, comes, went, held, holder, count_of, is_take, is_free}
+use Rattle.cordyceps_queue.specs.History.{Event, Take, Busy, actor, comes, came, went, held, holder}
+use Rattle.cordyceps_queue.specs.History.{count_of, is_take, is_free}
 use Rattle.cordyceps_queue.specs.Past as past
 
 -- legal by the conditions on every prefix, or event by event
@@ -134,3 +137,22 @@ NoRoomIsLost E =
     (k : ℕ) (id : TableId) (w : PartyOf E) (sent got : List E) (drawn given : ℕ) →
     Balances (λ x. x) sent got drawn given (new_party id k) w → Legal (plain w.seen) → AllOwn w.seen →
     w.rooms + length (held (plain w.seen)) + given ≡ k + drawn
+
+-- a try of a party, or of a consumer, that found nothing: all that had come in by what the party had seen has gone out
+abbrev pub EmptyMeansGone : Type 0 → Type 0
+EmptyMeansGone E =
+    (u w : PartyOf E) → Dequeues (Err error.Empty) u w ⊎ Consumes (Err error.Empty) u w →
+    IsPrefixOf (came (plain u.seen)) (went (plain w.seen))
+
+-- a party that has the right, and has seen more elements come in than go out: its try does not find nothing
+abbrev pub HolderFinds : Type 0 → Type 0
+HolderFinds E =
+    (u w : PartyOf E) → IsShare u.share → holder (plain u.seen) ≡ Some (name_of u) → TellsOfMore (plain u.seen) u →
+    Consumes (Err error.Empty) u w → ⊥
+
+-- a party that has the right, and learns a history by which more came in than it has seen go out: it does not find
+-- nothing, however often it has to try
+abbrev pub ToldFinds : Type 0 → Type 0
+ToldFinds E =
+    (h : List (Event Name E)) (u v w : PartyOf E) → IsShare u.share → holder (plain u.seen) ≡ Some (name_of u) →
+    TellsOfMore h u → Learns h u v → AtLast (Consumes (Err error.Inconsistent)) (Consumes (Err error.Empty)) v w → ⊥

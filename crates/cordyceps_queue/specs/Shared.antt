@@ -7,8 +7,10 @@ pub mod Moves
 pub mod Parting
 pub mod Parts
 pub mod Plays
+pub mod Receipts
 pub mod Rule
 pub mod Sending
+pub mod Telling
 pub mod Uses
 pub mod Vault
 pub mod View

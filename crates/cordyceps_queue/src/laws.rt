@@ -1,20 +1,25 @@
 //! Laws of histories and of queues. Each is a function whose contract is the law. One about all histories has an empty
 //! body, and one about calls has these calls as its body.
-ghost use Rattle.std.specs.Prelude.{◌≡◌, ◌≤◌, ◌++◌, map, length, Ok};
+ghost use Rattle.std.specs.Prelude.{◌≡◌, ◌≢◌, ◌≤◌, ◌++◌, map, length, Ok, Err};
 ghost use Rattle.cordyceps_shared.specs.Histories.{plain};
 ghost use Rattle.cordyceps_shared.specs.Shares.{whole};
 ghost use Rattle.cordyceps_queue.specs.History.{held};
 ghost use Rattle.cordyceps_queue.specs.Laws.{LegalBothWays, BlockedBothWays, WasBlockedBothWays, ProducersInOrder, OneHolder};
 ghost use Rattle.cordyceps_queue.specs.Laws.{BusyIsAnothers, BlockedIsAnothers, BlockedTryIsAnothers};
 ghost use Rattle.cordyceps_queue.specs.Laws.{CallsBalance, NoRoomIsLost};
+ghost use Rattle.cordyceps_queue.specs.Laws.{EmptyMeansGone, HolderFinds, ToldFinds};
+ghost use Rattle.cordyceps_queue.specs.Shared.Receipts.{TellsOfMore};
 ghost use Rattle.cordyceps_queue.specs.Cores.Machine.{after_step};
 ghost use Rattle.cordyceps_queue.specs.declared.cores.steps.QueueAnswer.TheVariants as answers;
 ghost use Rattle.cordyceps_queue.specs.declared.cores.steps.QueueStep.TheVariants as kinds;
+ghost use Rattle.cordyceps_queue.specs.declared.cores.steps.TryDequeueError.TheVariants as error;
 
 use crate::cores::calls::QueueCore;
-use crate::cores::steps::{QueueAnswer, QueueStep};
+use crate::cores::steps::{QueueAnswer, QueueStep, TryDequeueError};
 use crate::shared::batch::Batch;
 use crate::shared::calls::{Closed, MpscQueue, Party};
+use crate::shared::consumer::Consumer;
+use crate::shared::receipt::Receipt;
 use cordyceps_base::linked::Linked;
 use cordyceps_base::mpsc_queue::Links;
 use cordyceps_base::shared::StepError;
@@ -68,6 +73,36 @@ pub fn rooms_balance<E>()
     ensures calls { CallsBalance E }
     ensures none_lost { NoRoomIsLost E }
 {}
+
+/// States what a party finds that knows of elements, because it has seen them come in or has learned a receipt. A try
+/// finds nothing only if all that had come in, by what the party knew, has gone out. And a party that has the right to
+/// dequeue, and knows of more elements that came in than went out, does not find nothing.
+///
+/// # Complexity
+/// O(1): it does nothing.
+pub fn told_finds<E>()
+    ensures gone { EmptyMeansGone E }
+    ensures holder { HolderFinds E }
+    ensures told { ToldFinds E }
+{}
+
+/// Learns a receipt that tells of more elements than have gone out by what the consumer has seen, and tries once to
+/// dequeue. The try does not find nothing.
+///
+/// # Complexity
+/// O(1).
+pub fn try_told<T: Linked<Links<T>>>(
+    consumer: &mut Consumer<'_, T>,
+    receipt: Receipt<T>,
+) -> Result<T::Handle, TryDequeueError>
+    requires table { receipt.table ≡ consumer.old.table }
+    requires more { TellsOfMore receipt.told consumer.old }
+    ensures { result ≢ Err error.Empty }
+{
+    let _rooms = consumer.rooms();
+    consumer.learn(receipt);
+    consumer.try_dequeue()
+}
 
 /// Enqueues the elements of a batch by a whole party, and closes the queue. They leave in order after those that were
 /// held, and the stub is returned.

@@ -7,6 +7,7 @@ pub use crate::shared::batch::Batch;
 pub use crate::shared::calls::{Closed, MpscQueue, Party};
 pub use crate::shared::consumer::Consumer;
 pub use crate::shared::owned_consumer::OwnedConsumer;
+pub use crate::shared::receipt::Receipt;
 pub use cordyceps_base::mpsc_queue::Links;
 pub use cordyceps_base::shared::{MAX_ROOMS, StepError};
 pub use cordyceps_shared::pool::QUANTUM;

@@ -8,6 +8,7 @@ pub(crate) mod owned_consumer;
 pub(crate) mod parting;
 pub(crate) mod plays;
 pub(crate) mod pool;
+pub(crate) mod receipt;
 pub(crate) mod spare;
 pub(crate) mod steps;
 pub(crate) mod stub_steps;

@@ -10,7 +10,7 @@ use Rattle.cordyceps_shared.specs.Knowing.{Known, Foreign, Agrees, Below, Shares
 use Rattle.cordyceps_shared.proofs.ChangedItems.{two_set, was_there}
 use Rattle.cordyceps_shared.proofs.Counting.{tally_set}
 use Rattle.cordyceps_shared.proofs.PartyNames.{join_covers, joined_some, letters}
-use Rattle.cordyceps_shared.proofs.EventOwners.{same_first, relabel, events_relabel, relabel_append, marked_relabel, without_relabel, without_gone, below_relabel, merge, length_relabel, length_marked, events_append}
+use Rattle.cordyceps_shared.proofs.EventOwners.{same_first, relabel, events_relabel, relabel_append, marked_relabel, without_relabel, without_gone, below_relabel, merge, events_append}
 use Rattle.cordyceps_shared.proofs.HistoryMarks.{plain_marked}
 use Rattle.cordyceps_shared.proofs.StepEvents.{at_length, foreign_end, foreign_none, foreign_both}
 use Rattle.cordyceps_shared.proofs.Ordering.{joined_clear}
@@ -21,7 +21,7 @@ and_false false = refl
 
 module _ {X : Type 0} where
   fits_gone : (actor : X → Name) (h : List (ℕ × X)) (a b : ℕ) → b ≢ a → Agrees actor (relabel a b h) b known_absorbed
-  fits_gone actor h a b apart = record { before = []; later = relabel a b h; is = refl; seen = refl; none = without_gone a b h apart; foreign = foreign_none actor (events (relabel a b h)); told = (events (relabel a b h), refl); short = omega arith; apart = tt }
+  fits_gone actor h a b apart = record { before = []; later = relabel a b h; is = refl; seen = refl; none = without_gone a b h apart; foreign = foreign_none actor (events (relabel a b h)); told = (events (relabel a b h), refl); apart = tt }
 
   -- no event of one history is marked by two seats
   marked_disjoint : (a b : ℕ) (xs us ys vs : List (ℕ × X)) → b ≢ a → xs ++ us ≡ ys ++ vs → AreDisjoint (with_marks a xs) (with_marks b ys)
@@ -53,7 +53,6 @@ module _ {X : Type 0} where
         foreign = subst (λ z. Foreign actor (join_shares k.share l.share) z) (sym (events_relabel a b t.later)) (foreign_both actor k.share l.share (join_shares k.share l.share) (λ x. joined_clear x k.share l.share) (events t.later)
             (foreign_later actor k.share t.first.0 t.later fk.later t.first.1 fk.foreign) (foreign_later actor l.share t.second.0 t.later fl.later t.second.1 fl.foreign));
         told = (events fl.later, events_relabel a b h ∙ (ap events fl.is ∙ (events_append fl.before fl.later ∙ ap (λ z. z ++ events fl.later) (sym (ap plain fl.seen ∙ plain_marked b fl.before)))));
-        short = omega (arith, t.long, ap (λ (z : List (Bool × X)). length z) fl.seen, ap (λ (z : List (Bool × X)). length z) seen, length_marked b fl.before, length_marked a (relabel a b t.before), length_relabel a b t.before);
         apart = subst (λ (z : List (Bool × X) × List (Bool × X)). AreDisjoint z.0 z.1) (λ c. (sym fk.seen c, sym fl.seen c)) (marked_disjoint a b fk.before fk.later fl.before fl.later other (sym fk.is ∙ fl.is));
       }
 
@@ -66,7 +65,6 @@ module _ {X : Type 0} where
     none = without_relabel a b i f.later na f.none;
     foreign = subst (λ z. Foreign actor k.share z) (sym (events_relabel a b f.later)) f.foreign;
     told = (f.told.0, events_relabel a b h ∙ f.told.1);
-    short = f.short;
     apart = f.apart;
   }
 

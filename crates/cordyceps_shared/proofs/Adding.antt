@@ -1,10 +1,11 @@
 -- What parties see in several steps, by splitting and by joining.
-use Rattle.std.proofs.Common.{◌≡◌, ℕ, zero, suc, List, [], ◌∷◌, ◌++◌, replicate, Bool, cond, refl, sym, ap, ◌∙◌, subst}
+use Rattle.std.proofs.Common.{◌≡◌, ℕ, zero, suc, List, [], ◌∷◌, ◌++◌, replicate, Bool, true, cond, refl, sym, ap, ◌∙◌, subst, append_assoc}
 use Rattle.cordyceps_shared.specs.Histories.{plain, own, others, AllOwn}
-use Rattle.cordyceps_shared.specs.Knowing.{without_marks, merge_marks, IsPrefixOf}
+use Rattle.cordyceps_shared.specs.Knowing.{Foreign, without_marks, merge_marks, IsPrefixOf}
 use Rattle.cordyceps_shared.specs.Shares.{Name, whole, keeps_half, gives_half}
 use Rattle.cordyceps_shared.specs.Standings.{Standing, known_of, Adds}
-use Rattle.cordyceps_shared.proofs.StepEvents.{grown_none, grown_then}
+use Rattle.cordyceps_shared.proofs.HistoryMarks.{since, others_append}
+use Rattle.cordyceps_shared.proofs.StepEvents.{foreign_front, grown_none, grown_then}
 
 -- one more of the same at the end
 pub replicate_more : {A : Type 0} (n : ℕ) (a : A) (xs : List A) → replicate n a ++ a ∷ xs ≡ replicate (suc n) a ++ xs
@@ -65,3 +66,23 @@ module _ {X : Type 0} (actor : X → Name) (Legal : List X → Type 0) where
       let g = a.0 in
       let all = tail_own u.seen g.rest (subst (λ z. AllOwn z) g.is (g.alone (g.share ∙ is))) in
       ap (λ z. plain z) g.is ∙ (plain_append u.seen g.rest ∙ ap (λ z. plain u.seen ++ z) (plain_own g.rest all ∙ g.adds))
+
+  -- an event of the party's own among those that it has seen since, its own events before that one, and others'
+  pub record SeesAt (u w : Standing X) (before : List X) (x : X) : Type 0 where
+    pub front : List (Bool × X)
+    pub later : List X
+    pub all : plain w.seen ≡ (plain u.seen ++ plain front) ++ x ∷ later
+    pub mine : own front ≡ before
+    pub foreign : Foreign actor u.share (others front)
+
+  pub sees_at : (u w : Standing X) (es before after : List X) (x : X) → Adds actor Legal u es w → es ≡ before ++ x ∷ after → SeesAt u w before x
+  sees_at u w es before after x a e =
+      let g = a.0 in
+      let t = since g.rest before after x (g.adds ∙ e) in
+      record {
+        front = t.front;
+        later = plain t.later;
+        all = ap plain g.is ∙ (plain_append u.seen g.rest ∙ (ap (λ z. plain u.seen ++ plain z) t.is ∙ (ap (λ z. plain u.seen ++ z) (plain_append t.front ((true, x) ∷ t.later)) ∙ sym (append_assoc (plain u.seen) (plain t.front) (x ∷ plain t.later)))));
+        mine = t.mine;
+        foreign = foreign_front actor u.share (others t.front) (others ((true, x) ∷ t.later)) (subst (λ z. Foreign actor u.share z) (ap others t.is ∙ others_append t.front ((true, x) ∷ t.later)) g.foreign);
+      }

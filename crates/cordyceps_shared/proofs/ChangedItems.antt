@@ -24,12 +24,16 @@ module _ {A : Type 0} where
   two_set Holds xs i j a b first second others =
       one_set Holds (set xs i a) j b second (λ k x other e. one_set (λ l y. l ≢ j → Holds l y) xs i a (λ _. first) (λ l y ne at no. others l y ne no at) k x e other)
 
+  -- a new item came at the end
+  pub new_last : (Holds : ℕ → A → Type 0) (xs : List A) (b : A) → ((k : ℕ) (x : A) → get_elem? xs k ≡ some x → Holds k x) → Holds (length xs) b → (k : ℕ) (x : A) → get_elem? (xs ++ b ∷ []) k ≡ some x → Holds k x
+  new_last Holds xs b old new k x e = ⊎_elim
+      (λ (there : get_elem? xs k ≡ some x). old k x there)
+      (λ (t : (k ≡ length xs) × (b ≡ x)). subst (λ (z : ℕ × A). Holds z.0 z.1) (λ c. (sym t.0 c, t.1 c)) new)
+      (at_end xs b x k e)
+
   -- one item changed, and a new one came at the end
   pub set_more : (Holds : ℕ → A → Type 0) (xs : List A) (i : ℕ) (a b : A) → Holds i a → Holds (length (set xs i a)) b → ((k : ℕ) (x : A) → k ≢ i → get_elem? xs k ≡ some x → Holds k x) → (k : ℕ) (x : A) → get_elem? (set xs i a ++ b ∷ []) k ≡ some x → Holds k x
-  set_more Holds xs i a b here new others k x e = ⊎_elim
-      (λ (there : get_elem? (set xs i a) k ≡ some x). one_set Holds xs i a here others k x there)
-      (λ (t : (k ≡ length (set xs i a)) × (b ≡ x)). subst (λ (z : ℕ × A). Holds z.0 z.1) (λ c. (sym t.0 c, t.1 c)) new)
-      (at_end (set xs i a) b x k e)
+  set_more Holds xs i a b here new others = new_last Holds (set xs i a) b (one_set Holds xs i a here others) new
 
   -- what another item than the changed one was before
   pub was_there : (xs : List A) (i j : ℕ) (a x : A) → j ≢ i → get_elem? (set xs i a) j ≡ some x → get_elem? xs j ≡ some x

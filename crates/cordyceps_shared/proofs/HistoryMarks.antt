@@ -58,3 +58,25 @@ module _ {X : Type 0} where
   pub others_of : (j : ℕ) (es : List X) → others (with_marks j (of_seat j es)) ≡ []
   others_of j [] = refl
   others_of j (x ∷ xs) = ap (λ b. cond b (others (with_marks j (of_seat j xs))) (x ∷ others (with_marks j (of_seat j xs)))) (eq-eqb j j refl) ∙ others_of j xs
+
+  -- ---- one event of the party's own among all, with its own before it
+  pub record Since (rest : List (Bool × X)) (before : List X) (x : X) : Type 0 where
+    pub front : List (Bool × X)
+    pub later : List (Bool × X)
+    pub is : rest ≡ front ++ (true, x) ∷ later
+    pub mine : own front ≡ before
+
+  pub since : (rest : List (Bool × X)) (before after : List X) (x : X) → own rest ≡ before ++ x ∷ after → Since rest before x
+  since [] [] after x e = let no : ⊥ = cc in absurd no
+  since [] (b ∷ bs) after x e = let no : ⊥ = cc in absurd no
+  since ((true, y) ∷ r) [] after x e =
+      let same : y ≡ x = cc in
+      record { front = []; later = r; is = ap (λ z. (true, z) ∷ r) same; mine = refl }
+  since ((true, y) ∷ r) (b ∷ bs) after x e =
+      let first : y ≡ b = cc in
+      let tail : own r ≡ bs ++ x ∷ after = cc in
+      let t = since r bs after x tail in
+      record { front = (true, y) ∷ t.front; later = t.later; is = ap (λ z. (true, y) ∷ z) t.is; mine = (λ i. first i ∷ t.mine i) }
+  since ((false, y) ∷ r) before after x e =
+      let t = since r before after x e in
+      record { front = (false, y) ∷ t.front; later = t.later; is = ap (λ z. (false, y) ∷ z) t.is; mine = t.mine }

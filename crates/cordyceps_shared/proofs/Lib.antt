@@ -19,6 +19,7 @@ pub mod Owning
 pub mod PartyNames
 pub mod Places
 pub mod Pools
+pub mod Receipts
 pub mod Sending
 pub mod Splits
 pub mod Standings

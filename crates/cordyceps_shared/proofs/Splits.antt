@@ -13,15 +13,15 @@ use Rattle.cordyceps_shared.proofs.StepEvents.{below_without, foreign_to}
 
 module _ {X : Type 0} where
   -- a party that has no event marks none
-  marked_new : (n j : ℕ) (h : List (ℕ × X)) → Below n h → with_marks n h ≡ without_marks (with_marks j h)
+  pub marked_new : (n j : ℕ) (h : List (ℕ × X)) → Below n h → with_marks n h ≡ without_marks (with_marks j h)
   marked_new n j [] b = refl
   marked_new n j (x ∷ xs) b = let low = b.0 in λ i. (ne_eqb x.0 n (λ e. omega arith) i, x.1) ∷ marked_new n j xs b.1 i
 
-  below_front : (n : ℕ) (xs ys : List (ℕ × X)) → Below n (xs ++ ys) → Below n xs × Below n ys
+  pub below_front : (n : ℕ) (xs ys : List (ℕ × X)) → Below n (xs ++ ys) → Below n xs × Below n ys
   below_front n [] ys b = (tt, b)
   below_front n (x ∷ xs) ys b = let t = below_front n xs ys b.1 in ((b.0, t.0), t.1)
 
-  below_less : (n m : ℕ) (h : List (ℕ × X)) → n ≤ m → Below n h → Below m h
+  pub below_less : (n m : ℕ) (h : List (ℕ × X)) → n ≤ m → Below n h → Below m h
   below_less n m [] l b = tt
   below_less n m (x ∷ xs) l b = let low = b.0 in (omega arith, below_less n m xs l b.1)
 
@@ -51,7 +51,7 @@ module _ {X V : Type 0} (actor : X → Name) (knows : V → Known X) where
       let f = fits j v at in
       let low = below_front n f.before f.later (subst (λ z. Below n z) f.is o.below) in
       let share = (knows v).share in
-      let left_fits : Agrees actor h j (known_keeping (knows v)) = record { before = f.before; later = f.later; is = f.is; seen = f.seen; none = f.none; foreign = foreign_to actor share (keeps_half share) (λ x. keeps_clear x share) (events f.later) f.foreign; told = f.told; short = f.short; apart = f.apart } in
+      let left_fits : Agrees actor h j (known_keeping (knows v)) = record { before = f.before; later = f.later; is = f.is; seen = f.seen; none = f.none; foreign = foreign_to actor share (keeps_half share) (λ x. keeps_clear x share) (events f.later) f.foreign; told = f.told; apart = f.apart } in
       let right_fits : Agrees actor h n (known_giving (knows v)) = record {
         before = f.before;
         later = f.later;
@@ -60,7 +60,6 @@ module _ {X V : Type 0} (actor : X → Name) (knows : V → Known X) where
         none = below_without n f.later n (omega arith) low.1;
         foreign = foreign_to actor share (gives_half share) (λ x. gives_clear x share) (events f.later) f.foreign;
         told = (events h, refl);
-        short = omega arith;
         apart = tt;
       } in
       set_more (λ i u. Agrees actor h i (knows u)) views j left right (subst (Agrees actor h j) (sym is_left) left_fits)

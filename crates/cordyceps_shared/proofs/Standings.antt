@@ -4,7 +4,7 @@ use mathlib.Core.Option.{some, some-injective, some-ne-none}
 use lib.ListN.{get_elem?}
 use Rattle.cordyceps_shared.specs.Shares.{Name, covers}
 use Rattle.cordyceps_shared.specs.Histories.{events, with_marks, plain, AllOwn}
-use Rattle.cordyceps_shared.specs.Knowing.{Known, Agrees, SharesDisjoint, AllAgree, IsPrefixOf, IsKnown, newcomer}
+use Rattle.cordyceps_shared.specs.Knowing.{Known, Agrees, SharesDisjoint, AllAgree, IsPrefixOf, IsKnown, newcomer, merge_marks}
 use Rattle.cordyceps_shared.proofs.Counting.{tally_one}
 use Rattle.cordyceps_shared.proofs.EventOwners.{same_first, events_append}
 use Rattle.cordyceps_shared.proofs.HistoryMarks.{marked_append, plain_marked}
@@ -36,18 +36,24 @@ module _ {X : Type 0} where
   pub seen_front : (actor : X → Name) (h : List (ℕ × X)) (j : ℕ) (k : Known X) (f : Agrees actor h j k) → events h ≡ plain k.seen ++ events f.later
   seen_front actor h j k f = ap events f.is ∙ (events_append f.before f.later ∙ ap (λ z. z ++ events f.later) (sym (ap plain f.seen ∙ plain_marked j f.before)))
 
+  -- what a party was told that took another in is no longer than what it has seen
+  pub told_short : (xs ys : List (Bool × X)) → length ys ≤ length (merge_marks xs ys)
+  told_short [] ys = omega arith
+  told_short (x ∷ xs) [] = omega arith
+  told_short (x ∷ xs) (y ∷ ys) = let t = told_short xs ys in omega arith
+
   fits_new : (actor : X → Name) → Agrees actor [] 0 (newcomer {X = X})
-  fits_new actor = record { before = []; later = []; is = refl; seen = refl; none = tt; foreign = tt; told = ([], refl); short = omega arith; apart = tt }
+  fits_new actor = record { before = []; later = []; is = refl; seen = refl; none = tt; foreign = tt; told = ([], refl); apart = tt }
 
 module _ {X V : Type 0} (actor : X → Name) (knows : V → Known X) where
   pub is_known : (Legal : List X → Type 0) (front : (xs ys : List X) → Legal (xs ++ ys) → Legal xs) (views : List V) (h : List (ℕ × X)) (j : ℕ) (v : V) → SharesDisjoint knows views h → AllAgree actor knows views h → get_elem? views j ≡ some v → Legal (events h)
-      → IsKnown Legal (knows v)
-  is_known Legal front views h j v o fits at legal =
+      → length (knows v).told ≤ length (knows v).seen → IsKnown Legal (knows v)
+  is_known Legal front views h j v o fits at legal short =
       let k = knows v in
       let f = fits j v at in
       let all = seen_front actor h j k f in record {
         legal = front (plain k.seen) (events f.later) (subst Legal all legal);
-        told = shorter_is_prefix (plain k.told) (plain k.seen) f.told.0 (events f.later) (sym f.told.1 ∙ all) (omega (arith, length_plain k.told, length_plain k.seen, f.short));
+        told = shorter_is_prefix (plain k.told) (plain k.seen) f.told.0 (events f.later) (sym f.told.1 ∙ all) (omega (arith, length_plain k.told, length_plain k.seen, short));
         apart = f.apart;
         alone = λ is. subst AllOwn (sym f.seen) (own_front (with_marks j f.before) (with_marks j f.later)
             (subst AllOwn (ap (with_marks j) f.is ∙ marked_append j f.before f.later) (all_own j h (λ i n. whole_without knows views h j i v o at is n))));

@@ -89,12 +89,11 @@ module _ {X : Type 0} (actor : X → Name) where
     none = without_more i f.later j es (λ e. other (sym e)) f.none;
     foreign = subst (λ z. Foreign actor k.share z) (sym (events_more f.later j es)) (foreign_append k.share (events f.later) es f.foreign (foreign_under k.share n es clear under));
     told = (f.told.0 ++ es, events_more h j es ∙ (ap (λ z. z ++ es) f.told.1 ∙ append_assoc (plain k.told) f.told.0 es));
-    short = f.short;
     apart = f.apart;
   }
 
   pub fits_all : (h : List (ℕ × X)) (j : ℕ) (share : List Name) → Agrees actor h j (all_seen j h share)
-  fits_all h j share = record { before = h; later = []; is = sym (append-nil h); seen = refl; none = tt; foreign = tt; told = (events h, refl); short = omega arith; apart = tt }
+  fits_all h j share = record { before = h; later = []; is = sym (append-nil h); seen = refl; none = tt; foreign = tt; told = (events h, refl); apart = tt }
 
   pub grown_all : (Legal : List X → Type 0) (h : List (ℕ × X)) (j : ℕ) (es : List X) (k : Known X) → Agrees actor h j k → Legal (events (h ++ of_seat j es)) → (k.share ≡ whole → AllOwn (with_marks j (h ++ of_seat j es)))
       → Grown actor Legal k es (all_seen j (h ++ of_seat j es) k.share)
@@ -137,17 +136,13 @@ module _ {X V : Type 0} (actor : X → Name) (knows : V → Known X) where
   pub fits_same : (views : List V) (h : List (ℕ × X)) (j : ℕ) (v w : V) → get_elem? views j ≡ some v → (knows w).share ≡ (knows v).share → (knows w).seen ≡ (knows v).seen → (knows w).had ≡ (knows v).had → (knows w).told ≡ (knows v).told → AllAgree actor knows views h → AllAgree actor knows (set views j w) h
   fits_same views h j v w at share seen had told fits =
       let f = fits j v at in
-      let shorter = f.short in
-      let a = ap (λ (z : List (Bool × X)). length z) seen in
-      let b = ap (λ (z : List (Bool × X)). length z) told in
-      fits_set views h j w record { before = f.before; later = f.later; is = f.is; seen = seen ∙ f.seen; none = f.none; foreign = subst (λ z. Foreign actor z (events f.later)) (sym share) f.foreign; told = (f.told.0, f.told.1 ∙ ap (λ z. plain z ++ f.told.0) (sym told)); short = omega arith; apart = subst (λ (z : List (Bool × X) × List (Bool × X)). AreDisjoint z.0 z.1) (λ c. (sym had c, sym told c)) f.apart } (λ i u _. fits i u)
+      fits_set views h j w record { before = f.before; later = f.later; is = f.is; seen = seen ∙ f.seen; none = f.none; foreign = subst (λ z. Foreign actor z (events f.later)) (sym share) f.foreign; told = (f.told.0, f.told.1 ∙ ap (λ z. plain z ++ f.told.0) (sym told)); apart = subst (λ (z : List (Bool × X) × List (Bool × X)). AreDisjoint z.0 z.1) (λ c. (sym had c, sym told c)) f.apart } (λ i u _. fits i u)
 
   -- what it was told is forgotten
   pub fits_forgot : (views : List V) (h : List (ℕ × X)) (j : ℕ) (v w : V) → get_elem? views j ≡ some v → (knows w).share ≡ (knows v).share → (knows w).seen ≡ (knows v).seen → (knows w).told ≡ [] → AllAgree actor knows views h → AllAgree actor knows (set views j w) h
   fits_forgot views h j v w at share seen told fits =
       let f = fits j v at in
-      let b = ap (λ (z : List (Bool × X)). length z) told in
-      fits_set views h j w record { before = f.before; later = f.later; is = f.is; seen = seen ∙ f.seen; none = f.none; foreign = subst (λ z. Foreign actor z (events f.later)) (sym share) f.foreign; told = (events h, ap (λ z. plain z ++ events h) (sym told)); short = omega arith; apart = subst (λ z. AreDisjoint (knows w).had z) (sym told) (disjoint_none (knows w).had) } (λ i u _. fits i u)
+      fits_set views h j w record { before = f.before; later = f.later; is = f.is; seen = seen ∙ f.seen; none = f.none; foreign = subst (λ z. Foreign actor z (events f.later)) (sym share) f.foreign; told = (events h, ap (λ z. plain z ++ events h) (sym told)); apart = subst (λ z. AreDisjoint (knows w).had z) (sym told) (disjoint_none (knows w).had) } (λ i u _. fits i u)
 
 module _ {X V : Type 0} (knows : V → Known X) where
   pub owned_more : (views : List V) (h : List (ℕ × X)) (j : ℕ) (es : List X) (v w : V) → get_elem? views j ≡ some v → (knows w).share ≡ (knows v).share → (knows v).share ≢ [] → SharesDisjoint knows views h → SharesDisjoint knows (set views j w) (h ++ of_seat j es)

@@ -44,7 +44,6 @@ module _ {X : Type 0} where
     pub none : NoneOf j later
     pub foreign : Foreign actor k.share (events later)
     pub told : (rest : List X) × (events history ≡ plain k.told ++ rest)
-    pub short : length k.told ≤ length k.seen
     pub apart : AreDisjoint k.had k.told
 
   -- the seats of the events are below n
@@ -100,6 +99,14 @@ module _ {X : Type 0} where
 
   abbrev pub known_absorbed : Known X
   known_absorbed = record { seen = []; had = []; told = []; share = [] }
+
+  -- what a seat without a share knows that tells what a party has seen, and what a party knows that was told it and has
+  -- yet to look
+  abbrev pub known_telling : Known X → Known X
+  known_telling k = record { seen = without_marks k.seen; had = []; told = []; share = [] }
+
+  abbrev pub known_hearing : Known X → Known X → Known X
+  known_hearing k l = record k { had = []; told = l.seen }
 
   -- one history is a prefix of another
   abbrev pub IsPrefixOf : List X → List X → Type 0

@@ -21,6 +21,8 @@ mod queue_drops;
 #[cfg(test)]
 mod queues;
 #[cfg(test)]
+mod receipts;
+#[cfg(test)]
 mod scenes;
 #[cfg(test)]
 mod seats;

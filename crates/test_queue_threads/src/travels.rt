@@ -1,4 +1,4 @@
-//! What can be sent to a thread and what threads can share, of queues and batches.
+//! What can be sent to a thread and what threads can share, of queues, receipts and batches.
 ghost use Rattle.std.specs.Prelude.{◌≡◌};
 
 use crate::closings::Whole;
@@ -6,7 +6,7 @@ use crate::compared::{made, same};
 use crate::items::numbers;
 use cordyceps_base::linked::Linked;
 use cordyceps_base::node::Node;
-use cordyceps_queue::mpsc_queue::{Batch, Closed, Links, MpscQueue};
+use cordyceps_queue::mpsc_queue::{Batch, Closed, Links, MpscQueue, Receipt};
 use std::cell::Cell;
 use std::marker::{Send, Sync};
 use test_support::counted::Drops;
@@ -53,6 +53,15 @@ where
     shared(queue)
 }
 
+/// A receipt can be sent where handles can only be sent.
+fn a_receipt_travels_where_handles_do<T: Linked<Links<T>>>(receipt: Receipt<T>) -> Receipt<T>
+where
+    T::Handle: Send,
+    ensures { result ≡ receipt }
+{
+    sent(receipt)
+}
+
 #[test]
 fn a_queue_is_shared_where_handles_are_sent(rt: HostRuntime) {
     let value = Lone {
@@ -68,6 +77,16 @@ fn a_queue_is_shared_where_handles_are_sent(rt: HostRuntime) {
         Some(node) => same(&rt, node.get().value.get(), 7),
         None => panic!(&rt; "the stub was handed in"),
     }
+}
+
+#[test]
+fn a_receipt_is_sent_where_handles_are(rt: HostRuntime) {
+    let Ok((queue, mut party)) = MpscQueue::<Lone>::new(rt.alloc(), 1) else {
+        panic!(&rt; "memory was refused");
+    };
+    let receipt = queue.receipt(&mut party);
+    queue.learn(&mut party, a_receipt_travels_where_handles_do(receipt));
+    same(&rt, party.rooms(), 1);
 }
 
 #[test]

@@ -1,5 +1,5 @@
 -- What giving all rooms back promises, from what its parts promise.
-use Rattle.std.proofs.Common.{◌≡◌, ℕ, ◌+◌, ◌≤◌, [], Bool, true, false, refl, sym, ap, ◌∙◌, subst, arith}
+use Rattle.std.proofs.Common.{◌≡◌, ℕ, ◌≤◌, [], Bool, true, false, refl, sym, ap, subst, arith}
 use Rattle.cordyceps_shared.specs.Standings.{GivesBack}
 use Rattle.cordyceps_shared.proofs.Adding.{adds_then}
 use Rattle.cordyceps_queue.specs.History.{actor}

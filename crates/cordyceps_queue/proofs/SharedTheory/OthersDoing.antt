@@ -5,7 +5,7 @@ use Rattle.cordyceps_shared.specs.Knowing.{Foreign}
 use Rattle.cordyceps_shared.specs.Shares.{Name, IsOf}
 use Rattle.cordyceps_shared.specs.Standings.{name_of}
 use Rattle.cordyceps_shared.proofs.Adding.{plain_append}
-use Rattle.cordyceps_shared.proofs.HistoryMarks.{others_append}
+use Rattle.cordyceps_shared.proofs.HistoryMarks.{others_append, since}
 use Rattle.cordyceps_shared.proofs.StepEvents.{foreign_front}
 use Rattle.cordyceps_shared.proofs.EventCounts.{seen_counts}
 use Rattle.cordyceps_queue.specs.History.{Event, Take, Busy, Look, Free, actor, links_by, swaps_by, is_swap, is_link, is_take, is_free}
@@ -15,22 +15,6 @@ use Rattle.cordyceps_queue.proofs.HistoryEnds.{count-append, count_of_other}
 use Rattle.cordyceps_queue.proofs.SharedTheory.OwnNames.{even_links, even_frees, not_holder}
 
 module _ {X : Type 0} where
-  -- what a party has seen by its only event since
-  record Since (rest : List (Bool × X)) (x : X) : Type 0 where
-    front : List (Bool × X)
-    later : List (Bool × X)
-    is : rest ≡ front ++ (true, x) ∷ later
-    none : own front ≡ []
-
-  since : (rest : List (Bool × X)) (x : X) → own rest ≡ x ∷ [] → Since rest x
-  since [] x e = let no : ⊥ = cc in absurd no
-  since ((true, y) ∷ r) x e =
-      let same : y ≡ x = cc in
-      record { front = []; later = r; is = ap (λ z. (true, z) ∷ r) same; none = refl }
-  since ((false, y) ∷ r) x e =
-      let t = since r x e in
-      record { front = (false, y) ∷ t.front; later = t.later; is = ap (λ z. (false, y) ∷ z) t.is; none = t.none }
-
   -- a prefix with more own events than another is longer
   record Longer (seen rest past later : List (Bool × X)) (es : List X) : Type 0 where
     more : List (Bool × X)
@@ -67,7 +51,7 @@ module _ {E : Type 0} where
   busy_is_anothers u w legal none a =
       let g = a.0 in
       let n = name_of u in
-      let t = since g.rest (Busy n) g.adds in
+      let t = since g.rest [] [] (Busy n) g.adds in
       let past = u.seen ++ t.front in
       let is : w.seen ≡ past ++ (true, Busy n) ∷ t.later = g.is ∙ (ap (λ z. u.seen ++ z) t.is ∙ sym (append_assoc u.seen t.front ((true, Busy n) ∷ t.later))) in
       let all : plain w.seen ≡ plain past ++ Busy n ∷ plain t.later = ap plain is ∙ plain_append past ((true, Busy n) ∷ t.later) in
@@ -84,8 +68,8 @@ module _ {E : Type 0} where
             let even = even_frees by (plain u.seen) legal (none by of) in
             let frees = seen_counts (λ h. frees_by same_name by h) (count-append same_name is_free by) actor by (count_of_other same_name is_free by) u.share of u.seen t.front foreign in
             let takes = seen_counts (λ h. takes_by same_name by h) (count-append same_name is_take by) actor by (count_of_other same_name is_take by) u.share of u.seen t.front foreign in
-            let no_frees = ap (λ h. frees_by same_name by h) t.none in
-            let no_takes = ap (λ h. takes_by same_name by h) t.none in
+            let no_frees = ap (λ h. frees_by same_name by h) t.mine in
+            let no_takes = ap (λ h. takes_by same_name by h) t.mine in
             not_holder by (plain past) before (omega arith) held.1;
       }
 

@@ -1,6 +1,6 @@
 -- The rule of a queue's table at the start, and where free rooms are linked or read, or a party is split in two, takes
 -- another in or learns what it then knows.
-use Rattle.std.proofs.Common.{◌≡◌, ◌≢◌, ◌⊎◌, ℕ, zero, suc, ◌+◌, ◌*◌, ◌<◌, List, [], ◌∷◌, ◌++◌, length, replicate, set, get_or, take, drop, append-nil, None, refl, sym, ap, ◌∙◌, subst, inl, inr, arith, length-append}
+use Rattle.std.proofs.Common.{◌≡◌, ◌≢◌, ◌⊎◌, ℕ, zero, suc, ◌+◌, ◌*◌, ◌<◌, ◌≤◌, List, [], ◌∷◌, ◌++◌, length, replicate, set, get_or, take, drop, append-nil, None, refl, sym, ap, ◌∙◌, subst, inl, inr, arith, length-append}
 use mathlib.Core.Option.{some, none}
 use native.Mathlib.Decide.{ℕ_discrete}
 use lib.ListN.{get_elem?}
@@ -146,7 +146,7 @@ module _ {E : Type 0} where
           view_is = refl;
           hand = refl;
           known = seats.is_known actor knows (λ z. LegalReversed z) legal_front s.views k.plain.history id u
-              k.plain.owned k.plain.fits at k.plain.meets.legal;
+              k.plain.owned k.plain.fits at k.plain.meets.legal (subst (λ (z : View E). length z.known.told ≤ length z.known.seen) (sym is) (seats.told_short v.known.seen w.known.seen));
           few = omega arith;
           linked = rest_linked q k.plain id u at some_name (ap (λ (z : View E). z.stage) is);
           unheld = rest_unheld q k.plain id u at some_name (ap (λ (z : View E). z.stage) is);

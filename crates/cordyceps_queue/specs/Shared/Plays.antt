@@ -1,6 +1,6 @@
 -- What each atomic step tells a party of a queue: of its seat m before, of the word that it found, and of its seat k
 -- after. A seat has a view, and the slots in hand, the last taken first.
-use Rattle.std.specs.Prelude.{◌≡◌, ◌≢◌, ℕ, suc, ◌+◌, ◌<◌, ◌≤◌, List, [], ◌∷◌, ◌++◌, reverse, length, take, drop, Option}
+use Rattle.std.specs.Prelude.{◌≡◌, ◌≢◌, ℕ, suc, ◌+◌, ◌<◌, ◌≤◌, List, [], ◌∷◌, ◌++◌, reverse, length, drop, Option}
 use Rattle.std.specs.Prelude.{Some, None}
 use Rattle.cordyceps_shared.specs.FreeChains.{leads, end_after, MayJoin}
 use Rattle.cordyceps_shared.specs.Histories.{plain}

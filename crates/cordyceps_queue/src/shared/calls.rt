@@ -57,7 +57,7 @@ use std::marker::Model;
 /// | `try_dequeue`, `try_consume` | yes | one gets the right to dequeue; the other returns `Busy`, or its party |
 /// | `dequeue`, `consume` | yes | one gets the right to dequeue; the other waits for it |
 /// | the calls of a consumer | yes | there is one consumer at a time |
-/// | `split`, `absorb` | yes | yes |
+/// | `split`, `absorb`, `receipt`, `copy_receipt`, `learn` | yes | yes |
 /// | `close`, and the queue's drop | no: they take the queue, when no other thread has it | |
 ///
 /// # Complexity

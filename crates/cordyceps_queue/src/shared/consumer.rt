@@ -7,11 +7,15 @@ ghost use Rattle.cordyceps_queue.specs.Shared.Batches.{TakesLinked};
 ghost use Rattle.cordyceps_queue.specs.History.{held, holder};
 ghost use Rattle.cordyceps_queue.specs.declared.cores.steps.TryDequeueError.TheVariants as error;
 ghost use Rattle.cordyceps_queue.specs.Shared.Calls.{Legal, NonePending, Consumes, TakesRight, FindsBusy};
+ghost use Rattle.cordyceps_queue.specs.Shared.Receipts.{Learns};
+ghost use Rattle.cordyceps_queue.specs.Shared.Telling.{IsReceipt};
+ghost use Rattle.cordyceps_shared.specs.Slots.{view};
 ghost use Rattle.cordyceps_queue.specs.Shared.Calls.{GivesRight, IsCertain, LacksRooms};
 
 use crate::cores::steps::TryDequeueError;
 use crate::shared::batch::Batch;
 use crate::shared::calls::{MpscQueue, Party};
+use crate::shared::receipt::{Receipt, hear, tell};
 use crate::shared::spare::Spare;
 use crate::shared::table::{PartySeat, Tried, Words};
 use crate::shared::uses::RoomUse;
@@ -35,44 +39,41 @@ const LONGEST_PAUSE: u32 = 13;
 struct Pace {
     /// How many calls of `Backoff::spin` a pause makes.
     spins: u32,
-    /// Whether the last try came to the queue's end.
-    is_at_end: bool,
+    /// How many of them come before the next try: none, unless the last one came to the queue's end.
+    due: u32,
 }
 
 impl Pace {
     /// That of a consumer that has not tried yet.
     fn new() -> Pace {
-        Pace {
-            spins: 0,
-            is_at_end: false,
-        }
+        Pace { spins: 0, due: 0 }
     }
 
     /// Pauses if the last try came to the queue's end.
     fn pause(self) {
-        if self.is_at_end && self.spins > 0 {
+        if self.due > 0 {
             let backoff = Backoff::new();
-            for _ in 0..self.spins {
+            for _ in 0..self.due {
                 backoff.spin();
             }
         }
     }
 
+    /// Returns the pace of a consumer that comes to the queue's end, and makes a pause of this many calls.
+    fn at_end(spins: u32) -> Pace {
+        Pace { spins, due: spins }
+    }
+
     /// Returns the pace after a try that left the tail at this room.
     fn after<E: Drop>(self, tail: usize, tried: &Tried<E>) -> Pace {
         match tried {
+            Tried::Out(_room, _item) if tail == 0 => Pace::at_end(self.spins),
             Tried::Out(_room, _item) => Pace {
                 spins: self.spins,
-                is_at_end: tail == 0,
+                due: 0,
             },
-            Tried::Empty => Pace {
-                spins: self.spins.saturating_sub(1),
-                is_at_end: true,
-            },
-            Tried::Inconsistent => Pace {
-                spins: self.spins.saturating_add(1).min(LONGEST_PAUSE),
-                is_at_end: true,
-            },
+            Tried::Empty => Pace::at_end(self.spins.saturating_sub(1)),
+            Tried::Inconsistent => Pace::at_end(self.spins.saturating_add(1).min(LONGEST_PAUSE)),
         }
     }
 }
@@ -192,6 +193,25 @@ impl<E: Drop> Right<E> {
     {
         required::as_many_rooms(rooms, self.rooms());
         pool::give_back(words, &mut self.seat, &mut self.spare, rooms)
+    }
+
+    /// Splits a seat off that is a receipt.
+    pub fn receipt(&mut self, words: &Words<E>) -> PartySeat<E>
+        requires { self.old.table ≡ words.now.table_id }
+        ensures party { self.new ≡ self.old }
+        ensures receipt { IsReceipt result.table_id result.me × (result.table_id ≡ words.now.table_id) }
+        ensures told { plain (view result.me).known.seen ≡ plain self.old.seen }
+    {
+        tell(words, &mut self.seat)
+    }
+
+    /// Learns a receipt.
+    pub fn learn(&mut self, words: &Words<E>, receipt: PartySeat<E>)
+        requires table { self.old.table ≡ words.now.table_id }
+        requires receipt { IsReceipt receipt.table_id receipt.me × (receipt.table_id ≡ words.now.table_id) }
+        ensures { Learns (plain (view receipt.me).known.seen) self.old self.new }
+    {
+        hear(words, &mut self.seat, receipt);
     }
 
     /// Tries once to remove the oldest element.
@@ -322,6 +342,38 @@ impl<'a, T: Linked<Links<T>>> Consumer<'a, T> {
     {
         let queue = self.queue;
         take_batch(&queue.rooms.shared, &mut self.right, max)
+    }
+
+    /// Returns a receipt: it tells another thread's party what this party has seen.
+    ///
+    /// # Complexity
+    /// O(1): one load.
+    ///
+    /// # Waits
+    /// Never.
+    pub fn receipt(&mut self) -> Receipt<T>
+        ensures party { self.new ≡ self.old }
+        ensures receipt { (result.table ≡ self.old.table) × (result.told ≡ plain self.old.seen) }
+    {
+        let queue = self.queue;
+        let seat = self.right.receipt(&queue.rooms.shared);
+        Receipt { seat }
+    }
+
+    /// Learns a receipt: the party has then seen all that the receipt tells, and what it had seen itself.
+    ///
+    /// # Complexity
+    /// O(1): two loads.
+    ///
+    /// # Waits
+    /// Never.
+    pub fn learn(&mut self, receipt: Receipt<T>)
+        requires { receipt.table ≡ self.old.table }
+        ensures { Learns receipt.told self.old self.new }
+    {
+        let queue = self.queue;
+        let Receipt { seat } = receipt;
+        self.right.learn(&queue.rooms.shared, seat);
     }
 
     /// Returns the number of rooms that the party has. Its contract also states what is true of every party, and that

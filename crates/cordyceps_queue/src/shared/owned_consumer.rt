@@ -9,11 +9,13 @@ ghost use Rattle.cordyceps_queue.specs.History.{held, holder};
 ghost use Rattle.cordyceps_queue.specs.declared.cores.steps.TryDequeueError.TheVariants as error;
 ghost use Rattle.cordyceps_queue.specs.Shared.Calls.{Legal, NonePending, Consumes, TakesRight, FindsBusy, GivesRight, IsCertain};
 ghost use Rattle.cordyceps_queue.specs.Shared.Calls.{LacksRooms};
+ghost use Rattle.cordyceps_queue.specs.Shared.Receipts.{Learns};
 
 use crate::cores::steps::TryDequeueError;
 use crate::shared::batch::Batch;
 use crate::shared::calls::{MpscQueue, Party};
 use crate::shared::consumer::{Right, give_right, take_batch, take_right};
+use crate::shared::receipt::Receipt;
 use cordyceps_base::linked::Linked;
 use cordyceps_base::mpsc_queue::Links;
 use std::alloc::Global;
@@ -143,6 +145,39 @@ impl<T: Linked<Links<T>>> OwnedConsumer<T> {
     {
         let queue: &MpscQueue<T> = &self.queue;
         take_batch(&queue.rooms.shared, &mut self.right, max)
+    }
+
+    /// Returns a receipt: it tells another thread's party what this party has seen.
+    ///
+    /// # Complexity
+    /// O(1): one load.
+    ///
+    /// # Waits
+    /// Never.
+    pub fn receipt(&mut self) -> Receipt<T>
+        ensures same { self.new ≡ self.old }
+        ensures receipt { (result.table ≡ self.old.queue.table) × (result.told ≡ plain self.old.party.seen) }
+    {
+        let queue: &MpscQueue<T> = &self.queue;
+        let seat = self.right.receipt(&queue.rooms.shared);
+        Receipt { seat }
+    }
+
+    /// Learns a receipt: the party has then seen all that the receipt tells, and what it had seen itself.
+    ///
+    /// # Complexity
+    /// O(1): two loads.
+    ///
+    /// # Waits
+    /// Never.
+    pub fn learn(&mut self, receipt: Receipt<T>)
+        requires { receipt.table ≡ self.old.queue.table }
+        ensures queue { self.new.queue ≡ self.old.queue }
+        ensures learns { Learns receipt.told self.old.party self.new.party }
+    {
+        let queue: &MpscQueue<T> = &self.queue;
+        let Receipt { seat } = receipt;
+        self.right.learn(&queue.rooms.shared, seat);
     }
 
     /// Returns the number of rooms that the party has. Its contract also states what is true of every party, and that

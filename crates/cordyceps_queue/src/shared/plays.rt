@@ -6,6 +6,7 @@ ghost use Rattle.cordyceps_queue.specs.Shared.Uses.{after_reread, after_tie, aft
 ghost use Rattle.cordyceps_queue.specs.Shared.Uses.{after_refill, after_gather, after_glance, after_give_back, after_give_rest};
 ghost use Rattle.cordyceps_queue.specs.Shared.Parting.{after_learn, view_keeping, view_giving};
 ghost use Rattle.cordyceps_queue.specs.Shared.Parting.{view_absorbing, view_absorbed};
+ghost use Rattle.cordyceps_queue.specs.Shared.Telling.{view_as_is, view_telling, view_hearing, after_hear};
 
 use crate::shared::table::{Chosen, SeatView};
 use atomic_table::{Join, Play, Split};
@@ -191,4 +192,29 @@ impl<E> Join<SeatView<E>> for Merge {
     ghost both = { view_absorbing };
 
     ghost spent = { view_absorbed };
+}
+
+/// A split, at which a receipt is made.
+pub(crate) struct Tell;
+
+impl<E> Split<SeatView<E>> for Tell {
+    ghost left = { view_as_is };
+
+    ghost right = { view_telling };
+}
+
+/// A join, at which a receipt is taken in.
+pub(crate) struct Hear;
+
+impl<E> Join<SeatView<E>> for Hear {
+    ghost both = { view_hearing };
+
+    ghost spent = { view_absorbed };
+}
+
+/// A load of the head after a receipt was taken in.
+pub(crate) struct Heard;
+
+impl<E> Play<Option<E>, SeatView<E>> for Heard {
+    ghost then = { after_hear };
 }

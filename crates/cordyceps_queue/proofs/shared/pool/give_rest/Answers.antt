@@ -1,4 +1,4 @@
-use Rattle.std.proofs.Common.{◌≡◌, ◌-◌, ◌≤◌, length, take, drop, List, ◌∷◌, ◌++◌, [], ℕ, sym, ap, ◌∙◌, subst, arith}
+use Rattle.std.proofs.Common.{sym, ap, ◌∙◌, subst, arith}
 use Rattle.cordyceps_shared.specs.FreeChains.{FreeChain, first_rooms, rest_rooms}
 use Rattle.cordyceps_shared.specs.Pools.{Packs}
 use Rattle.cordyceps_shared.proofs.Pools.{fits_left, packs_left}

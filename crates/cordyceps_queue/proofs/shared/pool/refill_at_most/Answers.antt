@@ -1,4 +1,4 @@
-use Rattle.std.proofs.Common.{◌≡◌, ◌-◌, ℕ, sym, ap, subst}
+use Rattle.std.proofs.Common.{◌-◌, ℕ, sym, ap, subst}
 use Rattle.cordyceps_queue.specs.Shared.Parts.{RefillsAtMost}
 use Rattle.cordyceps_queue.specs.Shared.Plays.{SeatState}
 use Rattle.cordyceps_queue.specs.declared.shared.spare.Spare.{Spare}

@@ -1,4 +1,4 @@
-use Rattle.std.proofs.Common.{◌≡◌, ◌≤◌, ◌<◌, ◌+◌, length, arith}
+use Rattle.std.proofs.Common.{◌≤◌, ◌<◌, ◌+◌, length, arith}
 use Rattle.cordyceps_queue.proofs.SharedTheory.PoolJoins.{refilled_to}
 use Rattle.cordyceps_queue.proofs.shared.pool.refill_to.Goals as goal
 

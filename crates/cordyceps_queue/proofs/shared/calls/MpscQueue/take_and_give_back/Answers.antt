@@ -1,4 +1,4 @@
-use Rattle.std.proofs.Common.{◌∙◌, refl}
+use Rattle.std.proofs.Common.{◌∙◌}
 use Rattle.cordyceps_queue.proofs.SharedTheory.GivingAll.{gives_all, never_fails}
 use Rattle.cordyceps_queue.proofs.shared.calls.MpscQueue.take_and_give_back.Goals as goal
 

@@ -1,4 +1,4 @@
-use Rattle.std.proofs.Common.{◌≡◌, ◌≤◌, []}
+use Rattle.std.proofs.Common.{◌≤◌, []}
 use Rattle.cordyceps_queue.specs.Shared.Calls.{Adds}
 use Rattle.cordyceps_queue.proofs.shared.calls.MpscQueue.take_and_give_back_again.Given as goal
 
