@@ -1,4 +1,13 @@
 //! The law of free lists: after any commands each block is in one place.
+//!
+//! The law is separate, over plain lists. `Whereabouts` says where one user's blocks are, and how many rooms its
+//! parties have. `carry_out` shows what each command on the running structure changes of these. `each_once` sums over
+//! all users of a legal history, and `is_of` gives that history where one whole party absorbed all their parties
+//! (`Met`).
+//!
+//! It sums any function of blocks over all places, so it serves blocks of any type, also if they cannot be told apart.
+//! It is stated of one user, over running code and whatever others do, and then of all users, over plain lists, for any
+//! legal history of theirs.
 ghost use Rattle.std.specs.Prelude.{◌≡◌, ◌≤◌, [], ◌∷◌, ◌++◌, map, reverse, List, None, IfOk};
 ghost use Rattle.cordyceps_shared.specs.Histories.{plain};
 ghost use Rattle.cordyceps_shared.specs.Shares.{whole};

@@ -8,7 +8,7 @@ use std::process::Abort;
 use test_support::counted::Drops;
 
 /// How many rooms the stacks have, and how many elements they hold. Up to 262,144 rooms their order is crosswise, in
-/// blocks of 1,024: of the last number four whole blocks, and not the rooms behind these.
+/// blocks of 1,024, 256 and 64: the last stack has four, three and two of these, and eight rooms behind them.
 const ROOMS: [(usize, u64); 4] = [
     (MAX_ROOMS, 12_000),
     (262_145, 12_000),

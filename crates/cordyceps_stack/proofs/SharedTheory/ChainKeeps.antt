@@ -15,21 +15,21 @@ use Rattle.cordyceps_shared.specs.Shares.{Name}
 use Rattle.cordyceps_shared.specs.Slots.{Near}
 use Rattle.cordyceps_shared.specs.Words.{head}
 use Rattle.cordyceps_shared.specs.declared.layout.TheConstants.{HEAD}
-use Rattle.cordyceps_shared.proofs.Choices.{some_or, first_or, rest_from}
+use Rattle.cordyceps_shared.proofs.Choices.{first_or, rest_from}
 use Rattle.cordyceps_shared.proofs.Counting.{tally_append, distinct_few}
 use Rattle.cordyceps_shared.proofs.Places.{times_at}
 use Rattle.cordyceps_shared.proofs.HistoryMarks.{marked_append}
 use Rattle.cordyceps_shared.proofs.Words.{pool_beside_head}
 use Rattle.cordyceps_stack.specs.History.{Event, Load, Push, actor}
 use Rattle.cordyceps_stack.specs.Shared.Calls.{pushes_of}
-use Rattle.cordyceps_stack.specs.Shared.Slots.{Hand, TableStep, start, filled, rooms_of, in_use, in_use_to, all_vacant, AtHome}
+use Rattle.cordyceps_stack.specs.Shared.Slots.{Hand, TableStep, start, filled, rooms_of, in_use, in_use_to, all_vacant, AtHome, link_of}
 use Rattle.cordyceps_stack.specs.Shared.View.{Doing, Idle, LoadedAll, Walking, name, held_rooms, count_with_party}
 use Rattle.cordyceps_stack.specs.Shared.Words.{AtDoing}
 use Rattle.cordyceps_stack.specs.Shared.Rule.{TableState, RuleHolds}
 use Rattle.cordyceps_stack.specs.Shared.Plays.{SeatState, HasHitAll, HasFailedAll, all_then, rooms_then, elements_then, chain_then}
 use Rattle.cordyceps_stack.specs.Shared.Plays as play
 use Rattle.cordyceps_stack.proofs.SharedTheory.SlotMoves.{rooms_to, rooms_vacant, in_use_onto, home_frame, home_append, give_all, ungiven, given_valid, given_carried, given_home, given_long}
-use Rattle.cordyceps_stack.proofs.SharedTheory.StepsKeep.{slot_or, view_after, Passes, head_marked, told, step_keeps, untouched, unwritten, once, chain_stays, pool_stays, others_stay, overtaken}
+use Rattle.cordyceps_stack.proofs.SharedTheory.StepsKeep.{slot_or, element_or, head_few, view_after, Passes, head_marked, told, step_keeps, untouched, unwritten, once, chain_stays, pool_stays, others_stay, overtaken}
 use Rattle.cordyceps_stack.proofs.SharedTheory.WordsKeep.{since_now, rests, loads, pushes_all}
 
 -- the rooms and elements of an exchange, of which the last stand alone, and its word
@@ -62,7 +62,7 @@ module _ {E : Type 0} where
         keeps,
         tt,
         unwritten s HEAD s.homes (set s.views id w) (step_keeps s k id v w s.words s.homes k.chain h (untouched s k id v w at refl (λ e. absurd (named e))) meets refl k.full (k.free id v at) (λ _ _ _ _ _ _. refl) t.fits t.owned),
-        record { doing = refl; free = refl; hand = refl; sees = t.grown },
+        record { doing = refl; free = refl; hand = refl; few = head_few s k slots deep; sees = t.grown },
       )
 
   -- ---- an exchange of head
@@ -164,7 +164,7 @@ module _ {E : Type 0} where
   -- the rooms of slots in hand, with their elements
   used : E → Hand E → List (ℕ × E)
   used d [] = []
-  used d (x ∷ xs) = (x.0, some_or d x.1.item) ∷ used d xs
+  used d (x ∷ xs) = (x.0, element_or d x.1) ∷ used d xs
 
   used_to : (d : E) (xs : List (ℕ × E)) (end : ℕ) → used d (in_use_to xs end) ≡ xs
   unfolding used
@@ -182,7 +182,7 @@ module _ {E : Type 0} where
       let rooms : before ≡ before' = sym (used_to x before (suc r)) ∙ (ap (λ l. used x (rest_from l)) q ∙ used_to x before' (suc r')) in
       let slot = ap (λ l. slot_or (filled x read) l) q in
       let room = ap (λ (l : Hand E). first_or 0 (rooms_of l)) q in
-      subst (TellsAll st.slots me k found) (λ i. record { before = rooms i; room = room i; element = some_or x (slot i).item; read = (slot i).link }) t
+      subst (TellsAll st.slots me k found) (λ i. record { before = rooms i; room = room i; element = element_or x (slot i); read = link_of (slot i) }) t
 
   pub exchanges_all : (slots id new : ℕ) (me : SeatState E) (before : List (ℕ × E)) (r : ℕ) (x : E) (read : ℕ) → new ≡ leads (rooms_of before) (suc r) → PoisedAll slots me before r x read
       → Allows RuleHolds slots id me HEAD (λ n. either (eqb n read) new n) (play.after_exchange_all (step slots HEAD read new none) me)

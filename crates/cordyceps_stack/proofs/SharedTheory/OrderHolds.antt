@@ -1,6 +1,6 @@
 -- The order of a new stack's free rooms has each room once.
-use Rattle.std.proofs.Common.{◌≡◌, ℕ, zero, suc, ◌+◌, ◌*◌, ◌/◌, ◌≤◌, ◌<◌, ◌&&◌, nat_le, true, cond, List, [], ◌∷◌, ◌++◌, map, length, eqb, refl, sym, ap, ◌∙◌, subst, arith, length-append}
-use Rattle.std.proofs.lemmas.Bool.{cond_both, leb-true, and_parts}
+use Rattle.std.proofs.Common.{◌≡◌, ℕ, zero, suc, ◌+◌, ◌*◌, ◌/◌, ◌≤◌, ◌<◌, ◌-◌, Bool, nat_le, true, false, List, [], ◌∷◌, ◌++◌, map, length, eqb, refl, sym, ap, ◌∙◌, subst, arith, length-append}
+use Rattle.std.proofs.lemmas.Bool.{leb-true}
 use mathlib.Core.Logic.{dite}
 use mathlib.Core.Option.{some}
 use lib.ListN.{get_elem?}
@@ -13,33 +13,87 @@ use Rattle.cordyceps_shared.proofs.Choices.{first_or, rest_from}
 use Rattle.cordyceps_shared.proofs.Counting.{one_here, one_else, at_most_one, below_once}
 use Rattle.cordyceps_stack.specs.declared.shared.slot.Slot.{Slot}
 use Rattle.cordyceps_stack.specs.Shared.Slots.{vacant, all_vacant, AtHome}
-use Rattle.cordyceps_stack.specs.Shared.Order.{in_block, across, crosswise, in_order, leads_before}
+use Rattle.cordyceps_stack.specs.Shared.Order.{has_block, across, turned, crosswise, in_order, leads_before}
 
-same_block : (r : ℕ) → across r / 1024 ≡ r / 1024
-same_block r = omega arith
+-- ---- a turn keeps a room in its block, and a second turn brings it back
+twice_32 : (r : ℕ) → across 32 (across 32 r) ≡ r
+twice_32 r = omega arith
 
-across_twice : (r : ℕ) → across (across r) ≡ r
-across_twice r = omega arith
+twice_16 : (r : ℕ) → across 16 (across 16 r) ≡ r
+twice_16 r = omega arith
+
+twice_8 : (r : ℕ) → across 8 (across 8 r) ≡ r
+twice_8 r = omega arith
+
+block_32 : (rooms r : ℕ) → has_block rooms 32 (across 32 r) ≡ has_block rooms 32 r
+block_32 rooms r = let same : across 32 r / 1024 ≡ r / 1024 = omega arith in ap (λ q. nat_le (q * 1024 + 1024) rooms) same
+
+block_16 : (rooms r : ℕ) → (has_block rooms 32 (across 16 r) ≡ has_block rooms 32 r) × (has_block rooms 16 (across 16 r) ≡ has_block rooms 16 r)
+block_16 rooms r =
+    let large : across 16 r / 1024 ≡ r / 1024 = omega arith in let same : across 16 r / 256 ≡ r / 256 = omega arith in
+    (ap (λ q. nat_le (q * 1024 + 1024) rooms) large, ap (λ q. nat_le (q * 256 + 256) rooms) same)
+
+record IsKept (rooms r : ℕ) (q : ℕ) : Type 0 where
+  large : has_block rooms 32 q ≡ has_block rooms 32 r
+  middle : has_block rooms 16 q ≡ has_block rooms 16 r
+  small : has_block rooms 8 q ≡ has_block rooms 8 r
+
+block_8 : (rooms r : ℕ) → IsKept rooms r (across 8 r)
+block_8 rooms r =
+    let large : across 8 r / 1024 ≡ r / 1024 = omega arith in let middle : across 8 r / 256 ≡ r / 256 = omega arith in let same : across 8 r / 64 ≡ r / 64 = omega arith in
+    record { large = ap (λ q. nat_le (q * 1024 + 1024) rooms) large; middle = ap (λ q. nat_le (q * 256 + 256) rooms) middle; small = ap (λ q. nat_le (q * 64 + 64) rooms) same }
+
+turned_back : (rooms r : ℕ) (few large middle small : Bool) → nat_le rooms 262144 ≡ few → has_block rooms 32 r ≡ large → has_block rooms 16 r ≡ middle → has_block rooms 8 r ≡ small
+    → crosswise rooms (turned few large middle small r) ≡ r
+turned_back rooms r false large middle small f l m s = ap (λ b. turned b (has_block rooms 32 r) (has_block rooms 16 r) (has_block rooms 8 r) r) f
+turned_back rooms r true true middle small f l m s =
+    let q = across 32 r in
+    ap (λ b. turned b (has_block rooms 32 q) (has_block rooms 16 q) (has_block rooms 8 q) q) f ∙ ap (λ b. turned true b (has_block rooms 16 q) (has_block rooms 8 q) q) (block_32 rooms r ∙ l) ∙ twice_32 r
+turned_back rooms r true false true small f l m s =
+    let q = across 16 r in let kept = block_16 rooms r in
+    ap (λ b. turned b (has_block rooms 32 q) (has_block rooms 16 q) (has_block rooms 8 q) q) f ∙ ap (λ b. turned true b (has_block rooms 16 q) (has_block rooms 8 q) q) (kept.0 ∙ l)
+    ∙ ap (λ b. turned true false b (has_block rooms 8 q) q) (kept.1 ∙ m) ∙ twice_16 r
+turned_back rooms r true false false true f l m s =
+    let q = across 8 r in let kept = block_8 rooms r in
+    ap (λ b. turned b (has_block rooms 32 q) (has_block rooms 16 q) (has_block rooms 8 q) q) f ∙ ap (λ b. turned true b (has_block rooms 16 q) (has_block rooms 8 q) q) (kept.large ∙ l)
+    ∙ ap (λ b. turned true false b (has_block rooms 8 q) q) (kept.middle ∙ m) ∙ ap (λ b. turned true false false b q) (kept.small ∙ s) ∙ twice_8 r
+turned_back rooms r true false false false f l m s =
+    ap (λ b. turned b (has_block rooms 32 r) (has_block rooms 16 r) (has_block rooms 8 r) r) f ∙ ap (λ b. turned true b (has_block rooms 16 r) (has_block rooms 8 r) r) l
+    ∙ ap (λ b. turned true false b (has_block rooms 8 r) r) m ∙ ap (λ b. turned true false false b r) s
 
 pub crosswise_twice : (rooms r : ℕ) → crosswise rooms (crosswise rooms r) ≡ r
-crosswise_twice rooms r = cond_both (in_block rooms r) (across r) r (λ x. crosswise rooms x ≡ r)
-    (λ e. let still : in_block rooms (across r) ≡ true = ap (λ q. nat_le rooms 262144 && nat_le (q * 1024 + 1024) rooms) (same_block r) ∙ e in
-    ap (λ b. cond b (across (across r)) (across r)) still ∙ across_twice r)
-    (λ e. ap (λ b. cond b (across r) r) e)
+crosswise_twice rooms r = turned_back rooms r (nat_le rooms 262144) (has_block rooms 32 r) (has_block rooms 16 r) (has_block rooms 8 r) refl refl refl refl
+
+turned_inside : (rooms r : ℕ) (few large middle small : Bool) → has_block rooms 32 r ≡ large → has_block rooms 16 r ≡ middle → has_block rooms 8 r ≡ small → r < rooms
+    → turned few large middle small r < rooms
+turned_inside rooms r false large middle small l m s low = low
+turned_inside rooms r true true middle small l m s low = let whole = leb-true (r / 1024 * 1024 + 1024) rooms l in omega arith
+turned_inside rooms r true false true small l m s low = let whole = leb-true (r / 256 * 256 + 256) rooms m in omega arith
+turned_inside rooms r true false false true l m s low = let whole = leb-true (r / 64 * 64 + 64) rooms s in omega arith
+turned_inside rooms r true false false false l m s low = low
 
 pub crosswise_inside : (rooms r : ℕ) → r < rooms → crosswise rooms r < rooms
-crosswise_inside rooms r low = cond_both (in_block rooms r) (across r) r (λ x. x < rooms)
-    (λ e. let whole = leb-true (r / 1024 * 1024 + 1024) rooms (and_parts (nat_le rooms 262144) (nat_le (r / 1024 * 1024 + 1024) rooms) e).1 in omega arith)
-    (λ e. low)
+crosswise_inside rooms r low = turned_inside rooms r (nat_le rooms 262144) (has_block rooms 32 r) (has_block rooms 16 r) (has_block rooms 8 r) refl refl refl low
 
 -- the first place and the last have the first room and the last
 crosswise_first : (rooms : ℕ) → crosswise rooms 0 ≡ 0
-crosswise_first rooms = cond_both (in_block rooms 0) (across 0) 0 (λ x. x ≡ 0) (λ e. omega arith) (λ e. refl)
+crosswise_first rooms = first_turned (nat_le rooms 262144) (has_block rooms 32 0) (has_block rooms 16 0) (has_block rooms 8 0) where
+  first_turned : (few large middle small : Bool) → turned few large middle small 0 ≡ 0
+  first_turned false large middle small = refl
+  first_turned true true middle small = refl
+  first_turned true false true small = refl
+  first_turned true false false true = refl
+  first_turned true false false false = refl
+
+last_turned : (n : ℕ) (few large middle small : Bool) → has_block (suc n) 32 n ≡ large → has_block (suc n) 16 n ≡ middle → has_block (suc n) 8 n ≡ small → turned few large middle small n ≡ n
+last_turned n false large middle small l m s = refl
+last_turned n true true middle small l m s = let whole = leb-true (n / 1024 * 1024 + 1024) (suc n) l in omega arith
+last_turned n true false true small l m s = let whole = leb-true (n / 256 * 256 + 256) (suc n) m in omega arith
+last_turned n true false false true l m s = let whole = leb-true (n / 64 * 64 + 64) (suc n) s in omega arith
+last_turned n true false false false l m s = refl
 
 crosswise_last : (n : ℕ) → crosswise (suc n) n ≡ n
-crosswise_last n = cond_both (in_block (suc n) n) (across n) n (λ x. x ≡ n)
-    (λ e. let whole = leb-true (n / 1024 * 1024 + 1024) (suc n) (and_parts (nat_le (suc n) 262144) (nat_le (n / 1024 * 1024 + 1024) (suc n)) e).1 in omega arith)
-    (λ e. refl)
+crosswise_last n = last_turned n (nat_le (suc n) 262144) (has_block (suc n) 32 n) (has_block (suc n) 16 n) (has_block (suc n) 8 n) refl refl refl
 
 -- ---- the list of the rooms
 pub order_length : (f : ℕ → ℕ) (n : ℕ) → length (map f (below n)) ≡ n
@@ -62,6 +116,10 @@ order_times rooms (suc k) r = omega (arith, one_turns rooms k r, order_times roo
 
 pub order_once : (rooms r : ℕ) → times r (in_order rooms) ≤ 1
 order_once rooms r = omega (arith, order_times rooms rooms r, below_once rooms (crosswise rooms r))
+
+pub leads_one_before : (rooms place : ℕ) → 0 < place → crosswise rooms (place - 1) + 1 ≡ leads_before rooms place
+leads_one_before rooms zero positive = absurd (omega arith)
+leads_one_before rooms (suc k) positive = let here : suc k - 1 ≡ k = omega arith in ap (λ p. crosswise rooms p + 1) here ∙ omega arith
 
 before_leads : (rooms k : ℕ) → leads_before rooms k ≡ leads (map (crosswise rooms) (below k)) 0
 before_leads rooms zero = refl

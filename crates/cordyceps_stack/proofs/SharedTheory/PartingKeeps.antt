@@ -1,5 +1,5 @@
 -- The rule of a transfer stack's table at the start, and where a party is split in two or takes another in.
-use Rattle.std.proofs.Common.{◌≡◌, ◌≢◌, ℕ, List, [], ◌∷◌, ◌++◌, map, length, reverse, set, eqb, refl, sym, ap, ◌∙◌, subst, inl, inr, ⊎_elim, arith, append_assoc, length-append, take, drop, take-append-drop}
+use Rattle.std.proofs.Common.{◌≡◌, ◌≢◌, ◌≤◌, ℕ, List, [], ◌∷◌, ◌++◌, map, length, reverse, set, eqb, refl, sym, ap, ◌∙◌, subst, inl, inr, ⊎_elim, arith, append_assoc, length-append, take, drop, take-append-drop}
 use mathlib.Core.Option.{some, none}
 use lib.ListN.{get_elem?, length-map}
 use Rattle.atomic_table.specs.Table.{opening, Splits, Joins, Allows, step, keeps}
@@ -138,8 +138,8 @@ module _ {E : Type 0} where
         owned = owned_join knows s.views k.history id other v w (view_absorbing v w) view_absorbed at apart there refl refl named k.owned;
       }
 
-  pub learns : (slots id : ℕ) (me : SeatState E) → me.0.doing ≡ Idle → Allows RuleHolds slots id me HEAD (λ n. n) (after_learn (step slots HEAD 0 0 none) me)
-  learns slots id me idle s k deep at fits =
+  pub learns : (slots id : ℕ) (me : SeatState E) → me.0.doing ≡ Idle → length me.0.known.told ≤ length me.0.known.seen → Allows RuleHolds slots id me HEAD (λ n. n) (after_learn (step slots HEAD 0 0 none) me)
+  learns slots id me idle short s k deep at fits =
       let v = me.0 in
       let w = view_without_told v in
       let few = few_rooms s k id v at in
@@ -153,7 +153,7 @@ module _ {E : Type 0} where
         record {
           view_is = refl;
           hand = refl;
-          known = seats.is_known actor knows (λ z. Legal z) legal_front s.views k.history id v k.owned k.fits at k.meets.legal;
+          known = seats.is_known actor knows (λ z. Legal z) legal_front s.views k.history id v k.owned k.fits at k.meets.legal short;
           few = omega arith;
         },
       )

@@ -221,6 +221,19 @@ first_or_none free chain t = by chain.rooms refl
     by [] is = inl is
     by (r ∷ rs) is = inr (t.first r rs is ∙ ap (λ l. leads l chain.end) (sym is))
 
+-- the word that leads to the first free room fits the table; what a party has of its rooms, with a link in its place
+pub first_low : (slots : ℕ) (free : FreeRooms) (chain : FreeChain) → Tracks free chain → Near slots chain.rooms → 0 < free.count → free.first ≤ slots
+first_low slots free chain t near some_of =
+    let (others, rooms, low) = first_room free chain t some_of in
+    let inside = near 0 (free.first - 1) (subst (λ l. ItemAt l 0 (free.first - 1)) (sym rooms) refl) in omega arith
+
+pub tracks_linked : (link : ℕ) (free : FreeRooms) (chain : FreeChain) → (0 < free.count → link ≡ free.first) → Tracks free chain → Tracks record free { first = link } chain
+tracks_linked link free chain same t = record {
+  count = t.count;
+  first = λ r rs e. let long = ap (λ (l : List ℕ). length l) e in let count = t.count in same (omega arith) ∙ t.first r rs e;
+  last = t.last;
+}
+
 pub leads_first : (free : FreeRooms) (chain : FreeChain) (n : ℕ) → Tracks free chain → 0 < free.count → free.first ≡ leads (first_rooms n chain).rooms (first_rooms n chain).end
 leads_first free chain n t some_of =
     let (others, rooms, low) = first_room free chain t some_of in

@@ -18,7 +18,7 @@ use Rattle.cordyceps_shared.specs.Slots.{Near}
 use Rattle.cordyceps_shared.specs.Words.{head}
 use Rattle.cordyceps_shared.specs.Words as word
 use Rattle.cordyceps_shared.specs.declared.layout.TheConstants.{HEAD}
-use Rattle.cordyceps_shared.proofs.Choices.{some_or, first_or, rest_from}
+use Rattle.cordyceps_shared.proofs.Choices.{first_or, rest_from}
 use Rattle.cordyceps_shared.proofs.ChangedItems.{one_set}
 use Rattle.cordyceps_shared.proofs.Counting.{tally_set, tally_one, tally_two, tally_append, tally_cut, one_here, distinct_few}
 use Rattle.cordyceps_shared.proofs.Places.{times_some, times_at}
@@ -27,9 +27,10 @@ use Rattle.cordyceps_shared.proofs.StepEvents.{at_length, owned_same, fits_same,
 use Rattle.cordyceps_shared.proofs.Words.{pool_beside_head}
 use Rattle.cordyceps_shared.proofs.TrackRooms.{last_same}
 use Rattle.cordyceps_stack.specs.declared.shared.slot.Slot.{Slot}
+use Rattle.cordyceps_stack.specs.declared.shared.slot.Slot.TheVariants.{Free, Used}
 use Rattle.cordyceps_stack.specs.History.{Event, Load, Push, Taken, held, Legal, actor, SomeChange}
 use Rattle.cordyceps_stack.specs.Cores.Stages.{room_elements}
-use Rattle.cordyceps_stack.specs.Shared.Slots.{Homes, Hand, TableStep, start, filled, vacant, rooms_of, in_use, all_vacant, AtHome, last_link}
+use Rattle.cordyceps_stack.specs.Shared.Slots.{Homes, Hand, TableStep, start, filled, vacant, rooms_of, in_use, all_vacant, AtHome, last_link, link_of}
 use Rattle.cordyceps_stack.specs.Shared.View.{Doing, Idle, Loaded, Holding, View, knows, name, taking, held_rooms, in_chain, count_with_party, room_count}
 use Rattle.cordyceps_stack.specs.Shared.Words.{History, Since, AtDoing, WordsMeet}
 use Rattle.cordyceps_stack.specs.Shared.Rule.{TableState, RuleHolds}
@@ -53,6 +54,11 @@ read_of d = 0
 abbrev pub slot_or : {A : Type 0} → A → List (ℕ × A) → A
 slot_or d [] = d
 slot_or d (x ∷ xs) = x.1
+
+-- the element in a slot
+abbrev pub element_or : {E : Type 0} → E → Slot E → E
+element_or d (Free link) = d
+element_or d (Used link x) = x
 
 -- lists with one more item at the end
 front_same : (xs ys : List ℕ) (x y : ℕ) → xs ++ x ∷ [] ≡ ys ++ y ∷ [] → xs ≡ ys
@@ -222,6 +228,16 @@ module _ {E : Type 0} where
         },
       )
 
+  -- the word leads to no room outside of the table
+  start_few : (homes : Homes E) (xs : List (ℕ × E)) → AtHome homes (in_use xs) → start xs ≤ length homes
+  start_few homes [] home = omega arith
+  start_few homes (x ∷ xs) home = let low = at_length homes x.0 (some (filled x.1 (start xs))) home.0 in omega arith
+
+  pub head_few : (s : TableState E) (k : RuleHolds s) (slots : ℕ) → length s.homes ≡ slots → head s.words ≤ slots
+  head_few s k slots deep =
+      let low = start_few s.homes k.chain k.full in
+      let top = k.meets.top in omega arith
+
   pub begins : (slots id : ℕ) (me : SeatState E) (r : ℕ) (rs : List ℕ) → me.0.doing ≡ Idle → me.0.free.rooms ≡ r ∷ rs → me.0.known.share ≢ [] → Allows RuleHolds slots id me HEAD (λ n. n) (play.after_begin (step slots HEAD 0 0 none) me)
   begins slots id me r rs idle free named s k deep at fits =
       let v = me.0 in
@@ -263,6 +279,7 @@ module _ {E : Type 0} where
               free = refl;
               hand = refl;
               inside = let low = at_length s.homes r (some slot) home.0 in omega arith;
+              few = head_few s k slots deep;
               sees = t.grown;
             },
       )
@@ -284,6 +301,7 @@ module _ {E : Type 0} where
           doing = ap (λ p. let d : Doing E = Loaded (room_of p) read in d) (sym ready ∙ ready');
           free = refl;
           hand = refl;
+          few = head_few s k slots deep;
           sees = t.grown;
         },
       )
@@ -394,7 +412,7 @@ module _ {E : Type 0} where
   says st slots me k r read found x poised t r' read' x' doing hand =
       let p = sym poised.doing ∙ doing in
       let q = sym poised.hand ∙ hand in
-      subst (Tells me k found) (λ i. record { room = ap room_of p i; read = ap read_of p i; element = ap (λ l. some_or x (slot_or (filled x read) l).item) q i }) t
+      subst (Tells me k found) (λ i. record { room = ap room_of p i; read = ap read_of p i; element = ap (λ l. element_or x (slot_or (filled x read) l)) q i }) t
 
   pub exchanges : (slots id new : ℕ) (me : SeatState E) (r read : ℕ) (x : E) → new ≡ suc r → Poised slots me r read x
       → Allows RuleHolds slots id me HEAD (λ n. either (eqb n read) new n) (play.after_exchange (step slots HEAD read new none) me)
@@ -584,6 +602,6 @@ module _ {E : Type 0} where
         kept,
         λ r' link' doing' hand'.
             let one = ap room_of (sym doing ∙ doing') in
-            let to = ap (λ l. (slot_or (vacant link) l).link) (sym hand ∙ hand') in
+            let to = ap (λ l. link_of (slot_or (vacant link) l)) (sym hand ∙ hand') in
             subst (λ (p : ℕ × ℕ). (w ≡ (let u : View E = record v { doing = Idle; free = with_last p.0 p.1 v.free } in u)) × (carried_after me.1 (give_all me.1) ≡ [])) (λ i. (one i, to i)) (refl, given_carried me.1),
       )

@@ -49,20 +49,22 @@ module _ {E : Type 0} where
     pub free : (view k).free ≡ record { rooms = rs; end = (view m).free.end }
     pub hand : hand k ≡ (r, vacant (leads rs (view m).free.end)) ∷ hand m
     pub inside : r < slots
+    pub few : read ≤ slots
     pub sees : Sees (view m) (Load (name (view m)) ∷ []) (view k)
 
   abbrev pub after_begin : TableStep E → SeatState E → ℕ → SeatState E → Type 0
   after_begin st m read k = (r : ℕ) (rs : List ℕ) → (view m).free.rooms ≡ r ∷ rs → IsBegun st.slots r rs read m k
 
   -- a load by a party that tries again, and then does this
-  pub record HasLoaded (does : Doing E) (m k : SeatState E) : Type 0 where
+  pub record HasLoaded (slots read : ℕ) (does : Doing E) (m k : SeatState E) : Type 0 where
     pub doing : (view k).doing ≡ does
     pub free : (view k).free ≡ (view m).free
     pub hand : hand k ≡ hand m
+    pub few : read ≤ slots
     pub sees : Sees (view m) (Load (name (view m)) ∷ []) (view k)
 
   abbrev pub after_load : TableStep E → SeatState E → ℕ → SeatState E → Type 0
-  after_load st m read k = (r : ℕ) → (view m).doing ≡ Holding (r ∷ []) → HasLoaded (Loaded r read) m k
+  after_load st m read k = (r : ℕ) → (view m).doing ≡ Holding (r ∷ []) → HasLoaded st.slots read (Loaded r read) m k
 
   -- a compare-exchange: it pushed what is in the slot in hand, which goes back, or another came between
   pub record HasHit (x : E) (found : ℕ) (m k : SeatState E) : Type 0 where
@@ -86,7 +88,7 @@ module _ {E : Type 0} where
 
   -- a load by a party that has the slots of several rooms in hand, and pushes with all of them
   abbrev pub after_load_all : TableStep E → SeatState E → ℕ → SeatState E → Type 0
-  after_load_all st m read k = HasLoaded (LoadedAll (held_rooms (view m).doing) read) m k
+  after_load_all st m read k = HasLoaded st.slots read (LoadedAll (held_rooms (view m).doing) read) m k
 
   -- rooms in use before one more; all of these rooms; and the elements in them
   abbrev pub all_then : List (ℕ × E) → ℕ → E → List (ℕ × E)

@@ -1,12 +1,13 @@
 -- The slots of a transfer stack's table. Each has its room's link, and the element of a room in use.
 -- A link, like the word head, is 0 for null, or 1 more than a room.
-use Rattle.std.specs.Prelude.{◌≡◌, ◌<◌, ℕ, zero, suc, List, [], ◌∷◌, length, map, Some, None}
+use Rattle.std.specs.Prelude.{◌≡◌, ◌<◌, ℕ, zero, suc, List, [], ◌∷◌, length, map}
 use mathlib.Core.Option.{some}
 use mathlib.Core.Option as maybe
 use lib.ListN.{get_elem?}
 use Rattle.atomic_table.specs.Table.{Step, Me}
 use Rattle.cordyceps_shared.specs.FreeChains.{leads}
 use Rattle.cordyceps_stack.specs.declared.shared.slot.Slot.{Slot}
+use Rattle.cordyceps_stack.specs.declared.shared.slot.Slot.TheVariants.{Free, Used}
 use Rattle.cordyceps_stack.specs.Shared.Order.{crosswise, leads_before}
 
 -- the slots: what is in each that is at home, which is with the table, and not with a seat
@@ -49,10 +50,19 @@ link_or (suc r) other = suc r
 module _ {E : Type 0} where
   -- the slot of a room in use, and of a free one, with its link
   abbrev pub filled : E → ℕ → Slot E
-  filled x link = record { link = link; item = Some x }
+  filled x link = Used link x
 
   abbrev pub vacant : ℕ → Slot E
-  vacant link = record { link = link; item = None }
+  vacant link = Free link
+
+  -- a slot's link, and the slot with another link
+  abbrev pub link_of : Slot E → ℕ
+  link_of (Free link) = link
+  link_of (Used link x) = link
+
+  abbrev pub linked_to : ℕ → Slot E → Slot E
+  linked_to to (Free link) = Free to
+  linked_to to (Used link x) = Used to x
 
   -- the slots of a chain of rooms in use: each room leads to the next, and the last to null
   abbrev pub in_use : List (ℕ × E) → Hand E
@@ -77,7 +87,7 @@ module _ {E : Type 0} where
   -- the last slot's link
   abbrev pub last_link : Hand E → ℕ
   last_link [] = 0
-  last_link (x ∷ []) = x.1.link
+  last_link (x ∷ []) = link_of x.1
   last_link (x ∷ y ∷ ys) = last_link (y ∷ ys)
 
   -- the slots of a new stack, all of whose rooms are free, in order

@@ -7,17 +7,19 @@ ghost use Rattle.cordyceps_stack.specs.Shared.Batches.{in_order, with_next};
 ghost use Rattle.cordyceps_stack.specs.Shared.Plays.{to_hand_out};
 ghost use Rattle.cordyceps_stack.specs.Shared.Slots.{Hand, view, hand, filled, vacant, link_or};
 
-use crate::shared::parting::put_in_front;
+use crate::shared::parting::{link_to_first, put_in_front};
 use crate::shared::plays::Return;
+use crate::shared::slot::Slot;
 use crate::shared::table::{PartySeat, QUIET, Words};
 use cordyceps_base::linked::Linked;
 use cordyceps_base::stack::Links;
 use cordyceps_shared::free::FreeRooms;
 use cordyceps_single::stack::{Stack, put_last};
+use std::mem;
 
 /// Takes the element out of the first slot in hand, which is this room's, and turns to the next slot. Returns the
 /// element, and the link that the room had. If it led to no room, it leads to `after` now.
-fn empty<E: Drop>(words: &Words<E>, seat: &mut PartySeat<E>, room: usize, after: u64) -> (E, u64)
+fn empty<E: Drop>(words: &Words<E>, seat: &mut PartySeat<E>, room: usize, after: u32) -> (E, u64)
     requires table { IsSeatOf seat.old.table_id words.now.table_id }
     requires filled { (x : E) × (link : ℕ) × (others : Hand E)
         × (hand seat.old.me ≡ (room, filled x link) ∷ others) }
@@ -28,14 +30,17 @@ fn empty<E: Drop>(words: &Words<E>, seat: &mut PartySeat<E>, room: usize, after:
         × (seat.new.me ≡ (view seat.old.me, others ++ (room, vacant (link_or link after)) ∷ [])) }
 {
     let slot = seat.slot_mut(words, room);
-    let link = slot.link;
+    let link = slot.link();
+    let taken = mem::replace(slot, Slot::Free { link });
+    // so that no link is written but the last
     if link == 0 {
-        slot.link = after;
+        slot.set_link(after);
     }
-    let item = slot.item.take();
     seat.turn();
-    let Some(item) = item else { unreachable!() };
-    (item, link)
+    let Slot::Used { item, .. } = taken else {
+        unreachable!()
+    };
+    (item, link as u64)
 }
 
 /// Adds an element at the front of a batch if that is to have the oldest first, and at its back otherwise.
@@ -71,12 +76,13 @@ pub(crate) fn hand_out<T: Linked<Links<T>>, const OLDEST_FIRST: bool>(
         return batch;
     }
     let first = at;
+    let after = link_to_first(free);
     let mut last = 0;
     let mut count = 0;
     let mut at = at;
     while at != 0 {
         last = at as usize - 1;
-        let (item, below) = empty(words, seat, last, free.first);
+        let (item, below) = empty(words, seat, last, after);
         add::<T, OLDEST_FIRST>(&mut batch, item);
         count += 1;
         at = below;

@@ -150,7 +150,8 @@ impl<T: Linked<Links<T>>> TransferStack<T> {
     /// If memory is refused, it returns `AllocError`, and nothing is kept.
     ///
     /// # Complexity
-    /// O(`rooms`), with three allocations, of which it frees one.
+    /// O(`rooms`), with three allocations, of which it frees one. With a handle of one word, it takes at most 384 bytes
+    /// and 32 for each room while it runs, and keeps 384 and 16 for each room.
     pub fn new(alloc: Global, rooms: usize) -> Result<(TransferStack<T>, Party<T>), AllocError>
         requires { rooms ≤ MAX_ROOMS }
         ensures { IfOk result (λ made. (made.1 ≡ new_party made.0 rooms) × (made.0.slots ≡ rooms)) }

@@ -9,6 +9,7 @@ ghost use Rattle.cordyceps_stack.specs.Shared.Slots.{Hand, view, hand, filled, v
 
 use crate::shared::batch::hand_out;
 use crate::shared::plays::{ExchangeAll, Hold, LoadAll};
+use crate::shared::slot::Slot;
 use crate::shared::steps::{is_empty, pause, relink};
 use crate::shared::table::{PartySeat, QUIET, Words};
 use cordyceps_base::linked::Linked;
@@ -46,9 +47,9 @@ fn put<E: Drop>(words: &Words<E>, seat: &mut PartySeat<E>, room: usize, item: E)
         → (result ≡ link) × (seat.new.me ≡ (view seat.old.me, (room, filled item link) ∷ others)) }
 {
     let slot = seat.slot_mut(words, room);
-    let link = slot.link;
-    mem::forget(slot.item.replace(item));
-    link
+    let link = slot.link();
+    mem::forget(mem::replace(slot, Slot::Used { link, item }));
+    link as u64
 }
 
 /// Moves an element and the others into the slots of the first free rooms, which stay in hand. Their links lead from

@@ -12,8 +12,8 @@ use cordyceps_single::stack::Stack;
 use std::marker::Model;
 
 /// The receiver of a shared stack that serves as a queue: it takes all that others pushed at once, and hands it out one
-/// by one, the one that was pushed first at first. A contract sees the elements that were taken and not handed out yet,
-/// in this order, and the party.
+/// by one, in the order in which it was pushed. A contract sees the elements that were taken and not handed out yet, in
+/// this order, and the party.
 ///
 /// A push onto the stack costs one compare-exchange, and an element that is received a share of one swap, where an
 /// `MpscQueue` takes two exchanges for an element. In return a push can be overtaken by another and tries again, and

@@ -2,6 +2,7 @@
 ghost use Rattle.std.specs.Prelude.{◌≡◌, ◌<◌, ◌≤◌, ◌+◌, ◌^◌, ℕ, suc, List, [], ◌∷◌, ◌++◌, take, drop, IfOk};
 ghost use Rattle.cordyceps_shared.specs.FreeChains.{joined, IsTied, MayJoin, Tracks};
 ghost use Rattle.cordyceps_shared.specs.Knowing.{IsKnown};
+ghost use Rattle.cordyceps_shared.specs.Slots.{Near};
 ghost use Rattle.cordyceps_stack.specs.History.{Legal};
 ghost use Rattle.cordyceps_stack.specs.Shared.Parting.{view_keeping, view_giving, view_absorbing};
 ghost use Rattle.cordyceps_stack.specs.Shared.Parts.{IsSeatOf, HoldsFirst, Relinked, HasAbsorbed};
@@ -21,35 +22,55 @@ use cordyceps_shared::layout::HEAD;
 use std::alloc::{AllocError, Global};
 use std::marker::Brand;
 
-/// The number of rows of a block, and of its columns.
-const SIDE: usize = 32;
-
-/// The number of rooms of a block.
-const BLOCK: usize = SIDE * SIDE;
-
 /// The greatest number of rooms of a stack whose rooms are in crosswise order.
 const MAX_CROSSWISE: usize = 1 << 18;
+
+/// Returns whether a stack has the whole block of `side` rows and columns that a room is in.
+fn has_block(rooms: usize, side: usize, room: usize) -> bool
+    requires { (room < rooms) × (rooms ≤ MAX_CROSSWISE) × (0 < side) × (side ≤ 32) }
+    ensures { result ≡ spec.has_block rooms side room }
+{
+    let block = side * side;
+    room / block * block + block <= rooms
+}
+
+/// Returns the room whose row in the block is this one's column, and whose column is its row.
+fn across(side: usize, room: usize) -> usize
+    requires { (room < MAX_CROSSWISE) × (0 < side) × (side ≤ 32) }
+    ensures { result ≡ spec.across side room }
+{
+    let block = side * side;
+    let (row, column) = (room % block / side, room % block % side);
+    room / block * block + column * side + row
+}
 
 /// Returns the room at a place of the order in which a new stack's rooms are used, the last place first. The function
 /// is its own inverse: it also returns the place of a room.
 ///
 /// The order is by blocks of rooms, whose rows become columns. So rooms that are used one after another are 32 rooms
 /// apart, and in different cache lines. Next to each other, a push and the walk of a taker would take the same line
-/// from each other at each element. In a stack of more rooms the order costs one thread more than it is worth.
+/// from each other at each element. The rooms behind the last whole block of 32 rows are in blocks of 16 and of 8 rows,
+/// and less than 64 of them in no block. In a stack of more than `MAX_CROSSWISE` rooms the order costs one thread more
+/// than it is worth.
 fn crosswise(rooms: usize, place: usize) -> usize
     requires { (place < rooms) × (rooms ≤ MAX_ROOMS) }
     ensures { result ≡ spec.crosswise rooms place }
 {
-    let block = place / BLOCK * BLOCK;
-    if rooms <= MAX_CROSSWISE && block + BLOCK <= rooms {
-        block + place % BLOCK % SIDE * SIDE + place % BLOCK / SIDE
+    if rooms > MAX_CROSSWISE {
+        place
+    } else if has_block(rooms, 32, place) {
+        across(32, place)
+    } else if has_block(rooms, 16, place) {
+        across(16, place)
+    } else if has_block(rooms, 8, place) {
+        across(8, place)
     } else {
         place
     }
 }
 
 /// Returns the link of a room of a new stack, which leads to the room at the place before.
-fn first_link(rooms: usize, room: usize) -> u64
+fn first_link(rooms: usize, room: usize) -> u32
     requires { (room < rooms) × (rooms ≤ MAX_ROOMS) }
     ensures { result ≡ leads_before rooms (spec.crosswise rooms room) }
 {
@@ -57,7 +78,7 @@ fn first_link(rooms: usize, room: usize) -> u64
     if place == 0 {
         return 0;
     }
-    crosswise(rooms, place - 1) as u64 + 1
+    crosswise(rooms, place - 1) as u32 + 1
 }
 
 /// Creates the slots of an empty stack with `rooms` rooms. The link of each leads to the room at the place before.
@@ -67,9 +88,8 @@ fn slots<E>(alloc: Global, rooms: usize) -> Result<Vec<Slot<E>>, AllocError>
 {
     let mut slots = Vec::with_capacity(alloc, rooms)?;
     for room in 0..rooms {
-        slots.push_reserved(Slot {
+        slots.push_reserved(Slot::Free {
             link: first_link(rooms, room),
-            item: None,
         });
     }
     Ok(slots)
@@ -119,9 +139,9 @@ fn next<E: Drop>(words: &Words<E>, seat: &mut PartySeat<E>, room: usize) -> u64
     ensures turned { (link : ℕ) → (others : Hand E) → hand seat.old.me ≡ (room, vacant link) ∷ others
         → (result ≡ link) × (seat.new.me ≡ (view seat.old.me, others ++ (room, vacant link) ∷ [])) }
 {
-    let link = seat.slot_mut(words, room).link;
+    let link = seat.slot_mut(words, room).link();
     seat.turn();
-    link
+    link as u64
 }
 
 /// Returns the word that leads to the free room after the first `rooms`, and the last of these. Where these are all, no
@@ -180,15 +200,27 @@ pub(crate) fn split<E: Drop>(
     (cut::<E, Brand>(words, seat, rooms), given)
 }
 
+/// Returns a link to the first free room, or 0 if there is none.
+pub(crate) fn link_to_first(free: &FreeRooms) -> u32
+    requires { 0 < free.now.count → free.now.first ≤ MAX_ROOMS }
+    ensures { 0 < free.now.count → result ≡ free.now.first }
+{
+    if free.count == 0 {
+        0
+    } else {
+        free.first as u32
+    }
+}
+
 /// Links a free room, whose slot is the first in hand, to the room that `at` leads to.
-pub(crate) fn lead<E: Drop>(words: &Words<E>, seat: &mut PartySeat<E>, room: usize, at: u64)
+pub(crate) fn lead<E: Drop>(words: &Words<E>, seat: &mut PartySeat<E>, room: usize, at: u32)
     requires table { IsSeatOf seat.old.table_id words.now.table_id }
     requires vacant { (link : ℕ) × (others : Hand E) × (hand seat.old.me ≡ (room, vacant link) ∷ others) }
     ensures table { seat.new.table_id ≡ seat.old.table_id }
     ensures leads { (link : ℕ) → (others : Hand E) → hand seat.old.me ≡ (room, vacant link) ∷ others
         → seat.new.me ≡ (view seat.old.me, (room, vacant at) ∷ others) }
 {
-    seat.slot_mut(words, room).link = at;
+    seat.slot_mut(words, room).set_link(at);
 }
 
 /// Puts rooms in front of the free ones. The last of them leads to the first of these.
@@ -210,6 +242,7 @@ pub(crate) fn put_in_front(free: &mut FreeRooms, front: FreeRooms)
 /// becomes the first.
 fn tie<E: Drop>(words: &Words<E>, seat: &mut PartySeat<E>, free: &mut FreeRooms, at: u64)
     requires table { IsSeatOf seat.old.table_id words.now.table_id }
+    requires few { at ≤ words.now.table_id.slots }
     requires rest { IsResting words.now.table_id.slots seat.old.me }
     requires tracks { Tracks free.old (view seat.old.me).free }
     ensures table { seat.new.table_id ≡ seat.old.table_id }
@@ -221,7 +254,7 @@ fn tie<E: Drop>(words: &Words<E>, seat: &mut PartySeat<E>, free: &mut FreeRooms,
         free.first = at;
     } else {
         words.load::<HoldLast>(seat, QUIET);
-        lead(words, seat, free.last, at);
+        lead(words, seat, free.last, at as u32);
         words.load::<Append>(seat, QUIET);
     }
 }
@@ -236,6 +269,7 @@ fn append<E: Drop>(
 )
     requires table { IsSeatOf seat.old.table_id words.now.table_id }
     requires rest { IsResting words.now.table_id.slots seat.old.me }
+    requires near { Near words.now.table_id.slots (view _seat.now.me).free.rooms }
     requires tracks { Tracks free.old (view seat.old.me).free × Tracks other (view _seat.now.me).free }
     ensures table { seat.new.table_id ≡ seat.old.table_id }
     ensures same { Relinked seat.old.me seat.new.me }

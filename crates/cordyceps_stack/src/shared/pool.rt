@@ -7,7 +7,7 @@ ghost use Rattle.cordyceps_stack.specs.Shared.Parts.{GivesRest, RefillsTo, Refil
 ghost use Rattle.cordyceps_stack.specs.Shared.Plays.{IsResting, FindsPool, LacksRooms, Sees};
 ghost use Rattle.cordyceps_stack.specs.Shared.Slots.{view};
 
-use crate::shared::parting::{lead, pass, put_in_front};
+use crate::shared::parting::{lead, link_to_first, pass, put_in_front};
 use crate::shared::plays::{GiveBack, GiveRest, Glance, Refill, Return};
 use crate::shared::table::{PartySeat, QUIET, Words};
 use cordyceps_shared::free::{Count, FreeRooms};
@@ -46,7 +46,7 @@ pub(crate) fn refill<E: Drop>(
         return 0;
     }
     let taken = unpack(found);
-    lead(words, seat, taken.last, free.first);
+    lead(words, seat, taken.last, link_to_first(free));
     seat.turn();
     words.load::<Return>(seat, QUIET);
     put_in_front(free, taken);

@@ -1,5 +1,5 @@
 //! The atomic steps of a shared stack on its head. Each function is a part of a call.
-ghost use Rattle.std.specs.Prelude.{◌≡◌, ◌≢◌, ◌<◌, ℕ, suc, List, [], ◌∷◌, MatchResult, MatchOption, IsTrue};
+ghost use Rattle.std.specs.Prelude.{◌≡◌, ◌≢◌, ◌<◌, ◌≤◌, ℕ, suc, List, [], ◌∷◌, MatchResult, MatchOption, IsTrue};
 ghost use Rattle.cordyceps_shared.specs.FreeChains.{Tracks, leads, with_first};
 ghost use Rattle.cordyceps_stack.specs.Shared.Parts.{IsSeatOf, Settled, HasMissed, HasPushed, SettlesAt, TookAll};
 ghost use Rattle.cordyceps_stack.specs.Shared.Parts.{HasTried};
@@ -17,7 +17,6 @@ use crate::shared::table::{PartySeat, QUIET, Words};
 use cordyceps_shared::free::FreeRooms;
 use cordyceps_shared::layout::HEAD;
 use crossbeam_utils::Backoff;
-use std::mem;
 use std::sync::Wait;
 
 /// Reads the head, and takes the slot of the first free room.
@@ -33,36 +32,36 @@ fn begin<E: Drop>(words: &Words<E>, seat: &mut PartySeat<E>, _room: usize) -> u6
 }
 
 /// Fills the slot of the room, and links the room to what was read. Returns the link that the room had. The slot has no
-/// element before, so nothing has to be dropped, and its element is not read.
-fn fill<E: Drop>(words: &Words<E>, seat: &mut PartySeat<E>, room: usize, read: u64, item: E) -> u64
+/// element before, so nothing has to be dropped.
+fn fill<E: Drop>(words: &Words<E>, seat: &mut PartySeat<E>, room: usize, read: u64, item: E) -> u32
     requires table { IsSeatOf seat.old.table_id words.now.table_id }
+    requires few { read ≤ words.now.table_id.slots }
     requires vacant { (link : ℕ) × (hand seat.old.me ≡ (room, vacant link) ∷ []) }
     ensures table { seat.new.table_id ≡ seat.old.table_id }
     ensures had { hand seat.old.me ≡ (room, vacant result) ∷ [] }
     ensures fills { seat.new.me ≡ (view seat.old.me, (room, filled item read) ∷ []) }
 {
-    let Slot { link, item } = words.exchange(
-        seat,
-        room,
-        Slot {
-            link: read,
-            item: Some(item),
-        },
-    );
-    mem::forget(item);
+    let filled = Slot::Used {
+        link: read as u32,
+        item,
+    };
+    let Slot::Free { link } = words.exchange(seat, room, filled) else {
+        unreachable!()
+    };
     link
 }
 
 /// Links the room, whose slot is the first in hand, to what was read.
 pub(crate) fn relink<E: Drop>(words: &Words<E>, seat: &mut PartySeat<E>, room: usize, read: u64)
     requires table { IsSeatOf seat.old.table_id words.now.table_id }
+    requires few { read ≤ words.now.table_id.slots }
     requires filled { (x : E) × (link : ℕ) × (others : Hand E)
         × (hand seat.old.me ≡ (room, filled x link) ∷ others) }
     ensures table { seat.new.table_id ≡ seat.old.table_id }
     ensures links { (x : E) → (link : ℕ) → (others : Hand E) → hand seat.old.me ≡ (room, filled x link) ∷ others
         → seat.new.me ≡ (view seat.old.me, (room, filled x read) ∷ others) }
 {
-    seat.slot_mut(words, room).link = read;
+    seat.slot_mut(words, room).set_link(read as u32);
 }
 
 /// Reads the head, for another try.
@@ -71,6 +70,7 @@ fn load<E: Drop>(words: &Words<E>, seat: &mut PartySeat<E>, _room: usize) -> u64
     requires ready { (x : E) × IsReady words.now.table_id.slots _room x seat.old.me }
     ensures table { seat.new.table_id ≡ seat.old.table_id }
     ensures doing { (view seat.new.me).doing ≡ doing.Loaded _room result }
+    ensures few { result ≤ words.now.table_id.slots }
     ensures same { ((view seat.new.me).free ≡ (view seat.old.me).free) × (hand seat.new.me ≡ hand seat.old.me) }
     ensures sees { Sees (view seat.old.me) (event.Load (name (view seat.old.me)) ∷ []) (view seat.new.me) }
 {
@@ -117,7 +117,7 @@ fn first_attempt<E: Drop>(
     seat: &mut PartySeat<E>,
     room: usize,
     item: E,
-) -> (u64, Option<bool>)
+) -> (u32, Option<bool>)
     requires table { IsSeatOf seat.old.table_id words.now.table_id }
     requires rest { IsResting words.now.table_id.slots seat.old.me }
     requires room { (rs : List ℕ) × ((view seat.old.me).free.rooms ≡ room ∷ rs) }
@@ -135,7 +135,7 @@ fn first_attempt<E: Drop>(
 }
 
 /// Empties the slot in hand and returns it. The room is the first free one again, and `next` leads to the one after it.
-fn back_out<E: Drop>(words: &Words<E>, seat: &mut PartySeat<E>, room: usize, next: u64) -> E
+fn back_out<E: Drop>(words: &Words<E>, seat: &mut PartySeat<E>, room: usize, next: u32) -> E
     requires table { IsSeatOf seat.old.table_id words.now.table_id }
     requires ready { (x : E) × IsReady words.now.table_id.slots room x seat.old.me }
     requires next { next ≡ leads (view seat.old.me).free.rooms (view seat.old.me).free.end }
@@ -144,16 +144,11 @@ fn back_out<E: Drop>(words: &Words<E>, seat: &mut PartySeat<E>, room: usize, nex
     ensures seat { let old = view seat.old.me in
         seat.new.me ≡ (record old { doing = Idle; free = with_first room old.free }, []) }
 {
-    let Slot { item, .. } = words.exchange(
-        seat,
-        room,
-        Slot {
-            link: next,
-            item: None,
-        },
-    );
+    let vacant = Slot::Free { link: next };
+    let Slot::Used { item, .. } = words.exchange(seat, room, vacant) else {
+        unreachable!()
+    };
     words.load::<Return>(seat, QUIET);
-    let Some(item) = item else { unreachable!() };
     item
 }
 
@@ -177,7 +172,7 @@ pub(crate) fn try_push<E: Drop>(
     let room = free.first as usize - 1;
     match first_attempt(words, seat, room, item) {
         (next, Some(first)) => {
-            free.first = next;
+            free.first = next as u64;
             free.count -= 1;
             Ok(first)
         }
@@ -241,7 +236,7 @@ pub(crate) fn push<E: Drop, R: Wait>(
 {
     let room = free.first as usize - 1;
     let (next, first) = first_attempt(words, seat, room, item);
-    free.first = next;
+    free.first = next as u64;
     free.count -= 1;
     match first {
         Some(first) => first,

@@ -10,7 +10,7 @@ abbrev pub invariant-loop-at : goal.invariant-loop-at
 invariant-loop-at g l =
     let all = to_hand_out l.initial.seat.me.0.doing in
     (l.seat.table_id ≡ l.initial.seat.table_id)
-    × ((h : HandsOut l.at l.initial.free.first l.last l.count all l.initial.seat.me l.seat.me)
+    × ((h : HandsOut l.at l.after l.last l.count all l.initial.seat.me l.seat.me)
     × (filled_up (not (eqb g.row.OLDEST_FIRST 0)) l.batch (map g.T.Linked.element (room_elements h.left)) ≡ in_order (not (eqb g.row.OLDEST_FIRST 0)) (map g.T.Linked.element (room_elements all))))
 
 abbrev pub decreases-loop-at : goal.decreases-loop-at

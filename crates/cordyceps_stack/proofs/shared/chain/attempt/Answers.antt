@@ -10,6 +10,9 @@ use Rattle.cordyceps_stack.proofs.shared.chain.attempt.Goals as goal
 pub load-read-requires : goal.load-read-requires
 load-read-requires g c = let (before, x, ready) = c.requires.ready in (search rules, search rules, loads_all _ _ _ ready.named)
 
+pub relink-requires-clause-few : goal.relink-requires-clause-few
+relink-requires-clause-few g c = (told c.load-read.ensures).few
+
 pub relink-requires-clause-filled : goal.relink-requires-clause-filled
 relink-requires-clause-filled g c =
     let (before, x, ready) = c.requires.ready in

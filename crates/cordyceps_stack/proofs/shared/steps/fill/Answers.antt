@@ -3,7 +3,7 @@ use Rattle.atomic_table.specs.Table.{rest}
 use Rattle.cordyceps_stack.specs.Shared.Slots.{vacant}
 use Rattle.cordyceps_stack.proofs.shared.steps.fill.Goals as goal
 
-pub exchange-link-requires : goal.exchange-link-requires
-exchange-link-requires g c =
+pub exchange-requires : goal.exchange-requires
+exchange-requires g c =
     let v = c.requires.vacant in
     (search rules, (vacant v.0, v.1 ∙ ap (λ l. (c.args.room, vacant v.0) ∷ rest l) (sym v.1)))

@@ -13,6 +13,9 @@ fill-next-requires-clause-vacant g c =
     let link = leads r.0 c.args.seat.now.me.0.free.end in
     (link, b.hand ∙ ap (λ l. (c.args.room, vacant link) ∷ l) c.requires.rest.empty)
 
+pub fill-next-requires-clause-few : goal.fill-next-requires-clause-few
+fill-next-requires-clause-few g c = let r = c.requires.room in (c.begin-read.ensures.begun r.0 r.1).few
+
 pub settle-requires-clause-filled : goal.settle-requires-clause-filled
 settle-requires-clause-filled g c = (c.args.item, ap (λ m. m.1) c.fill-next.ensures.fills)
 

@@ -17,8 +17,8 @@ module _ {T H : Type 0} (element : H → Element T) where
 pub returns-clause-popped : goal.returns-clause-popped
 returns-clause-popped g c =
     let element = g.T.Linked.element in
-    let t = c.take_all_in_order.ensures in
+    let (batch, same, took) = c.take_all_in_order.ensures in
     let none = nil_from_length c.self.inside.taken (first_of (search rules, grind (arith, common_steps))) in
     let after : InboxOf g.row.T.Denot g.row.T-Handle.Denot = record { taken = c.pop-2.new.self; party = c.take_all_in_order.new.party } in
     subst (λ before. ReceivesFrom element before.taken before.party c.pop-2.result after) c.self.view_is
-    (received element (record { taken = c.self.inside.taken; party = c.self.inside.party }) after c.take_all_in_order.result t.0 c.pop-2.result none t.1 t.2 c.pop-2.ensures)
+    (received element (record { taken = c.self.inside.taken; party = c.self.inside.party }) after c.take_all_in_order.result batch c.pop-2.result none same took c.pop-2.ensures)
