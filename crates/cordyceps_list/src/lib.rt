@@ -1,4 +1,20 @@
-//! Doubly linked lists of owned nodes.
+//! Doubly linked lists of owned nodes, with iterators, cursors and a filter.
+//!
+//! Take a `List` where elements come and go at the ends, or at the place of a cursor. Where an element leaves or moves
+//! at any time, from wherever it is, take a `StableList` of `cordyceps_stable`.
+//!
+//! A list is a double chain and two fingers (`finger`). A `CursorMut` and an `IterMut` are guards: the contract of
+//! their `Drop` says that the list has the guard's elements. A `CursorMut` takes the nodes out of its list until it is
+//! dropped (`owned`). An `IterMut` borrows its list, keeps places as numbers, and finds nodes by the fingers; with an
+//! address or a borrowed chain its caller would not know the list afterwards. A `Cursor` and an `Iter` read alone, and
+//! have the address of their node. A `DrainFilter` has a place, a list and a predicate.
+//!
+//! Proved: that each call does what it does on a plain sequence, at all lengths; how many links a split follows, by
+//! `try_split_off_in`. Only tested: that steps of a guard take few moves, and that a drop leaves no node.
+//!
+//! A list takes 56 bytes, 32 of them for the fingers, and a node 32 bytes and its value. Calls at the ends and at a
+//! cursor are O(1), but for `remove_first`. `split_off` walks from the nearer end, and `remove`, which takes a number,
+//! from the front.
 #![tactic(auto)]
 
 pub mod cursor;
@@ -9,3 +25,4 @@ pub mod iter;
 pub mod iter_mut;
 pub mod laws;
 pub mod list;
+mod owned;
