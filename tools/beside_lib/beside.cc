@@ -1,13 +1,13 @@
 // Measures peers of the library's collections, on the rows of cordyceps_speed. A program that is built with OF_BORDER
 // measures the calls of the library for C and their peers.
 //
-//   beside rows                        prints each row with a peer, and whether its number counts producers
-//   beside ROW PEER NUMBER ROUNDS      prints the nanoseconds that one operation takes, on the mean
-//   beside meetings                    prints them for all rows where threads meet, one after another in this process
+//   beside rows                                prints each row with a peer
+//   beside ROW PEER NUMBER ROUNDS              prints the nanoseconds that one operation takes, on the mean
+//   beside ROW PEER PRODUCERS MILLISECONDS     where threads meet, prints how many elements came out in which time
 //
-// NUMBER is how many elements the collection holds, or how many threads put in where threads meet. As in
-// cordyceps_speed, elements are made before the clock starts, and wait in a vector where they are in no collection.
-// Each row adds up what it saw, and the program ends with status 1 if a round's sum is not that of its elements.
+// NUMBER is how many elements the collection holds, and PRODUCERS how many threads put in. As in cordyceps_speed,
+// elements are made before the clock starts, and wait in a vector where they are in no collection. Each row adds up
+// what it saw, and the program ends with status 1 if a sum is not that of its elements.
 #include "measure.h"
 
 #include <thread>
@@ -15,18 +15,8 @@
 std::map<std::pair<std::string, std::string>, Row> one_thread, meetings;
 
 static int show_rows() {
-  for (auto &[row, run] : one_thread) std::printf("%s\t%s\telements\n", row.first.c_str(), row.second.c_str());
-  for (auto &[row, run] : meetings) std::printf("meet %s\t%s\tproducers\n", row.first.c_str(), row.second.c_str());
-  return 0;
-}
-
-static int show_meetings() {
-  for (size_t producers = 1; producers <= 4; producers++) {
-    for (auto &[row, run] : meetings) {
-      Time time = run(producers, 1);
-      double nanoseconds = time.nanoseconds / time.operations;
-      std::printf("meet %s\t%s\t%zu\t%.3f\n", row.first.c_str(), row.second.c_str(), producers, nanoseconds);
-    }
+  for (auto *rows : {&one_thread, &meetings}) {
+    for (auto &[row, run] : *rows) std::printf("%s\t%s\n", row.first.c_str(), row.second.c_str());
   }
   return 0;
 }
@@ -44,15 +34,18 @@ int main(int count, char **words) {
 #endif
   std::string asked = count > 1 ? words[1] : "";
   if (asked == "rows" && count == 2) return show_rows();
-  if (asked == "meetings" && count == 2) return show_meetings();
   bool is_meeting = asked.rfind("meet ", 0) == 0;
   auto &rows = is_meeting ? meetings : one_thread;
-  auto row = count == 5 ? rows.find({is_meeting ? asked.substr(5) : asked, words[2]}) : rows.end();
+  auto row = count == 5 ? rows.find({asked, words[2]}) : rows.end();
   if (row == rows.end()) {
-    std::fputs("usage: beside rows | meetings | ROW PEER NUMBER ROUNDS\n", stderr);
+    std::fputs("usage: beside rows | ROW PEER NUMBER ROUNDS | ROW PEER PRODUCERS MILLISECONDS\n", stderr);
     return 2;
   }
   Time time = row->second(std::strtoul(words[3], nullptr, 10), std::strtoul(words[4], nullptr, 10));
-  std::printf("%.3f\n", time.nanoseconds / time.operations);
+  if (is_meeting) {
+    std::printf("%.0f elements in %.0f ns\n", time.operations, time.nanoseconds);
+  } else {
+    std::printf("%.3f\n", time.nanoseconds / time.operations);
+  }
   return 0;
 }

@@ -96,7 +96,7 @@ void shuffle(vector<Item> &items) {
   }
 }
 
-// A row measures so many rounds, with so many elements or so many threads that put in.
+// A row measures so many rounds with so many elements, or so many milliseconds with so many threads that put in.
 using Row = std::function<Time(size_t number, size_t rounds)>;
 
 // The rows on one thread and those where threads meet, by their names and their peers'.

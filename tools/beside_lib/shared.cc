@@ -2,6 +2,7 @@
 #include "measure.h"
 #include "peers.h"
 
+#include <algorithm>
 #include <atomic>
 #include <mutex>
 #include <thread>
@@ -227,81 +228,128 @@ static Time one_by_one(size_t count, size_t rounds) {
   return time;
 }
 
-// How many elements all producers of a meeting put in together.
-static const size_t MET = 200000;
+// How many elements each producer of a meeting begins with, and how many of them come back at a time.
+static const size_t EACH = 4096, QUARTER = EACH / 4;
 
-// What threads share, in cache lines where nothing else lies.
+// How long all threads are at work before the window begins, in nanoseconds: meanwhile tools/beside gives each of them
+// a processor of its own. And how often the taker tries before it looks at the clock. Both are as in cordyceps_speed.
+static const double WARM_UP = 100e6;
+static const int TRIES = 128;
+
+// Where threads meet. What different threads write lies in cache lines where nothing else lies.
 template <class Shared>
-struct alignas(128) Apart {
-  Shared it;
-  char after[128];
+struct Ground {
+  alignas(128) Shared shared;
+  alignas(128) std::atomic<size_t> arrived{0};
+  alignas(128) std::atomic<bool> is_over{false};
+  // Elements that the taker gave back.
+  alignas(128) std::mutex mutex;
+  vector<SharedElement *> returned;
 
-  explicit Apart(size_t count) : it(count) {}
+  explicit Ground(size_t count) : shared(count) { returned.reserve(count); }
+
+  void meet(size_t threads) {
+    arrived++;
+    while (arrived < threads) {
+    }
+  }
+
+  void give(vector<SharedElement *> &taken) {
+    std::lock_guard<std::mutex> lock(mutex);
+    returned.insert(returned.end(), taken.begin(), taken.end());
+    taken.clear();
+  }
+
+  // Replaces these elements by some that came back.
+  void fetch(vector<SharedElement *> &elements) {
+    std::lock_guard<std::mutex> lock(mutex);
+    size_t left = returned.size() - std::min(returned.size(), QUARTER);
+    elements.assign(returned.begin() + left, returned.end());
+    returned.resize(left);
+  }
 };
 
-// Starts a thread for each part of the elements, which puts them in as soon as all threads have arrived.
-template <class Shared, class Arrive>
-static vector<std::thread> start(Shared &shared, vector<Elements<SharedElement>> &parts, Arrive arrive) {
-  vector<std::thread> threads;
-  for (auto &part : parts) {
-    threads.emplace_back([&shared, &part, arrive] {
-      Producer<Shared> producer(shared);
-      vector<SharedElement *> elements = std::move(part.waiting);
-      arrive();
-      for (SharedElement *it : elements) producer.put(it);
-      producer.flush();
-    });
+// Puts elements in, and those that come back, until the run is over.
+template <class Shared>
+static void produce(Ground<Shared> &ground, size_t threads, vector<SharedElement *> elements) {
+  Producer<Shared> producer(ground.shared);
+  ground.meet(threads);
+  for (;;) {
+    for (SharedElement *it : elements) producer.put(it);
+    elements.clear();
+    if (ground.is_over) break;
+    ground.fetch(elements);
+    if (elements.empty()) std::this_thread::yield();
   }
-  return threads;
+  producer.flush();
 }
 
-// One thread takes out what others put in: the time from their common start until it has all.
+// Takes out what one try gives, and returns how many.
 template <class Shared>
-static Time meet(size_t producers, size_t rounds) {
+static size_t take(Ground<Shared> &ground, vector<SharedElement *> &taken) {
+  size_t before = taken.size();
+  ground.shared.take([&](SharedElement *it) { taken.push_back(it); });
+  size_t found = taken.size() - before;
+  if (taken.size() >= QUARTER) ground.give(taken);
+  if (found == 0) __builtin_ia32_pause();
+  return found;
+}
+
+// Takes elements out for so long, and counts them.
+template <class Shared>
+static Time take_for(Ground<Shared> &ground, vector<SharedElement *> &taken, double nanoseconds) {
   Time time;
-  for (size_t round = 0; round < rounds; round++) {
-    size_t each = MET / producers, count = each * producers;
-    auto shared = std::make_unique<Apart<Shared>>(count);
-    vector<Elements<SharedElement>> parts;
-    for (size_t number = 0; number < producers; number++) parts.emplace_back(each);
-    std::atomic<size_t> arrived{0};
-    auto arrive = [&arrived, producers] {
-      arrived++;
-      while (arrived <= producers) {
-      }
-    };
-    vector<std::thread> threads = start(shared->it, parts, arrive);
-    vector<SharedElement *> taken;
-    taken.reserve(count);
-    uint64_t sum = 0, expected = 0;
-    arrive();
-    time += timed(count, [&] {
-      while (taken.size() < count) {
-        bool is_some = shared->it.take([&](SharedElement *it) {
-          sum += it->value;
-          taken.push_back(it);
-        });
-        if (!is_some) __builtin_ia32_pause();
-      }
+  while (time.nanoseconds < nanoseconds) {
+    size_t count = 0;
+    Time passed = timed(0, [&] {
+      for (int turn = 0; turn < TRIES; turn++) count += take(ground, taken);
     });
-    for (std::thread &it : threads) it.join();
-    for (auto &part : parts) expected += part.sum;
-    expect(sum, expected);
+    time += {passed.nanoseconds, double(count)};
   }
+  return time;
+}
+
+// One thread takes out what others put in: how many it takes while all are at work, in a window of so many
+// milliseconds. At the end each element has to be somewhere.
+template <class Shared>
+static Time meet(size_t producers, size_t milliseconds) {
+  auto ground = std::make_unique<Ground<Shared>>(EACH * producers);
+  vector<Elements<SharedElement>> parts;
+  vector<std::thread> threads;
+  uint64_t sum = 0, expected = 0;
+  for (size_t number = 0; number < producers; number++) {
+    parts.emplace_back(EACH);
+    expected += parts.back().sum;
+  }
+  for (auto &part : parts) {
+    threads.emplace_back([&] { produce(*ground, producers + 1, std::move(part.waiting)); });
+  }
+  vector<SharedElement *> taken;
+  taken.reserve(EACH * producers);
+  ground->meet(producers + 1);
+  take_for(*ground, taken, WARM_UP);
+  Time time = take_for(*ground, taken, milliseconds * 1e6);
+  ground->is_over = true;
+  for (std::thread &it : threads) it.join();
+  while (take(*ground, taken) > 0) {
+  }
+  ground->give(taken);
+  for (SharedElement *it : ground->returned) sum += it->value;
+  expect(sum, expected);
   return time;
 }
 
 template <class Stack>
 static void add_stack(const char *peer) {
   one_thread[{"transfer", peer}] = fill_and_empty<Stack, 1>;
-  meetings[{"transfer", peer}] = meet<Stack>;
+  meetings[{"meet transfer", peer}] = meet<Stack>;
 }
 
 template <class Queue>
 static void add_queue(const char *peer) {
   one_thread[{"queue", peer}] = fill_and_empty<Queue, 2>;
   one_thread[{"one by one", peer}] = one_by_one<Queue>;
-  meetings[{"queue", peer}] = meet<Queue>;
+  meetings[{"meet queue", peer}] = meet<Queue>;
 }
 
 void add_shared() {

@@ -4,11 +4,12 @@
 //! row for each kind of call, on one thread: how many elements the collection holds, the nanoseconds of one call, on
 //! the mean and in the quickest round, and what is counted as one. The last line is a number over what was seen.
 //! Without an argument it makes few rounds, and prints how many calls of each kind were measured in place of their
-//! times, so that it always prints the same. With the argument `threads` it measures collections at which threads meet,
-//! and nothing else, in so many rounds as a second argument says, or in 25.
+//! times, so that it always prints the same.
 //!
-//! With three arguments it measures some rows alone: which ones, as `lists` or `stack`, how many elements the
-//! collection holds or how many threads put in, and the number of rounds.
+//! With three arguments it measures some rows alone: which ones, as `lists`, how many elements the collection holds,
+//! and the number of rounds. Of a collection at which threads meet, as `stack`, it measures how many elements one
+//! thread takes out while others put them in: the second argument is how many threads put in, and the third how many
+//! milliseconds the taker counts. These begin 100 milliseconds after all threads have begun, and end before one stops.
 //!
 //! The nodes are made before the clock starts: no call of the library that is measured takes memory. The clock is read
 //! outside of the loops over the elements. Elements that are not in a collection wait in a vector, so the time of a
@@ -31,7 +32,7 @@ use cordyceps_speed_rows::table::{Shown, Table};
 use cordyceps_speed_rows::timers::show_timers;
 use cordyceps_speed_rows::transfers::show_transfers;
 use cordyceps_speed_rows::vectors::push;
-use cordyceps_speed_threads::meetings::{Meeting, show_meeting, show_meetings};
+use cordyceps_speed_threads::meetings::{Meeting, show_meeting};
 use std::alloc::Global;
 use std::env;
 use std::io::ErrorKind;
@@ -55,8 +56,11 @@ const SIZES: [usize; 3] = [1_000, 10_000, 100_000];
 /// The same where counts are shown: few, so that the program ends soon.
 const FEW_SIZES: [usize; 1] = [FEW];
 
-/// How many rounds threads make.
-const MEETINGS: u32 = 25;
+/// How many rooms, and elements, each thread begins with that puts in.
+const ROOMS: usize = 4_096;
+
+/// The same where they are few.
+const FEW_ROOMS: usize = 256;
 
 /// How many go into a queue, so that they are a whole number of batches, and into the local part of a free list.
 const BATCHES: usize = 1_024;
@@ -78,12 +82,13 @@ enum Rows {
     Timers,
     Transfers,
     Queues,
-    /// Of one collection at which threads meet.
-    At(Meeting),
+    FreeLists,
+    /// Of one collection at which threads meet, with so many rooms for each thread that puts in.
+    At(Meeting, usize),
 }
 
 /// The words that ask for them.
-const ROWS: [(&str, Rows); 21] = [
+const ROWS: [(&str, Rows); 20] = [
     ("lists", Rows::Lists),
     ("stables", Rows::Stables),
     ("many", Rows::Many),
@@ -95,16 +100,15 @@ const ROWS: [(&str, Rows); 21] = [
     ("timers", Rows::Timers),
     ("transfers", Rows::Transfers),
     ("queues", Rows::Queues),
-    ("stack", Rows::At(Meeting::Stack)),
-    ("stack_back", Rows::At(Meeting::StackBack)),
-    ("stack_batches", Rows::At(Meeting::StackBatches)),
-    ("queue", Rows::At(Meeting::Queue)),
-    ("queue_back", Rows::At(Meeting::QueueBack)),
-    ("consumer", Rows::At(Meeting::Consumer)),
-    ("vector", Rows::At(Meeting::Vector)),
-    ("deque", Rows::At(Meeting::Deque)),
-    ("segments", Rows::At(Meeting::Segments)),
-    ("channel", Rows::At(Meeting::Channel)),
+    ("free_lists", Rows::FreeLists),
+    ("stack", Rows::At(Meeting::Stack, ROOMS)),
+    ("stack_few", Rows::At(Meeting::Stack, FEW_ROOMS)),
+    ("stack_batches", Rows::At(Meeting::Batches, ROOMS)),
+    ("inbox", Rows::At(Meeting::Inbox, ROOMS)),
+    ("queue", Rows::At(Meeting::Queue, ROOMS)),
+    ("queue_few", Rows::At(Meeting::Queue, FEW_ROOMS)),
+    ("consumer", Rows::At(Meeting::Consumer, ROOMS)),
+    ("segments", Rows::At(Meeting::Segments, ROOMS)),
 ];
 
 /// What the program is asked for.
@@ -112,9 +116,8 @@ const ROWS: [(&str, Rows); 21] = [
 enum Asked {
     /// Calls on one thread.
     Calls(Table),
-    /// Collections at which threads meet.
-    Meetings(Table),
-    /// Some rows alone, with a number of elements or of threads that put in.
+    /// Some rows alone, with a number of elements or of threads that put in. Where threads meet, the table's rounds are
+    /// milliseconds.
     Alone(Rows, usize, Table),
 }
 
@@ -139,18 +142,7 @@ fn read_rows(word: &str) -> Option<Rows> {
     None
 }
 
-/// What the word after the program's name asks for, if it is one.
-fn read_word(word: &str) -> Option<Asked> {
-    if word == "threads" {
-        return Some(Asked::Meetings(Table {
-            rounds: MEETINGS,
-            shown: Shown::Times,
-        }));
-    }
-    Some(Asked::Calls(read_rounds(word)?))
-}
-
-/// What three words ask for, if they do: rows, a number of elements or threads, and a number of rounds.
+/// What three words ask for, if they do: rows, a number of elements or threads, and one of rounds or milliseconds.
 fn read_alone(rows: &str, count: &str, rounds: &str) -> Option<Asked> {
     match count.parse::<usize>() {
         Ok(count) => Some(Asked::Alone(read_rows(rows)?, count, read_rounds(rounds)?)),
@@ -165,10 +157,7 @@ fn read(words: &[String]) -> Option<Asked> {
             rounds: ROUNDS,
             shown: Shown::Counts,
         })),
-        [word] => read_word(word.as_str()),
-        [word, rounds] if word.as_str() == "threads" => {
-            Some(Asked::Meetings(read_rounds(rounds.as_str())?))
-        }
+        [rounds] => Some(Asked::Calls(read_rounds(rounds.as_str())?)),
         [rows, count, rounds] => read_alone(rows.as_str(), count.as_str(), rounds.as_str()),
         _ => None,
     }
@@ -267,16 +256,6 @@ fn show_calls<R: Clock + Print>(rt: &R, alloc: Global, table: Table) -> Result<(
     }
 }
 
-/// Measures and shows collections at which threads meet.
-fn show_threads<R: Clock + Print + Threads + Wait + Sync>(
-    rt: &R,
-    alloc: Global,
-    table: Table,
-) -> Result<(), Fault> {
-    table.head(rt)?;
-    show_meetings(rt, alloc, table)
-}
-
 /// Measures and shows some rows alone, with `count` elements or threads that put in. Of a collection with rooms there
 /// are at most as many elements as it may have rooms.
 fn show_alone<R: Clock + Print + Threads + Wait + Sync>(
@@ -286,6 +265,9 @@ fn show_alone<R: Clock + Print + Threads + Wait + Sync>(
     count: usize,
     table: Table,
 ) -> Result<(), Fault> {
+    if let Rows::At(meeting, rooms) = rows {
+        return show_meeting(rt, alloc, (meeting, rooms), count, u64::from(table.rounds));
+    }
     table.head(rt)?;
     let rooms = count.min(MAX_ROOMS);
     let _seen = match rows {
@@ -300,10 +282,8 @@ fn show_alone<R: Clock + Print + Threads + Wait + Sync>(
         Rows::Timers => show_timers(rt, alloc, table, count)?,
         Rows::Transfers => show_transfers(rt, alloc, table, rooms)?,
         Rows::Queues => show_queues(rt, alloc, table, rooms)?,
-        Rows::At(meeting) => {
-            show_meeting(rt, alloc, table, meeting, count)?;
-            0
-        }
+        Rows::FreeLists => show_free_lists(rt, alloc, table, count, SHARED)?,
+        Rows::At(..) => 0,
     };
     Ok(())
 }
@@ -311,7 +291,6 @@ fn show_alone<R: Clock + Print + Threads + Wait + Sync>(
 fn main(rt: HostRuntime) -> ExitCode {
     let shown = match ask(&rt) {
         Ok(Asked::Calls(table)) => show_calls(&rt, rt.alloc(), table),
-        Ok(Asked::Meetings(table)) => show_threads(&rt, rt.alloc(), table),
         Ok(Asked::Alone(rows, count, table)) => show_alone(&rt, rt.alloc(), rows, count, table),
         Err(fault) => Err(fault),
     };

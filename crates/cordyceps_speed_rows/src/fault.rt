@@ -25,7 +25,7 @@ impl fmt::Display for Fault {
             Fault::Usage => {
                 write!(
                     f,
-                    "usage: cordyceps_speed [ROUNDS | threads [ROUNDS] | ROWS COUNT ROUNDS]"
+                    "usage: cordyceps_speed [ROUNDS | ROWS COUNT ROUNDS | ROW PRODUCERS MILLISECONDS]"
                 )
             }
             Fault::Clock => write!(f, "no time from the clock"),

@@ -46,7 +46,7 @@ enum Calls {
 }
 
 /// At the ends of a list.
-const ENDS: [Entry<Calls>; 3] = [
+const ENDS: [Entry<Calls>; 2] = [
     (
         "List: push_back, pop_front",
         Calls::Through,
@@ -57,12 +57,15 @@ const ENDS: [Entry<Calls>; 3] = [
         Calls::Mixed,
         "either; one in four at the other end",
     ),
-    (
-        "List: rotate",
-        Calls::Turn,
-        "either; a pop and a push by turns",
-    ),
 ];
+
+/// From one end to the other. The rows at the ends leave the nodes in another order than they have in memory, so this
+/// one has nodes of its own.
+const TURNS: [Entry<Calls>; 1] = [(
+    "List: rotate",
+    Calls::Turn,
+    "either; a pop and a push by turns",
+)];
 
 /// Through a whole list.
 const WALKS: [Entry<Calls>; 3] = [
@@ -118,8 +121,9 @@ const SPLITS: [Entry<Calls>; 4] = [
 ];
 
 /// Which nodes are scattered in memory, and what is measured with them.
-const GROUPS: [(bool, &[Entry<Calls>]); 5] = [
+const GROUPS: [(bool, &[Entry<Calls>]); 6] = [
     (false, &ENDS),
+    (false, &TURNS),
     (false, &WALKS),
     (true, &FAR_WALKS),
     (false, &EDITS),

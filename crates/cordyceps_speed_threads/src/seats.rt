@@ -1,4 +1,4 @@
-//! The collections at which threads meet: the library's two, and others beside them.
+//! The collections at which threads meet: the library's two, and another beside them.
 ghost use Rattle.std.specs.Prelude.{◌≡◌, length};
 
 use crate::threads::Seat;
@@ -7,11 +7,9 @@ use cordyceps_queue::mpsc_queue;
 use cordyceps_queue::mpsc_queue::{Consumer, MpscQueue};
 use cordyceps_speed_rows::stacks::StackNode;
 use cordyceps_stack::stack;
-use cordyceps_stack::stack::{Stack, TransferStack};
-use crossbeam_channel::{Receiver, Sender};
+use cordyceps_stack::stack::{Inbox, Stack, TransferStack};
 use crossbeam_queue::SegQueue;
-use std::collections::VecDeque;
-use std::sync::{Mutex, Wait};
+use std::sync::Wait;
 
 /// How many elements are pushed at one step.
 const BATCH: usize = 64;
@@ -52,13 +50,9 @@ impl<'a> Seat for AtStack<'a> {
         }
     }
 
-    fn give_back(&mut self, least: usize) -> bool {
+    fn give_back(&mut self) -> bool {
         let rooms = self.party.rooms();
-        rooms < least || self.stack.give_back(&mut self.party, rooms)
-    }
-
-    fn refill(&mut self) {
-        self.stack.refill(&mut self.party);
+        self.stack.give_back(&mut self.party, rooms)
     }
 }
 
@@ -85,28 +79,75 @@ impl<'a> Seat for AtBatches<'a> {
     }
 
     fn put<R: Wait>(&mut self, rt: &R, element: StackNode) -> Result<(), StackNode> {
-        if self.waiting >= self.at.party.rooms() {
+        let at = &mut self.at;
+        if self.waiting >= at.party.rooms() {
+            at.stack.refill(&mut at.party);
+        }
+        if self.waiting >= at.party.rooms() {
             return Err(element);
         }
         self.batch.push(element);
         self.waiting += 1;
-        if self.waiting == BATCH {
-            self.flush(rt);
-        }
-        Ok(())
-    }
-
-    fn flush<R: Wait>(&mut self, rt: &R) {
-        let at = &mut self.at;
-        if self.waiting <= at.party.rooms() {
+        if self.waiting >= BATCH && self.waiting <= at.party.rooms() {
             let batch = self.batch.take_all();
             self.waiting = 0;
             at.stack.push_all(rt, &mut at.party, batch);
         }
+        Ok(())
     }
 
     fn take<R: Wait>(&mut self, rt: &R, taken: &mut Vec<StackNode>) {
         self.at.take(rt, taken);
+    }
+
+    fn give_back(&mut self) -> bool {
+        self.at.give_back()
+    }
+}
+
+/// A party at its stack, and the inbox of the thread that takes out.
+#[derive(Drop)]
+pub struct AtInbox<'a> {
+    pub at: AtStack<'a>,
+    pub inbox: Option<Inbox<'a, Item>>,
+}
+
+impl<'a> Seat for AtInbox<'a> {
+    fn split(&mut self, rooms: usize) -> AtInbox<'a> {
+        AtInbox {
+            at: self.at.split(rooms),
+            inbox: None,
+        }
+    }
+
+    fn for_taker(mut self) -> AtInbox<'a> {
+        let AtStack { stack, party } = self.at.split(0);
+        AtInbox {
+            at: self.at,
+            inbox: Some(Inbox::new(stack, party)),
+        }
+    }
+
+    fn put<R: Wait>(&mut self, rt: &R, element: StackNode) -> Result<(), StackNode> {
+        self.at.put(rt, element)
+    }
+
+    fn take<R: Wait>(&mut self, rt: &R, taken: &mut Vec<StackNode>) {
+        match &mut self.inbox {
+            Some(inbox) => {
+                if let Some(node) = inbox.pop() {
+                    drop(taken.push(node));
+                }
+            }
+            None => self.at.take(rt, taken),
+        }
+    }
+
+    fn give_back(&mut self) -> bool {
+        match &mut self.inbox {
+            Some(inbox) => inbox.give_back(),
+            None => self.at.give_back(),
+        }
     }
 }
 
@@ -145,13 +186,9 @@ impl<'a> Seat for AtQueue<'a> {
         }
     }
 
-    fn give_back(&mut self, least: usize) -> bool {
+    fn give_back(&mut self) -> bool {
         let rooms = self.party.rooms();
-        rooms < least || self.queue.give_back(&mut self.party, rooms)
-    }
-
-    fn refill(&mut self) {
-        self.queue.refill(&mut self.party);
+        self.queue.give_back(&mut self.party, rooms)
     }
 }
 
@@ -192,93 +229,43 @@ impl<'a> Seat for AtConsumer<'a> {
             None => self.at.take(rt, taken),
         }
     }
+
+    fn give_back(&mut self) -> bool {
+        match &mut self.consumer {
+            Some(consumer) => {
+                let rooms = consumer.rooms();
+                consumer.give_back(rooms)
+            }
+            None => self.at.give_back(),
+        }
+    }
 }
 
-/// What each thread has the whole of.
-pub trait Shared {
-    /// Puts an element in.
-    fn put<R: Wait>(&self, rt: &R, element: StackNode);
-
-    /// Takes out what one try gives, and puts it after the others.
-    fn take<R: Wait>(&self, rt: &R, taken: &mut Vec<StackNode>);
-}
-
-/// A thread at such a collection.
+/// A thread at the queue of segments, which has no rooms.
 #[derive(Drop)]
-pub struct At<'a, C>(pub &'a C);
+pub struct AtSegments<'a>(pub &'a SegQueue<StackNode>);
 
-impl<'a, C: Shared> Seat for At<'a, C> {
-    fn split(&mut self, _rooms: usize) -> At<'a, C> {
-        At(self.0)
+impl<'a> Seat for AtSegments<'a> {
+    fn split(&mut self, _rooms: usize) -> AtSegments<'a> {
+        AtSegments(self.0)
     }
 
-    fn for_taker(self) -> At<'a, C> {
+    fn for_taker(self) -> AtSegments<'a> {
         self
     }
 
     fn put<R: Wait>(&mut self, rt: &R, element: StackNode) -> Result<(), StackNode> {
-        self.0.put(rt, element);
+        drop(self.0.push(rt, element));
         Ok(())
     }
 
     fn take<R: Wait>(&mut self, rt: &R, taken: &mut Vec<StackNode>) {
-        self.0.take(rt, taken);
-    }
-}
-
-impl Shared for Mutex<Vec<StackNode>> {
-    fn put<R: Wait>(&self, rt: &R, element: StackNode) {
-        let mut elements = self.lock(rt);
-        drop(elements.push(element));
-    }
-
-    fn take<R: Wait>(&self, rt: &R, taken: &mut Vec<StackNode>) {
-        let mut elements = self.lock(rt);
-        drop(taken.append(&mut elements));
-    }
-}
-
-impl Shared for Mutex<VecDeque<StackNode>> {
-    fn put<R: Wait>(&self, rt: &R, element: StackNode) {
-        let mut elements = self.lock(rt);
-        drop(elements.push_back(element));
-    }
-
-    fn take<R: Wait>(&self, rt: &R, taken: &mut Vec<StackNode>) {
-        let mut elements = self.lock(rt);
-        if let Some(element) = elements.pop_front() {
+        if let Some(element) = self.0.pop(rt) {
             drop(taken.push(element));
         }
     }
-}
 
-impl Shared for SegQueue<StackNode> {
-    fn put<R: Wait>(&self, rt: &R, element: StackNode) {
-        drop(self.push(rt, element));
-    }
-
-    fn take<R: Wait>(&self, rt: &R, taken: &mut Vec<StackNode>) {
-        if let Some(element) = self.pop(rt) {
-            drop(taken.push(element));
-        }
-    }
-}
-
-/// A channel, both of whose ends each thread has.
-#[derive(Drop)]
-pub struct Channel {
-    pub sender: Sender<StackNode>,
-    pub receiver: Receiver<StackNode>,
-}
-
-impl Shared for Channel {
-    fn put<R: Wait>(&self, rt: &R, element: StackNode) {
-        drop(self.sender.send(rt, element));
-    }
-
-    fn take<R: Wait>(&self, rt: &R, taken: &mut Vec<StackNode>) {
-        if let Ok(element) = self.receiver.try_recv(rt) {
-            drop(taken.push(element));
-        }
+    fn give_back(&mut self) -> bool {
+        true
     }
 }

@@ -1,4 +1,5 @@
-//! Elements that threads put in, and that one thread takes out: how long that takes from their common start on.
+//! Threads that put elements in, and one that takes them out: how many it takes in a window of time in which all of
+//! them are at work.
 
 use cordyceps_speed_rows::fault::Fault;
 use cordyceps_speed_rows::nodes::make_nodes;
@@ -6,11 +7,11 @@ use cordyceps_speed_rows::stacks::StackNode;
 use cordyceps_speed_rows::stopwatch::Stopwatch;
 use cordyceps_speed_rows::vectors::{push, with_room};
 use std::alloc::Global;
-use std::sync::Wait;
 use std::sync::atomic::{AtomicU64, Ordering};
-use std::thread;
+use std::sync::{Mutex, Wait};
 use std::thread::Threads;
 use std::time::{Clock, Duration};
+use std::{hint, thread};
 
 /// The place of a thread at a collection.
 pub trait Seat {
@@ -20,47 +21,56 @@ pub trait Seat {
     /// The same place for the thread that takes out, which may keep the right to do so.
     fn for_taker(self) -> Self;
 
-    /// Puts an element in. It comes back where there is no room. What has no rooms can always put one in.
+    /// Puts an element in. It comes back where there is no room.
     fn put<R: Wait>(&mut self, rt: &R, element: StackNode) -> Result<(), StackNode>;
-
-    /// Puts in what waits here for more.
-    fn flush<R: Wait>(&mut self, _rt: &R) {}
 
     /// Takes out what one try gives, and puts it after the others.
     fn take<R: Wait>(&mut self, rt: &R, taken: &mut Vec<StackNode>);
 
-    /// Gives all rooms to those that have none, if there are at least `_least`. Returns `false` if it has to keep them,
-    /// since rooms that were given back before are still there.
-    fn give_back(&mut self, _least: usize) -> bool {
-        true
-    }
-
-    /// Takes the rooms that were given back.
-    fn refill(&mut self) {}
+    /// Gives all rooms to those that have none. Returns `false` if it has to keep them, since rooms that were given
+    /// back before are still there.
+    fn give_back(&mut self) -> bool;
 }
 
-/// How many threads put elements in, and how many each.
+/// How many threads put elements in, and for how long the taker counts.
 #[derive(Clone, Copy)]
 pub struct Plan {
     pub producers: usize,
-    pub each: usize,
-    /// How many rooms each of them begins with.
+    /// How many elements each of them begins with, and how many rooms. A quarter of them comes back at a time.
     pub rooms: usize,
-    /// How many rooms the taker has when it gives them back, while it finds elements. 0 where it never does.
-    pub returned: usize,
+    pub window: Duration,
 }
 
 impl Plan {
-    /// How many elements there are.
-    pub fn count(self) -> usize {
-        self.each.saturating_mul(self.producers)
-    }
-
     /// How many rooms all of them begin with.
     pub fn all_rooms(self) -> usize {
         self.rooms.saturating_mul(self.producers)
     }
 }
+
+/// How many elements were taken out, in which time.
+#[derive(Clone, Copy)]
+pub struct Counted {
+    pub elements: u64,
+    pub time: Duration,
+}
+
+impl Counted {
+    /// No elements, in no time.
+    fn none() -> Counted {
+        Counted {
+            elements: 0,
+            time: Duration::ZERO,
+        }
+    }
+}
+
+/// How many milliseconds all threads are at work before the window begins. Meanwhile others can give each thread a
+/// processor of its own.
+const WARM_UP: u64 = 100;
+
+/// How often the taker tries before it looks at the clock.
+const TRIES: u32 = 128;
 
 /// How many seconds threads wait for the last one of them before they begin.
 const PATIENCE: u64 = 10;
@@ -68,37 +78,48 @@ const PATIENCE: u64 = 10;
 /// How often a thread asks whether all are here before it looks at the clock.
 const LOOKS: u32 = 1_000_000;
 
-/// How many threads have arrived where the start is called off, since one of them could not be started.
-const CALLED_OFF: u64 = 1 << 32;
+/// So many are added to the threads that have arrived once the run is over. They stand in place of those where it is
+/// called off, since a thread could not be started.
+const OVER: u64 = 1 << 32;
 
-/// Where threads meet before they begin.
+/// Where threads meet before they begin, and what else they share besides the collection.
 #[derive(Drop)]
-struct Start {
-    /// How many threads have arrived, or at least `CALLED_OFF`.
+struct Ground {
+    /// How many threads have arrived, and `OVER`.
     arrived: AtomicU64,
     threads: u64,
+    /// Elements that the taker gave back.
+    returned: Mutex<Vec<StackNode>>,
+    /// How many of them come back at a time.
+    quarter: usize,
 }
 
-impl Start {
+impl Ground {
+    /// Returns whether the run is over.
+    fn is_over(&self) -> bool {
+        self.arrived.load(Ordering::SeqCst) >= OVER
+    }
+
     /// Returns whether all threads begin, once that is known.
     fn is_begun(&self) -> Option<bool> {
         let arrived = self.arrived.load(Ordering::SeqCst);
-        if arrived >= CALLED_OFF {
-            return Some(false);
-        }
-        if arrived >= self.threads {
+        // (a thread that looks late may find that the others are through)
+        if arrived % OVER >= self.threads {
             return Some(true);
+        }
+        if arrived >= OVER {
+            return Some(false);
         }
         None
     }
 
-    /// Calls the start off, unless a thread arrives meanwhile.
+    /// Calls the run off, unless a thread arrives meanwhile.
     fn call_off(&self) {
         let arrived = self.arrived.load(Ordering::SeqCst);
         if arrived < self.threads {
             let _ = self
                 .arrived
-                .compare_exchange(arrived, CALLED_OFF, Ordering::SeqCst, Ordering::SeqCst);
+                .compare_exchange(arrived, OVER, Ordering::SeqCst, Ordering::SeqCst);
         }
     }
 
@@ -120,139 +141,179 @@ impl Start {
         }
         unreachable!()
     }
+
+    /// Gives elements back to those that put in.
+    fn give<R: Wait>(&self, rt: &R, taken: &mut Vec<StackNode>) {
+        let mut returned = self.returned.lock(rt);
+        drop(returned.append(taken));
+    }
+
+    /// Takes some of the elements that came back, in place of those that are in.
+    fn fetch<R: Wait>(&self, rt: &R, elements: &mut Vec<StackNode>) {
+        let mut returned = self.returned.lock(rt);
+        let left = returned.len().saturating_sub(self.quarter);
+        if let Ok(some) = returned.split_off(left) {
+            *elements = some;
+        }
+    }
 }
 
 /// What a thread has to do at its seat.
 #[derive(Drop)]
 struct Job<S> {
     seat: S,
+    /// What it puts in next, or what it took out and did not give back yet.
     elements: Vec<StackNode>,
-    /// How many elements it takes out. 0 where it puts in.
-    takes: usize,
-    returned: usize,
+    /// How many it took out since it gave its rooms back.
+    taken: usize,
+    /// For how long it counts what it takes out. `None` where it puts in.
+    window: Option<Duration>,
 }
 
 impl<S: Seat + Drop> Job<S> {
-    /// Puts all of the elements in, the last first, or takes elements out. Returns how long it took since all began, or
+    /// Puts elements in until the run is over, or takes them out until it ends the run. Returns what it counted, or
     /// `None` if not all threads came.
-    fn run<R: Wait + Clock>(mut self, rt: &R, start: &Start) -> Option<Duration> {
-        if !start.meet(rt) {
+    fn run<R: Wait + Clock>(mut self, rt: &R, ground: &Ground) -> Option<Counted> {
+        if !ground.meet(rt) {
             return None;
         }
-        let mut stopwatch = Stopwatch::start(rt);
-        if self.takes == 0 {
-            self.put_all(rt);
-        } else {
-            self.take_all(rt);
-        }
-        Some(stopwatch.look(rt))
+        let Some(window) = self.window else {
+            self.produce(rt, ground);
+            return Some(Counted::none());
+        };
+        self.take_for(rt, ground, Duration::from_millis(WARM_UP));
+        let counted = self.take_for(rt, ground, window);
+        ground.arrived.fetch_add(OVER, Ordering::SeqCst);
+        Some(counted)
     }
 
-    /// Puts all of the elements in, the last first, and then gives back the rooms that are left.
-    fn put_all<R: Wait>(&mut self, rt: &R) {
-        while let Some(element) = self.elements.pop() {
-            put(rt, &mut self.seat, element);
-        }
-        self.seat.flush(rt);
-        give_all_back(rt, &mut self.seat);
-    }
-
-    /// Takes elements out until all are out. Their rooms go back meanwhile, and all of them where it finds no element.
-    fn take_all<R: Wait>(&mut self, rt: &R) {
+    /// Puts in its elements, and those that come back, until the run is over. Then it gives its rooms back.
+    fn produce<R: Wait>(&mut self, rt: &R, ground: &Ground) {
         for _ in rt.forever() {
-            let before = self.elements.len();
-            if before >= self.takes {
+            if !self.put_all(rt, ground) || ground.is_over() {
+                self.seat.give_back();
                 return;
             }
-            self.seat.take(rt, &mut self.elements);
-            if self.returned > 0 {
-                let has_found = self.elements.len() > before;
-                let least = if has_found { self.returned } else { 1 };
-                self.seat.give_back(least);
+            ground.fetch(rt, &mut self.elements);
+            if self.elements.is_empty() {
+                thread::yield_now();
             }
         }
         unreachable!()
     }
+
+    /// Puts all of its elements in, the last first. Returns `false` if the run is over before.
+    fn put_all<R: Wait>(&mut self, rt: &R, ground: &Ground) -> bool {
+        while let Some(element) = self.elements.pop() {
+            if !put(rt, &mut self.seat, ground, element) {
+                return false;
+            }
+        }
+        true
+    }
+
+    /// Takes elements out for so long, and returns how many.
+    fn take_for<R: Wait + Clock>(&mut self, rt: &R, ground: &Ground, time: Duration) -> Counted {
+        let mut counted = Counted::none();
+        let mut stopwatch = Stopwatch::start(rt);
+        for _ in rt.forever() {
+            for _ in 0..TRIES {
+                let found = self.take(rt, ground);
+                counted.elements = counted.elements.saturating_add(found as u64);
+            }
+            counted.time = counted.time.saturating_add(stopwatch.look(rt));
+            if counted.time >= time {
+                return counted;
+            }
+        }
+        unreachable!()
+    }
+
+    /// Takes out what one try gives, and returns how many. Elements go back in quarters. So do rooms, and all of them
+    /// where it finds no element.
+    fn take<R: Wait>(&mut self, rt: &R, ground: &Ground) -> usize {
+        let before = self.elements.len();
+        self.seat.take(rt, &mut self.elements);
+        let found = self.elements.len().saturating_sub(before);
+        self.taken = self.taken.saturating_add(found);
+        if (found == 0 || self.taken >= ground.quarter) && self.seat.give_back() {
+            self.taken = 0;
+        }
+        if self.elements.len() >= ground.quarter {
+            ground.give(rt, &mut self.elements);
+        }
+        if found == 0 {
+            hint::spin_loop();
+        }
+        found
+    }
 }
 
-/// Puts an element in. While there is no room other threads go first.
-fn put<S: Seat, R: Wait>(rt: &R, seat: &mut S, element: StackNode) {
+/// Puts an element in. While there is no room other threads go first. Returns `false` if the run is over before.
+fn put<S: Seat, R: Wait>(rt: &R, seat: &mut S, ground: &Ground, element: StackNode) -> bool {
     let mut element = element;
     for _ in rt.forever() {
         match seat.put(rt, element) {
-            Ok(()) => return,
+            Ok(()) => return true,
             Err(back) => element = back,
+        }
+        if ground.is_over() {
+            return false;
         }
         thread::yield_now();
     }
     unreachable!()
 }
 
-/// Gives all rooms of a seat back, together with those that others gave back meanwhile.
-fn give_all_back<S: Seat, R: Wait>(rt: &R, seat: &mut S) {
-    for _ in rt.forever() {
-        if seat.give_back(1) {
-            return;
-        }
-        seat.refill();
-    }
-    unreachable!()
-}
-
-/// The jobs of those that put elements in, and of the one that takes them out.
+/// The jobs of those that put elements in, and at last of the one that takes them out.
 fn jobs<S: Seat + Drop>(alloc: Global, plan: Plan, mut seat: S) -> Result<Vec<Job<S>>, Fault> {
     let mut jobs = with_room(alloc, plan.producers.saturating_add(1))?;
     for _ in 0..plan.producers {
-        let elements = make_nodes(alloc, plan.each)?;
+        let elements = make_nodes(alloc, plan.rooms)?;
         let job = Job {
             seat: seat.split(plan.rooms),
             elements,
-            takes: 0,
-            returned: 0,
+            taken: 0,
+            window: None,
         };
         push(&mut jobs, job)?;
     }
-    let elements = with_room(alloc, plan.count())?;
+    let elements = with_room(alloc, plan.all_rooms())?;
     let job = Job {
         seat: seat.for_taker(),
         elements,
-        takes: plan.count(),
-        returned: plan.returned,
+        taken: 0,
+        window: Some(plan.window),
     };
     push(&mut jobs, job)?;
     Ok(jobs)
 }
 
-/// Runs each job on a thread of its own. Returns the longest time that one took. Fails if a thread cannot be started.
-fn run_all<S, R>(rt: &R, jobs: Vec<Job<S>>) -> Result<Duration, Fault>
+/// Counts how many elements one thread takes out in the window of a plan, by those who have a seat beside this one.
+/// Each job has a thread of its own, and the last one, which takes out, has this thread. Fails if a thread cannot be
+/// started.
+pub fn measure<S, R>(rt: &R, alloc: Global, plan: Plan, seat: S) -> Result<Counted, Fault>
 where
     S: Seat + Send + Drop,
     R: Threads + Wait + Clock + Sync,
 {
-    let start = Start {
+    let jobs = jobs(alloc, plan, seat)?;
+    let ground = Ground {
         arrived: AtomicU64::new(0),
         threads: jobs.len() as u64,
+        returned: Mutex::new(with_room(alloc, plan.all_rooms())?),
+        quarter: plan.rooms / 4,
     };
-    let begin = &start;
-    let Ok(times) = thread::map_vec(rt, jobs, &|job: Job<S>| job.run(rt, begin)) else {
+    let begin = &ground;
+    let Ok(answers) = thread::map_vec(rt, jobs, &|job: Job<S>| job.run(rt, begin)) else {
         return Err(Fault::Memory);
     };
-    let mut longest = Duration::ZERO;
-    for time in times {
-        let Some(time) = time else {
+    let mut counted = Counted::none();
+    for answer in answers {
+        let Some(last) = answer else {
             return Err(Fault::Threads);
         };
-        longest = longest.max(time);
+        counted = last;
     }
-    Ok(longest)
-}
-
-/// Measures how long it takes from the common start of all threads until all elements are out, by those who have a seat
-/// beside this one.
-pub fn measure<S, R>(rt: &R, alloc: Global, plan: Plan, seat: S) -> Result<Duration, Fault>
-where
-    S: Seat + Send + Drop,
-    R: Threads + Wait + Clock + Sync,
-{
-    run_all(rt, jobs(alloc, plan, seat)?)
+    Ok(counted)
 }
