@@ -1,4 +1,4 @@
-//! Logs a million records of four senders through a queue of 256 rooms, by the logger of `cordyceps_shared_uses`.
+//! Logs a million records of four senders through a queue of 16,384 rooms, by the logger of `cordyceps_shared_uses`.
 //! Prints how many records of each sender were stored, and how many of these were out of order.
 //!
 //! The output does not depend on the order in which the threads run.
@@ -15,11 +15,11 @@ const SENDERS: u64 = 4;
 /// The number of records that each sender sends.
 const RECORDS: u64 = 250_000;
 
-/// The number of rooms of the queue, which bounds how many records wait to be stored.
-const ROOMS: usize = 256;
+/// The number of rooms of the queue, which bounds how many records wait to be stored: 4,096 for each sender.
+const ROOMS: usize = 16_384;
 
-/// The number of records that are stored at once, at most.
-const BATCH: usize = 64;
+/// The number of records that are stored at once, at most: a quarter of a sender's rooms, which then go back.
+const BATCH: usize = 1_024;
 
 /// Returns a producer of records with this code, whose times count up from 0, or `None` if memory is refused.
 fn producer(alloc: Global, code: u64) -> Option<Producer> {
