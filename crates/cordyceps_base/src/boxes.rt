@@ -1,4 +1,27 @@
-//! Boxes that are reached by their raw pointers. This module has all of the crate's unsafe code.
+//! Boxes that are reached by their raw pointers. This module and `homes` have all of the crate's unsafe code.
+//!
+//! ```text
+//! row (no bytes)   (address, allocator, value)   (address, allocator, value)   ..
+//!                      |                             |
+//!                      v                             v
+//!                  +-------+                     +-------+
+//! memory           | value |                     | value |
+//!                  +-------+                     +-------+
+//! ```
+//!
+//! `RawBox::from_box` takes a box apart into its pointer and its allocator. A `Boxes` owns a row of such blocks. The
+//! row is ghost: it says where each block is, what frees it, and its value. So `join`, `cut` and `cut_at` do nothing at
+//! run time. A value is reached by its `Address`, a pointer that owns nothing and may be copied; the contract asks that
+//! the row has a box there. So links are plain addresses, and the safe code above this module proves that they lead to
+//! boxes of its row.
+//!
+//! `Send` and `Sync` are proved at `Boxes`, which owns the values, and the language derives the rest. Two owned boxes
+//! whose values take space cannot be at one address, which `distinct` states; so the invariant of a chain does not. An
+//! address names no type, since a link that named the node's type would make that type contain itself. Null represents
+//! none, since an `Option` of an address takes two words.
+//!
+//! What a row owns is the iterated separating conjunction of separation logic, over its boxes. Outside the crates for C
+//! this module and `homes` alone have functions that are proved by hand.
 ghost use Rattle.std.specs.Prelude.{◌≡◌, ◌≤◌, ◌<◌, ◌-◌, ℕ, List, [], ◌∷◌, ◌++◌, length, take, drop, slice_get, Some};
 ghost use Rattle.std.specs.Borrow.{sem};
 ghost use Rattle.std.specs.Box.Ownership.{box_owns};

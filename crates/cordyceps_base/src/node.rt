@@ -1,4 +1,23 @@
 //! Owned nodes.
+//!
+//! ```text
+//!  Node        block
+//! +----+      +------+------+----+-------+------+
+//! | o ------->| next | prev | id | value | word |
+//! +----+      +------+------+----+-------+------+
+//! ```
+//!
+//! A node is the address of its block. The block has the two links of any collection, the element's number and value,
+//! and behind these the word that says whose memory it is (`boxes::homes`). `Node::new` makes an element's only
+//! allocation. `Linked::into_ptr` turns a handle into its node, and `from_ptr` turns it back. A collection takes the
+//! block out of the node by `into_block`, keeps its address, and makes a node of it again by `from_block`.
+//!
+//! The kind of a node is a type parameter, and `into_kind` changes the type alone. A kind's mark is a `PhantomData<T>`,
+//! so a node can be sent or shared if `T` can. The links are in the block, and not in a field of the user's type, since
+//! safe code cannot reach them there.
+//!
+//! `Linked` follows that of the Rust crate `cordyceps`, where the links are a field of the user's type, and an
+//! implementation promises what follows here from ownership.
 ghost use Rattle.std.specs.Prelude.{◌≡◌, IfOk, IfErr};
 ghost use Rattle.std.specs.Borrow.{sem};
 

@@ -1,4 +1,9 @@
 //! A singly linked chain of nodes, from which collections are built, and the two ways to walk along it.
+//!
+//! A chain uses `next` of its nodes alone. The kind of its nodes is a type parameter, since stacks and the batches of a
+//! queue have different kinds. It has no length: a count could overflow, and no call may require that it does not,
+//! since callers of a stack do not know its length. `Values` reads the chain, and a `Cursor` owns it while it walks,
+//! and inserts nodes.
 ghost use Rattle.std.specs.Prelude.{◌≡◌, ◌-◌, ◌<◌, ◌↔◌, [], ◌∷◌, ◌++◌, length, slice_get, Some, IsTrue, IfSome, IfNone, ⊤};
 ghost use Rattle.std.specs.Iterator.{YieldsFirstRef, item_count};
 ghost use denote.RawPtr.{Ptr, InBlock, Testable};

@@ -1,5 +1,32 @@
 //! A priority queue whose elements are due at times. The times at which elements come out never decrease, and each
 //! element is reached by its spot.
+//!
+//! ```text
+//! clock   4, in binary 0100
+//!
+//! bucket    0       1     2        4
+//! times     4   4   5     7   6    9   15   8
+//!           o - o - o --- o - o -- o - o -- o     one list
+//!               ^   ^         ^             ^
+//! ends          0   1         2             4
+//! ```
+//!
+//! A queue is a `StableList` whose nodes are in the order of their buckets, the spot at which each of the 65 buckets
+//! ends, the clock, and the function of times. The bucket of a node is 0 if it is due at the clock, and otherwise one
+//! more than the highest bit in which its time differs from the clock. Bucket 3 is empty above: its times, 0 to 3, have
+//! passed. In a bucket nodes are in the order in which they came into it.
+//!
+//! - `push` puts the node behind the end of its bucket or, if that is empty, of the nearest lower one that is not, or
+//!   else first.
+//! - `pop_front` takes the first node if bucket 0 has one. Otherwise the clock becomes the least time of the lowest
+//!   bucket, and `advance` spreads that bucket over the lower ones, in order. Other nodes stay in their buckets.
+//! - `remove` reads the times of the node's neighbours: they say whether the bucket ends elsewhere without it.
+//!
+//! So each pop that moves a node brings it into a lower bucket, which happens at most 64 times after its push. All
+//! buckets are one list, so a spot reaches its node whichever bucket that is in. For that a push also writes to the
+//! first node of the next bucket.
+//!
+//! It is the radix heap of Ahuja, Mehlhorn, Orlin and Tarjan, with a bucket for each bit.
 ghost use Rattle.std.specs.Prelude.{◌≡◌, ◌≢◌, ℕ, ◌<◌, ◌≤◌, ◌==◌, [], ◌∷◌, ◌++◌, length, max, ◌⊎◌};
 ghost use Rattle.std.specs.Prelude.{IfOk, IfSome, MatchOption, MatchResult};
 ghost use Rattle.std.specs.List.Sorted.{IsPermutation};

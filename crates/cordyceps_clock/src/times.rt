@@ -1,4 +1,8 @@
 //! Functions that return the times of values.
+//!
+//! A queue takes an `impl` of `Times`, and no closure. The toolchain refuses a function that makes a struct with a
+//! `Model` and the bound `O: Times<T>`, if the `impl` of `O` has itself a bound `F: Fn`. A heap's struct has no such
+//! bound, so it has `new_by_key`.
 ghost use Rattle.std.specs.Prelude.{◌≡◌, ℕ};
 
 /// A function that returns the time of a value.

@@ -1,4 +1,12 @@
 //! How many lists a node can be in, and its hooks for them.
+//!
+//! The number of lists is a type, `One` to `Four`. With a constant parameter each function that takes or returns a
+//! block would have to require that it fits into memory, and `Drop` can require nothing. The trait behind the four
+//! types is private, so their arrays can change.
+//!
+//! At `One` to `Four` a `MultiList` can go to another thread, and for an unknown `H` it cannot. With `Send` as a bound
+//! of the arrays of hooks the type could, but the toolchain's borrow checker does not cover a call then whose type
+//! rests on such a bound, and each call would need a proof by hand.
 ghost use Rattle.std.specs.Prelude.{◌≡◌, ℕ, ◌<◌, List, length, true};
 ghost use lib.Dec.{lit<};
 ghost use lib.ListN.{set, replicate};

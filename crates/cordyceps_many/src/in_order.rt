@@ -1,4 +1,10 @@
 //! Nodes that are linked where an order of their values puts them.
+//!
+//! `link_in_order` walks from the back, which is O(1) where elements come nearly in order, as deadlines do that are
+//! equally far away. No list of a `MultiList` is a heap. A heap over the same hooks would need no third link: a
+//! `StableHeap` has two. But its lines are changed by functions of `cordyceps_base` that read one pair of links in a
+//! node, and each of these would be proved anew for hooks. A caller that needs a heap keeps the spot in a `StableHeap`
+//! of its own.
 ghost use Rattle.std.specs.Prelude.{◌≡◌, ◌<◌, length, IfSome, true, false};
 ghost use Rattle.std.specs.declared.cmp.Ordering.{Ordering};
 ghost use denote.RawPtr.{Ptr};

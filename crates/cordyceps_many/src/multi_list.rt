@@ -1,14 +1,33 @@
 //! Lists that share their nodes: a node is in list 0, and at the same time in any of the others.
 //!
-//! A node of three lists is one block of memory. It has its neighbours in each list, and for each list but list 0 a mark
-//! of one byte, which is set while that list has the node. List 0 has every node, so it needs no mark.
+//! A node of three lists is one block of memory. It has its neighbours in each list, and for each list but list 0 a
+//! mark of one byte, which is set while that list has the node. The word behind the value says whose memory the block
+//! is.
 //!
 //! ```text
 //!     list 0        list 1        list 2      1   2
-//! +------+------+------+------+------+------+---+---+----+-------+
-//! | next | prev | next | prev | next | prev | m | m | id | value |
-//! +------+------+------+------+------+------+---+---+----+-------+
+//! +------+------+------+------+------+------+---+---+----+-------+------+
+//! | next | prev | next | prev | next | prev | m | m | id | value | word |
+//! +------+------+------+------+------+------+---+---+----+-------+------+
 //! ```
+//!
+//! The collection is a row of such blocks, and the ends and the length of each list. A proof reads the row as a
+//! function from spots to hooks, so a list is any sequence of spots that the hooks lead through, and a call changes the
+//! function at few spots. Where a node comes to list 0, moves, or leaves, there is a moment at which the list does not
+//! have it and its hook is not cleared: `IsOpen` says what holds then.
+//!
+//! List 0 takes the place of a table of all nodes, so no node has links more than its lists need, and it needs no mark.
+//! The links cannot say whether another list has a node, since both are null in a list of one node, and a proof allows
+//! no comparison of the addresses of two blocks. A mark beside each pair of links would make a hook 24 bytes for 17,
+//! and a write of a hook would store the bytes between the mark and the next pair too.
+//!
+//! There is no cursor: a spot is `Copy` and stays valid while its node is there, so `next`, `prev`, `link_before` and
+//! `link_after` do at any place what a cursor does at its own. Nodes have one handle, `MultiNode`: a type with a handle
+//! of its own wraps that. A call names its list by an index, and its contract says that the other lists are unchanged.
+//! A type for each list would state the same, but a loop over the lists, as in `remove`, would need a function for
+//! each.
+//!
+//! Structs with several hooks are common in C, as with Linux's `list_head`, and in C++ with Boost.Intrusive.
 ghost use Rattle.std.specs.Prelude.{◌≡◌, ◌≢◌, ℕ, ◌+◌, ◌<◌, ◌==◌, List, [], ◌∷◌, ◌++◌, length, true, false};
 ghost use Rattle.std.specs.Prelude.{MatchOption, IfSome, slice_get, Some};
 ghost use Rattle.std.specs.Borrow.{sem};

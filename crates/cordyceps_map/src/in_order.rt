@@ -1,4 +1,7 @@
 //! Nodes that are linked where an order of their values puts them.
+//!
+//! The order is one of the values, since a caller of a map cannot name its entries. Clauses speak of `valued`, the
+//! nodes with their values alone.
 ghost use Rattle.std.specs.Prelude.{◌≡◌, ◌<◌, length, true, false, refl};
 ghost use Rattle.std.specs.declared.cmp.Ordering.{Ordering};
 ghost use Rattle.std.proofs.Common.{subst, sym};

@@ -1,4 +1,7 @@
 //! The way to a node in one word.
+//!
+//! A bucket and a node have such links. The spot of a node may be compared with null, as `lists_agree` of a `MultiList`
+//! states, so null stands for none, and a contract sees an `Option`.
 ghost use Rattle.std.specs.Prelude.{◌≡◌, None, Some};
 ghost use Rattle.cordyceps_base.specs.Spots.{IsNullComparable};
 

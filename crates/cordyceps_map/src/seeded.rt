@@ -1,4 +1,4 @@
-//! Hashing with keys of the caller's.
+//! Hashing with keys of the caller's. std's own hasher needs a source of random numbers at run time.
 ghost use Rattle.std.specs.Prelude.{◌≡◌};
 ghost use Rattle.core.specs.Hash.DefaultHasher.{with_keys};
 ghost use Rattle.cordyceps_map.specs.Seeded.{first_state};

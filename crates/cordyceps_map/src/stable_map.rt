@@ -10,6 +10,21 @@
 //! ```
 //!
 //! Each node also has the hooks of a `MultiList`, which are not drawn.
+//!
+//! A map is a `MultiList` of entries, a table of buckets, and a hasher. The number of buckets is a power of two, and
+//! the bucket of a key is that of the low bits of its hash. A lookup reads one place of the table and the nodes of one
+//! bucket. Besides the lists, an insertion writes the table and the node, and a removal writes the node before it in
+//! the bucket, or the table. `insert` hashes its key once: the number of the bucket is handed to the functions that
+//! take out the node with that key and link in the new one. A bucket is a walk by spots, and the map's invariant
+//! (`IsMap`) says that the walks of all buckets together come to each node once.
+//!
+//! A bucket is linked one way. A removal walks its bucket from the front to find the node before, which costs what the
+//! lookup has cost already. A second link would cost each node 8 bytes, and a removal one more node to write, which is
+//! often not in the cache. The number of buckets is not part of a map's contract: it changes the speed of a call and
+//! nothing that a call does, and `rehash` states that what the map holds stays. So an insertion never allocates, and
+//! never grows the table by itself.
+//!
+//! It is hashing with separate chains. The list of all nodes in order of arrival is that of Java's `LinkedHashMap`.
 ghost use Rattle.std.specs.Prelude.{◌≡◌, ◌≢◌, ℕ, ◌<◌, ◌≤◌, ◌==◌, List, [], ◌∷◌, ◌++◌, length, true, false};
 ghost use Rattle.std.specs.Prelude.{MatchOption, IfSome, IfOk, is_some, option_copied, None, Some};
 ghost use Rattle.std.specs.Map.{lookup};

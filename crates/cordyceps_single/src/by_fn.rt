@@ -1,4 +1,9 @@
 //! An order by a function of the caller's.
+//!
+//! That the function is lawful is a condition of the calls, not a field: a struct cannot hold a function with the fact
+//! that it is a total preorder. So `ByFn<T, F>` is generic in the function's type, and constructors and calls that
+//! compare require the fact. A sorted list has no invariant that it is sorted: contracts say which arrivals it
+//! represents, with no premise but the order's law.
 ghost use Rattle.std.specs.Prelude.{◌≡◌};
 ghost use Rattle.cordyceps_single.specs.ByFn.{Computes};
 ghost use Rattle.std.specs.declared.cmp.Ordering.{Ordering};

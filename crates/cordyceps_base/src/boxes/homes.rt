@@ -1,4 +1,17 @@
 //! Whose memory a block lies in: a word behind the block says it.
+//!
+//! ```text
+//! +----------------+------+
+//! | block          | word |   0: of `Global`, which frees it; another number: lent, and left to its lender
+//! +----------------+------+
+//! ```
+//!
+//! `Home` is the allocator type of such boxes, and takes no bytes. Its right to free a block (`housed` of
+//! `specs/Homes.antt`) owns the word, what else lies there and, if the word is 0, the right of `Global`. `Home::boxed`
+//! puts a value into a block of `Global` with the word 0 behind it, and `Home::unboxed` takes a value out and frees the
+//! block if the word is 0. Four functions are proved by hand: `housed`, which hides the word in that right, `released`,
+//! which reads it, and the two of `Home` as an allocator, which allocate and free nothing. All other modules use nodes
+//! without knowing whose memory they are.
 ghost use Rattle.std.specs.Prelude.{◌≡◌, IfOk, IfErr, MatchResult};
 ghost use Rattle.cordyceps_base.specs.Homes.{housed};
 
