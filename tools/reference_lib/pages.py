@@ -26,9 +26,14 @@ def sentences(text):
     return re.split(r"(?<=\.) (?=[A-Z`])", flat) if flat else []
 
 
+def unlinked(text):
+    """A comment without the brackets by which it links names."""
+    return re.sub(r"\[(`[^`\]]+`)\](?!\()", r"\1", text)
+
+
 def doc_of(item):
     """A doc comment: its text, and its sections by their titles."""
-    text = re.sub(r"\[(`[^`\]]+`)\](?!\()", r"\1", "\n".join(item.doc))
+    text = unlinked("\n".join(item.doc))
     main, *more = re.split(r"^# +", text, flags=re.M)
     parts = (it.partition("\n") for it in more)
     return main.strip(), {title.strip(): body.strip() for title, _, body in parts}
@@ -146,6 +151,10 @@ class Page:
             return text
         other, anchor = self.places[key]
         return f"[{text}]({'' if other == self.name else other}#{anchor})"
+
+    def head(self, file):
+        """What a module says of itself."""
+        self.lines += [*unlinked("\n".join(file.about)).split("\n"), ""]
 
     def about(self, item):
         """A doc comment, but for its section of costs. Blocks of code in it are Rust."""

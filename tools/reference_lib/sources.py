@@ -168,6 +168,16 @@ def files_of(crate):
     return [read(crate, it) for it in found]
 
 
+def says_more(file):
+    """Whether the head of a file has more than one paragraph."""
+    return "" in file.about
+
+
+def module_of(file):
+    """The path of a file's module in its crate."""
+    return re.sub(r"(?:/mod)?\.rt$", "", file.path.removeprefix("src/")).replace("/", "::")
+
+
 def header_of(item):
     """The first lines of an `impl` or a trait, up to its brace, as one line."""
     head = []
