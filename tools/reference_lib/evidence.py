@@ -10,7 +10,7 @@ from types import SimpleNamespace
 
 from . import sources
 
-DOCUMENTS = ("THEOREMS.md", "SHARED_THEOREMS.md", "PROGRAM_THEOREMS.md")
+DOCUMENTS = ("promises/collections.md", "promises/shared.md", "promises/programs.md")
 
 # A promise: its document, its section, its name, its crate, its sentences, its points by their first words, and the
 # functions that it cites. A section is its title, and what it says before its first promise.
