@@ -1,0 +1,5 @@
+mod Ending
+mod Placing
+mod Received
+mod Registering
+mod Waiting

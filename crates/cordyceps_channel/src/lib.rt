@@ -1,0 +1,34 @@
+//! A channel over an `MpscQueue`: senders, and one receiver, which wait, end, and say so.
+//!
+//! Take it where many threads send elements to one. `channel` makes the first `Sender` and the `Receiver`; a sender
+//! makes others by `try_clone`, also while elements go through. Sending takes no memory. `send` waits while the channel
+//! is full and `recv` while it is empty, and both sleep if that lasts. An end is told by a drop: when all senders are
+//! dropped, the receiver gets what is left, and then `Disconnected`; when the receiver is dropped, a sender gets its
+//! element back. Take an `MpscQueue` of `cordyceps_queue` itself where no thread may sleep, where a thread takes
+//! elements out by batches, or where parties have rooms of their own.
+//!
+//! `pair` creates a channel, `sender` and `receiver` have its two sides, and `errors` what they return where nothing
+//! goes through. `register` has the parties of senders that ended, `place` the place in which each is left, `bell` what
+//! threads sleep on, and `shared` what both sides share.
+//!
+//! Proved: each element that a sender sends is put in once, or comes back; the receiver receives elements in the order
+//! in which they came in; and where it gets `Disconnected`, all senders have ended, and it has received each element
+//! that was ever sent. Only tested: that a call that waits returns when it should, and that drops leave no element.
+//!
+//! A channel takes 72 bytes a room and some 600 more, and a sender some 200 bytes in four blocks. `try_send` is a load
+//! of a flag and an enqueue, and a swap of the pool's word when the sender has no room; `try_recv` is a try to dequeue.
+#![tactic(auto)]
+
+mod bell;
+mod errors;
+mod pair;
+mod place;
+mod receiver;
+mod register;
+mod sender;
+mod shared;
+
+pub use errors::{Disconnected, TryRecvError, TrySendError};
+pub use pair::channel;
+pub use receiver::Receiver;
+pub use sender::Sender;

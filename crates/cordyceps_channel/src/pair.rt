@@ -1,0 +1,79 @@
+//! How a channel is created: the queue, the register of its senders' parties, and its two sides.
+ghost use Rattle.std.specs.Prelude.{◌≤◌, IfOk};
+ghost use Rattle.cordyceps_channel.specs.Channels.{IsChannel, AreParties};
+
+use crate::place::Place;
+use crate::receiver::Receiver;
+use crate::register::Register;
+use crate::sender::Sender;
+use crate::shared::Shared;
+use cordyceps_base::linked::Linked;
+use cordyceps_base::mpsc_queue::Links;
+use cordyceps_base::shared::MAX_ROOMS;
+use cordyceps_queue::mpsc_queue::{MpscQueue, Party};
+use std::alloc::{AllocError, Global};
+use std::snapshot::Snapshot;
+use std::sync::Arc;
+
+/// The queue of a new channel, the party of its register, and that of its receiver.
+#[derive(Drop)]
+struct Parts<T: Linked<Links<T>>> {
+    queue: MpscQueue<T>,
+    party: Party<T>,
+    receivers: Party<T>,
+}
+
+/// Creates a queue whose rooms are all in the pool, and splits the receiver's party off its party.
+fn make_parts<T: Linked<Links<T>>>(alloc: Global, rooms: usize) -> Result<Parts<T>, AllocError>
+    requires { rooms ≤ MAX_ROOMS }
+    ensures { IfOk result (λ made. AreParties rooms made.queue.table made.party made.receivers) }
+{
+    let (queue, mut party) = MpscQueue::new(alloc, rooms)?;
+    queue.give_back(&mut party, rooms);
+    let receivers = queue.split(&mut party, 0);
+    Ok(Parts {
+        queue,
+        party,
+        receivers,
+    })
+}
+
+/// Creates a channel with `rooms` rooms, and returns its first sender and its receiver. Requires that `rooms` is at
+/// most `MAX_ROOMS`.
+///
+/// As many elements can wait to be received as the channel has rooms. A sender takes up to one in 256 rooms at a time,
+/// and keeps them until it has used them or ends. A channel without rooms takes no element.
+///
+/// # Errors
+/// If memory is refused, it returns `AllocError`, and nothing is kept.
+///
+/// # Complexity
+/// O(`rooms`).
+pub fn channel<T: Linked<Links<T>>>(
+    alloc: Global,
+    rooms: usize,
+) -> Result<(Sender<T>, Receiver<T>), AllocError>
+    requires { rooms ≤ MAX_ROOMS }
+    ensures { IfOk result (λ ends. IsChannel rooms ends.0 ends.1) }
+{
+    let Parts {
+        queue,
+        party,
+        receivers,
+    } = make_parts(alloc, rooms)?;
+    let key = Snapshot::of(&party);
+    let mut place = Place::new(alloc, &key)?;
+    let mut register = Register {
+        party,
+        homes: Vec::new(alloc),
+    };
+    let opened = register.open(alloc, &queue)?;
+    place.put(register);
+    let senders_place = place.another()?;
+    let shared = Arc::new(alloc, Shared::new(queue, alloc, rooms))?;
+    let senders_shared = Arc::try_clone(&shared)?;
+    Ok((
+        Sender::of(senders_shared, senders_place, opened),
+        Receiver::of(shared, place, receivers),
+    ))
+}

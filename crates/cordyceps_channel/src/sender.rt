@@ -1,0 +1,229 @@
+//! The sending side of a channel.
+//!
+//! A sender has a party of the queue. Its rooms are few at a time: it takes up to a quantum when it has none, and gives
+//! all back when it ends. When it ends it leaves its party in its place of the register, which takes no memory and
+//! waits for nobody: the place is this sender's alone until then. So the receiver can take all parties in at the end,
+//! and its own is whole again.
+ghost use Rattle.std.specs.Arc.{arc_value};
+ghost use Rattle.std.specs.Prelude.{◌≡◌, ◌<◌, true, false, IfOk, MatchResult};
+ghost use Rattle.cordyceps_channel.specs.Channels.{Sends, SendsNothing, HasBack, IsOpened, HasRegister, IsRegister};
+
+use crate::errors::{Disconnected, TrySendError};
+use crate::register::{Home, Opened, Register, RegisterPlace};
+use crate::shared::Shared;
+use cordyceps_base::linked::Linked;
+use cordyceps_base::mpsc_queue::Links;
+use cordyceps_queue::mpsc_queue::Party;
+use crossbeam_utils::Backoff;
+use std::alloc::{AllocError, Global};
+use std::marker::Model;
+use std::sync::atomic::Ordering;
+use std::sync::{Arc, Wait};
+
+/// The sending side of a channel. It can be sent to a thread if `T::Handle` can.
+///
+/// Dropping a sender ends it, which the receiver is told. A sender that is forgotten, as by `mem::forget`, never ends,
+/// so the receiver waits for it.
+///
+/// A contract sees the party of the sender: the table of the channel's queue, and what the sender has seen, in which
+/// its own events are marked. It sees no contents.
+///
+/// # Complexity
+/// Dropping a sender is O(1), unless it is the last of the channel's two sides: then the queue is dropped too.
+///
+/// # Waits
+/// Dropping a sender never waits.
+pub struct Sender<T: Linked<Links<T>>> {
+    shared: Arc<Shared<T>, Global>,
+    register: RegisterPlace<T>,
+    home: Home<T>,
+    party: Party<T>,
+}
+
+impl<T: Linked<Links<T>>> Model for Sender<T> {
+    ghost use Rattle.std.specs.Arc.{arc_value};
+    ghost use Rattle.std.specs.Prelude.{◌≡◌, false};
+    ghost use Rattle.cordyceps_queue.specs.Shared.Calls.{PartyOf};
+    ghost use Rattle.cordyceps_channel.specs.Channels.{IsOpened, HasRegister};
+
+    ghost Value = { PartyOf T.Handle };
+
+    ghost view = { λ s. s.party };
+
+    ghost invariant = { λ s. (s.party.table ≡ (arc_value s.shared).queue.table)
+        × HasRegister (arc_value s.shared).queue.table false s.register
+        × IsOpened (arc_value s.shared).queue.table s.party s.home };
+}
+
+impl<T: Linked<Links<T>>> Drop for Sender<T> {
+    /// Ends the sender: gives its rooms back, leaves its party in its place, and tells the receiver.
+    ///
+    /// # Complexity
+    /// O(1), and that of dropping the queue if nothing else of the channel is left.
+    fn drop(self) {
+        let Sender {
+            shared,
+            register,
+            mut home,
+            mut party,
+        } = self;
+        shared.queue.give_all_back(&mut party);
+        shared.freed.ring();
+        home.put(party);
+        shared.senders.fetch_sub(1, Ordering::SeqCst);
+        shared.sent.ring();
+        drop(register);
+    }
+}
+
+impl<T: Linked<Links<T>>> Sender<T> {
+    /// Makes a sender of an opened party.
+    pub(crate) fn of(
+        shared: Arc<Shared<T>, Global>,
+        register: RegisterPlace<T>,
+        opened: Opened<T>,
+    ) -> Sender<T>
+        requires register { HasRegister (arc_value shared).queue.table false register }
+        requires opened { IsOpened (arc_value shared).queue.table opened.party opened.home }
+        ensures { result ≡ opened.party }
+    {
+        let Opened { party, home } = opened;
+        shared.senders.fetch_add(1, Ordering::SeqCst);
+        Sender {
+            shared,
+            register,
+            home,
+            party,
+        }
+    }
+
+    /// Takes rooms if the sender has none, and returns whether it has one.
+    fn has_room(&mut self) -> bool
+        ensures sends { SendsNothing self.old self.new }
+        ensures room { result ≡ true → 0 < self.new.rooms }
+    {
+        if self.party.rooms() > 0 {
+            return true;
+        }
+        let shared = &self.shared;
+        shared.queue.refill_at_most(&mut self.party, shared.quantum) > 0
+    }
+
+    /// Sends an element, if a room is free.
+    ///
+    /// # Errors
+    /// It returns `Full` if no room was free, and `Disconnected` if the receiver has ended. Both have the element. An
+    /// element that was sent while the receiver ended may not be received: it is dropped with the channel.
+    ///
+    /// # Complexity
+    /// O(1), and O(q) where it takes a quantum of q rooms, at most 64.
+    ///
+    /// # Waits
+    /// Never.
+    pub fn try_send(&mut self, handle: T::Handle) -> Result<(), TrySendError<T::Handle>>
+        ensures { MatchResult result (λ _. Sends handle self.old self.new)
+            (λ why. HasBack handle why self.old self.new) }
+    {
+        if self.shared.receiver_has_ended.load(Ordering::SeqCst) {
+            return Err(TrySendError::Disconnected(handle));
+        }
+        if !self.has_room() {
+            return Err(TrySendError::Full(handle));
+        }
+        self.shared.queue.enqueue(&mut self.party, handle);
+        self.shared.sent.ring();
+        Ok(())
+    }
+
+    /// Sends an element, and waits while no room is free.
+    ///
+    /// # Errors
+    /// If the receiver has ended, it returns `Disconnected` with the element.
+    ///
+    /// # Complexity
+    /// That of `try_send` for each try.
+    ///
+    /// # Waits
+    /// For the receiver to free a room, or to end. It looks some times, and then sleeps. In a channel without rooms it
+    /// waits until the receiver ends.
+    pub fn send<R: Wait>(
+        &mut self,
+        rt: &R,
+        handle: T::Handle,
+    ) -> Result<(), Disconnected<T::Handle>>
+        ensures { MatchResult result (λ _. Sends handle self.old self.new)
+            (λ why. (why.value ≡ handle) × SendsNothing self.old self.new) }
+    {
+        match self.try_send(handle) {
+            Ok(()) => Ok(()),
+            Err(TrySendError::Disconnected(value)) => Err(Disconnected { value }),
+            Err(TrySendError::Full(value)) => self.wait_and_send(rt, value),
+        }
+    }
+
+    /// Sends an element as soon as a room is free.
+    fn wait_and_send<R: Wait>(
+        &mut self,
+        rt: &R,
+        handle: T::Handle,
+    ) -> Result<(), Disconnected<T::Handle>>
+        ensures { MatchResult result (λ _. Sends handle self.old self.new)
+            (λ why. (why.value ≡ handle) × SendsNothing self.old self.new) }
+    {
+        let mut handle = handle;
+        for _ in rt.forever() {
+            let heard = self.shared.freed.listen();
+            match self.try_send(handle) {
+                Ok(()) => {
+                    self.shared.freed.leave();
+                    return Ok(());
+                }
+                Err(TrySendError::Disconnected(value)) => {
+                    self.shared.freed.leave();
+                    return Err(Disconnected { value });
+                }
+                Err(TrySendError::Full(value)) => handle = value,
+            }
+            self.shared.freed.sleep(rt, heard);
+        }
+        unreachable!()
+    }
+
+    /// Returns another sender of the same channel. It takes over the party of one that has ended, if there is one.
+    ///
+    /// # Errors
+    /// If memory is refused, it returns `AllocError`, and the channel is as before.
+    ///
+    /// # Complexity
+    /// O(n), for the n senders that there were at most at a time. Without one that has ended, it allocates a place.
+    ///
+    /// # Waits
+    /// While another thread clones a sender of this channel.
+    pub fn try_clone<R: Wait>(&mut self, rt: &R) -> Result<Sender<T>, AllocError>
+        ensures same { self.new ≡ self.old }
+        ensures made { IfOk result (λ sender. sender.table ≡ self.old.table) }
+    {
+        let shared = Arc::try_clone(&self.shared)?;
+        let place = self.register.another()?;
+        let mut register = take_register(rt, &mut self.register);
+        let opened = register.open(shared.alloc, &shared.queue);
+        self.register.put(register);
+        Ok(Sender::of(shared, place, opened?))
+    }
+}
+
+/// Takes the register out of its place, and waits while another sender has it.
+fn take_register<T: Linked<Links<T>>, R: Wait>(rt: &R, place: &mut RegisterPlace<T>) -> Register<T>
+    requires { place.old.took ≡ false }
+    ensures place { place.new ≡ record place.old { took = true } }
+    ensures register { IsRegister place.old.key.value.table result.party result.homes.items }
+{
+    let backoff = Backoff::new();
+    for _ in rt.forever() {
+        if let Some(register) = place.take() {
+            return register;
+        }
+        backoff.snooze();
+    }
+    unreachable!()
+}

@@ -1,0 +1,55 @@
+//! What senders and receiver of a channel share.
+
+ghost use Rattle.std.specs.Prelude.{◌≡◌};
+
+use crate::bell::Bell;
+use cordyceps_base::linked::Linked;
+use cordyceps_base::mpsc_queue::Links;
+use cordyceps_queue::mpsc_queue::MpscQueue;
+use std::alloc::Global;
+use std::sync::atomic::{AtomicBool, AtomicU64};
+
+/// The most rooms that a sender takes at a time.
+const MAX_QUANTUM: usize = 64;
+
+/// A sender takes at most one in so many rooms at a time, so that no 256 senders can have them all and send nothing.
+const SENDERS: usize = 256;
+
+/// What senders and receiver of a channel share.
+#[derive(Drop)]
+pub(crate) struct Shared<T: Linked<Links<T>>> {
+    /// The queue through which elements go.
+    pub queue: MpscQueue<T>,
+    /// The memory of new senders.
+    pub alloc: Global,
+    /// How many senders have not ended.
+    pub senders: AtomicU64,
+    /// Whether the receiver has ended.
+    pub receiver_has_ended: AtomicBool,
+    /// Rings when an element is sent and when a sender ends.
+    pub sent: Bell,
+    /// Rings when rooms become free and when the receiver ends.
+    pub freed: Bell,
+    /// How many rooms a sender takes at a time.
+    pub quantum: usize,
+    /// With how many rooms the receiver frees them.
+    pub batch: usize,
+}
+
+impl<T: Linked<Links<T>>> Shared<T> {
+    /// Creates what is shared by a channel over this queue, of so many rooms.
+    pub fn new(queue: MpscQueue<T>, alloc: Global, rooms: usize) -> Shared<T>
+        ensures { result.queue ≡ queue }
+    {
+        Shared {
+            queue,
+            alloc,
+            senders: AtomicU64::new(0),
+            receiver_has_ended: AtomicBool::new(false),
+            sent: Bell::new(),
+            freed: Bell::new(),
+            quantum: (rooms / SENDERS).clamp(1, MAX_QUANTUM),
+            batch: (rooms / 4).max(1),
+        }
+    }
+}
