@@ -182,7 +182,7 @@ impl<T: Linked<Links<T>>> TransferStack<T> {
         requires table { party.old.table ≡ self.now }
         requires room { 0 < party.old.rooms }
         ensures answer { MatchResult result
-            (λ first. PushesAt 1 handle first party.old party.new)
+            (λ was_empty. PushesAt 1 handle was_empty party.old party.new)
             (λ back. (back ≡ handle) × Misses party.old party.new) }
         ensures whole { party.old.share ≡ whole → is_ok result ≡ true }
     {
@@ -210,7 +210,7 @@ impl<T: Linked<Links<T>>> TransferStack<T> {
     ) -> Result<bool, TryPushError<T::Handle>>
         requires { party.old.table ≡ self.now }
         ensures answer { MatchResult result
-            (λ first. PushesRefilled handle first party.old party.new)
+            (λ was_empty. PushesRefilled handle was_empty party.old party.new)
             (λ error. FailsToPush handle error party.old party.new) }
         ensures few { party.old.share ≡ whole → party.new.rooms ≤ max party.old.rooms QUANTUM }
         ensures whole { party.old.share ≡ whole → IfErr result (λ error. IsCertainlyFull error party.new) }
@@ -219,7 +219,7 @@ impl<T: Linked<Links<T>>> TransferStack<T> {
             return Err(TryPushError::Full(handle));
         }
         match self.try_push(party, handle) {
-            Ok(first) => Ok(first),
+            Ok(was_empty) => Ok(was_empty),
             Err(back) => Err(TryPushError::Contended(back)),
         }
     }
@@ -241,8 +241,8 @@ impl<T: Linked<Links<T>>> TransferStack<T> {
         requires table { party.old.table ≡ self.now }
         requires rooms { length elements ≤ party.old.rooms }
         ensures answer { MatchResult result
-            (λ first. (pushed : List T.Handle) × (elements ≡ map T.element pushed)
-            × PushesAllAt 1 pushed first party.old party.new)
+            (λ was_empty. (pushed : List T.Handle) × (elements ≡ map T.element pushed)
+            × PushesAllAt 1 pushed was_empty party.old party.new)
             (λ back. (back ≡ elements) × Misses party.old party.new) }
         ensures whole { party.old.share ≡ whole → is_ok result ≡ true }
     {
@@ -299,8 +299,8 @@ impl<T: Linked<Links<T>>> TransferStack<T> {
         ensures { (batch : List T.Handle) × (result ≡ reverse (map T.element batch)) × Takes batch party.old party.new }
     {
         let words = &self.rooms.shared;
-        let first = steps::take(words, &mut party.seat);
-        hand_out::<T, true>(words, &mut party.seat, &mut party.free, first)
+        let at = steps::take(words, &mut party.seat);
+        hand_out::<T, true>(words, &mut party.seat, &mut party.free, at)
     }
 
     /// Takes all rooms of the pool, which become the party's, and returns how many they are.
