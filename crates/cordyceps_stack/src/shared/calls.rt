@@ -203,6 +203,20 @@ impl<T: Linked<Links<T>>> TransferStack<T> {
     ///
     /// # Waits
     /// Never.
+    ///
+    /// # Examples
+    /// From `run_queue::submit` of `cordyceps_shared_uses`:
+    /// ```
+    /// match queue.refill_and_try_push(party, job) {
+    ///     Ok(was_empty) => {
+    ///         if was_empty {
+    ///             alarm.ring();
+    ///         }
+    ///         return;
+    ///     }
+    ///     Err(error) => job = error.into_inner(),
+    /// }
+    /// ```
     pub fn refill_and_try_push(
         &self,
         party: &mut Party<T>,
@@ -299,8 +313,8 @@ impl<T: Linked<Links<T>>> TransferStack<T> {
         ensures { (batch : List T.Handle) × (result ≡ reverse (map T.element batch)) × Takes batch party.old party.new }
     {
         let words = &self.rooms.shared;
-        let at = steps::take(words, &mut party.seat);
-        hand_out::<T, true>(words, &mut party.seat, &mut party.free, at)
+        let first = steps::take(words, &mut party.seat);
+        hand_out::<T, true>(words, &mut party.seat, &mut party.free, first)
     }
 
     /// Takes all rooms of the pool, which become the party's, and returns how many they are.
@@ -351,6 +365,14 @@ impl<T: Linked<Links<T>>> TransferStack<T> {
     ///
     /// # Waits
     /// Never.
+    ///
+    /// # Examples
+    /// From `run_queue::work` of `cordyceps_shared_uses`:
+    /// ```
+    /// let batch = queue.take_all(&mut party);
+    /// let rooms = party.rooms();
+    /// queue.give_back(&mut party, rooms);
+    /// ```
     pub fn give_back(&self, party: &mut Party<T>, rooms: usize) -> bool
         requires table { party.old.table ≡ self.now }
         requires rooms { rooms ≤ party.old.rooms }
@@ -414,6 +436,15 @@ impl<T: Linked<Links<T>>> TransferStack<T> {
     ///
     /// # Waits
     /// Never.
+    ///
+    /// # Examples
+    /// From `tour::hand_over` of `cordyceps_uses`:
+    /// ```
+    /// // The stack has eight rooms, and this party has them all.
+    /// let (shared, mut taker) = TransferStack::<Job>::new(alloc, 8)?;
+    /// // Another thread gets a party of its own, with four rooms.
+    /// let mut pusher = shared.split(&mut taker, 4);
+    /// ```
     pub fn split(&self, party: &mut Party<T>, rooms: usize) -> Party<T>
         requires table { party.old.table ≡ self.now }
         requires rooms { rooms ≤ party.old.rooms }
@@ -436,6 +467,14 @@ impl<T: Linked<Links<T>>> TransferStack<T> {
     ///
     /// # Waits
     /// Never.
+    ///
+    /// # Examples
+    /// From `tour::hand_over` of `cordyceps_uses`:
+    /// ```
+    /// // When the other thread has ended, the taker absorbs its party, and has its rooms and its history.
+    /// shared.absorb(&mut taker, pusher);
+    /// Ok(shared.take_all(&mut taker))
+    /// ```
     pub fn absorb(&self, party: &mut Party<T>, other: Party<T>)
         requires { (party.old.table ≡ self.now) × (other.table ≡ self.now) }
         ensures { Absorbs (λ h. Legal h) party.old other party.new }
@@ -458,6 +497,13 @@ impl<T: Linked<Links<T>>> TransferStack<T> {
     ///
     /// # Waits
     /// Never.
+    ///
+    /// # Examples
+    /// From `tasks::schedule` of `cordyceps_uses`:
+    /// ```
+    /// let party = push_all(rt, &shared, party, tasks);
+    /// let came = shared.close(party);
+    /// ```
     pub fn close(self, mut party: Party<T>) -> Stack<T>
         requires table { party.table ≡ self }
         requires whole { party.share ≡ whole }

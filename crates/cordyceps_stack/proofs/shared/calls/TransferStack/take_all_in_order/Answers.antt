@@ -8,6 +8,6 @@ use Rattle.cordyceps_stack.proofs.shared.calls.TransferStack.take_all_in_order.G
 
 pub returns : goal.returns
 returns g c =
-    let batch = room_elements (to_hand_out c.take-at.new.seat.me.0.doing) in
-    let t = takes c.party.inside.seat.table_id c.hand_out.new.seat.table_id _ _ c.party.inside.seat.me c.take-at.new.seat.me c.hand_out.new.seat.me c.take-at.ensures.took c.hand_out.ensures.seat (c.hand_out.ensures.table ∙ c.take-at.ensures.table) in
+    let batch = room_elements (to_hand_out c.take-first.new.seat.me.0.doing) in
+    let t = takes c.party.inside.seat.table_id c.hand_out.new.seat.table_id _ _ c.party.inside.seat.me c.take-first.new.seat.me c.hand_out.new.seat.me c.take-first.ensures.took c.hand_out.ensures.seat (c.hand_out.ensures.table ∙ c.take-first.ensures.table) in
     (batch, c.hand_out.ensures.stack, subst (λ u. Takes batch u (standing c.hand_out.new.seat.table_id c.hand_out.new.seat.me.0)) c.party.view_is t)
