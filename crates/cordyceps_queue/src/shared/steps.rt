@@ -1,6 +1,6 @@
 //! The atomic steps of a shared queue. Each function is a part of a call.
 ghost use Rattle.std.specs.Prelude.{◌≡◌, ◌≢◌, ◌≤◌, ◌<◌, ℕ, suc, List, [], ◌∷◌, length, Some, None, MatchOption};
-ghost use Rattle.cordyceps_queue.specs.Shared.Parts.{IsSeatOf, IsCleared, IsSwapped, AsksRight, TracksEnd};
+ghost use Rattle.cordyceps_queue.specs.Shared.Parts.{IsSeatOf, IsBegun, IsSwapped, AsksRight, TracksEnd};
 ghost use Rattle.cordyceps_queue.specs.History.{Event};
 ghost use Rattle.cordyceps_queue.specs.Shared.Uses.{HasUse};
 ghost use Rattle.cordyceps_shared.specs.Slots.{view, hand};
@@ -9,7 +9,7 @@ ghost use Rattle.cordyceps_queue.specs.Shared.Plays.{HandsOneOut, MovesTo, Hands
 ghost use Rattle.cordyceps_queue.specs.Shared.View.{name, free_chain, all_rooms};
 ghost use Rattle.cordyceps_queue.specs.declared.cores.stage.Stage.TheVariants.{Cleared, Swapped, Rest, Holding, Null, PutRead};
 
-use crate::shared::plays::{Clear, Give, Link, Look, Reread, Swap, Take};
+use crate::shared::plays::{Begin, Give, Link, Look, Reread, Swap, Take};
 use crate::shared::spare::Spare;
 use crate::shared::table::{Chosen, PartySeat, Words};
 use crate::shared::uses::{RoomUse, free_link, leads_to, link_to, pointed, pointer};
@@ -19,7 +19,7 @@ use std::mem;
 
 /// Begins a use of a free room, by which the room's link is null, and takes the room's slot, before this element is put
 /// in. Returns what the link leads to, which is the next free room, and the bit of the new use.
-fn clear<E: Drop, B: Chosen<E>>(
+fn begin<E: Drop, B: Chosen<E>>(
     words: &Words<E>,
     seat: &mut PartySeat<E>,
     room: usize,
@@ -30,10 +30,10 @@ fn clear<E: Drop, B: Chosen<E>>(
     requires room { (rs : List ℕ) × ((view seat.old.me).free ≡ room ∷ rs) }
     requires item { B.item ≡ Some _item.now }
     ensures table { seat.new.table_id ≡ seat.old.table_id }
-    ensures cleared { IsCleared words.now.table_id.slots room result.0 _item.now seat.old.me seat.new.me }
+    ensures begun { IsBegun words.now.table_id.slots room result.0 _item.now seat.old.me seat.new.me }
     ensures knows { HasUse seat.new.me record { room = room; bit = result.1 } }
 {
-    free_link(words.load::<Clear<B>>(seat, LINKS + room))
+    free_link(words.load::<Begin<B>>(seat, LINKS + room))
 }
 
 /// Puts the element into the slot, makes its room the head, and returns the old head. The slot was empty, so nothing
@@ -88,7 +88,7 @@ pub(crate) fn enqueue<E: Drop>(
         (Event.Swap (name (view seat.old.me)) item ∷ Event.Link (name (view seat.old.me)) ∷ []) (view seat.new.me) }
 {
     let room = spare.rooms.first as usize - 1;
-    let (next, bit) = clear::<E, Brand>(words, seat, room, &item);
+    let (next, bit) = begin::<E, Brand>(words, seat, room, &item);
     spare.rooms.first = next;
     spare.rooms.count -= 1;
     let to = RoomUse { room, bit };

@@ -43,7 +43,7 @@ pub(crate) type OwnedTable<E> = Table<Option<E>, SeatView<E>, usize, Rule, Globa
 /// The seat of a party: the token by which it acts on the table.
 pub(crate) type PartySeat<E> = Seat<Option<E>, SeatView<E>>;
 
-/// The element that a room is cleared for. Each call that clears a room chooses it.
+/// The element for which a use of a room begins. Each call that begins a use chooses it.
 pub(crate) trait Chosen<E> {
     ghost use Rattle.std.specs.Prelude.{Option};
 
