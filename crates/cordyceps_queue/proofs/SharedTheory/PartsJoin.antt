@@ -26,9 +26,6 @@ near_all slots free back now bare same near i r ir = near i r (subst (λ l. Item
 pub near_parts : (slots : ℕ) (free now back : List ℕ) → now ≡ free → back ≡ [] → Near slots free → Near slots (now ++ back)
 near_parts slots free now back same bare near = subst (Near slots) (sym (ap (λ l. now ++ l) bare ∙ (append-nil now ∙ same))) near
 
-pub pred_suc : (n : ℕ) → n ≢ 0 → n ≡ suc (n - 1)
-pred_suc n ne = omega arith
-
 abbrev pub hand_of : {A : Type 0} → A → List (ℕ × Option A) → Option A
 hand_of d [] = None
 hand_of d (x ∷ xs) = x.1

@@ -109,17 +109,13 @@ pub(crate) fn take_right<T: Linked<Links<T>>>(
     ensures whole { party.share ≡ whole → is_ok result ≡ true }
 {
     let Party { mut seat, spare } = party;
-    let tail = steps::take(words, &mut seat);
-    if tail.room == 0 {
+    let Some(tail) = steps::take(words, &mut seat) else {
         return Err(Party { seat, spare });
-    }
+    };
     Ok(Right {
         seat,
         spare,
-        tail: RoomUse {
-            room: tail.room - 1,
-            bit: tail.bit,
-        },
+        tail,
         pace: Pace::new(),
     })
 }

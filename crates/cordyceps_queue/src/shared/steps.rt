@@ -12,7 +12,9 @@ ghost use Rattle.cordyceps_queue.specs.declared.cores.stage.Stage.TheVariants.{C
 use crate::shared::plays::{Begin, Give, Link, Look, Reread, Swap, Take};
 use crate::shared::spare::Spare;
 use crate::shared::table::{Chosen, PartySeat, Words};
-use crate::shared::uses::{RoomUse, free_link, leads_to, link_to, pointed, pointer};
+use crate::shared::uses::{
+    RoomUse, free_link, free_right, free_tail, leads_to, link_to, pointed, pointer,
+};
 use cordyceps_shared::layout::{HEAD, LINKS, RIGHT};
 use std::marker::Brand;
 use std::mem;
@@ -105,7 +107,7 @@ pub(crate) fn give<E: Drop>(words: &Words<E>, seat: &mut PartySeat<E>, tail: Roo
     ensures rest { IsResting words.now.table_id.slots seat.new.me }
     ensures answer { MovesTo (Event.Free (name (view seat.old.me)) ∷ []) Rest seat.old.me seat.new.me }
 {
-    words.store::<Give>(seat, RIGHT, pointer(tail) + 2);
+    words.store::<Give>(seat, RIGHT, free_right(tail));
 }
 
 /// Reads the tail's link again, after the stub was put in. If it leads on, returns the new tail.
@@ -126,16 +128,15 @@ pub(crate) fn reread<E: Drop>(
     leads_to(words.load::<Reread>(seat, LINKS + tail.room), tail.bit)
 }
 
-/// Takes the right to dequeue. The room of what it returns is 1 more than the tail's, with the bit of the tail's use,
-/// or 0 if another party has the right.
-pub(crate) fn take<E: Drop>(words: &Words<E>, seat: &mut PartySeat<E>) -> RoomUse
+/// Takes the right to dequeue and returns the tail, or `None` if another party has the right.
+pub(crate) fn take<E: Drop>(words: &Words<E>, seat: &mut PartySeat<E>) -> Option<RoomUse>
     requires table { IsSeatOf seat.old.table_id words.now.table_id }
     requires rest { IsResting words.now.table_id.slots seat.old.me }
     ensures table { seat.new.table_id ≡ seat.old.table_id }
-    ensures took { AsksRight words.now.table_id.slots result.room seat.old.me seat.new.me }
-    ensures knows { (t : ℕ) → result.room ≡ suc t → HasUse seat.new.me record { room = t; bit = result.bit } }
+    ensures took { MatchOption result (AsksRight words.now.table_id.slots 0 seat.old.me seat.new.me)
+        (λ t. AsksRight words.now.table_id.slots (suc t.room) seat.old.me seat.new.me × HasUse seat.new.me t) }
 {
-    pointed(words.swap::<Take>(seat, RIGHT, 0))
+    free_tail(words.swap::<Take>(seat, RIGHT, 0))
 }
 
 /// Reads the link of a tail that is not the stub. If it leads on, returns the new tail and what was in the slot; if it
