@@ -1,5 +1,5 @@
 -- What a party that took the right holds, and what a try comes to.
-use Rattle.std.proofs.Common.{◌≡◌, ◌≢◌, ℕ, zero, suc, ◌-◌, ◌<◌, ◌≤◌, length, List, [], ◌∷◌, ◌++◌, Option, Some, None, sym, refl, ap, ◌∙◌, subst, arith, append_assoc, append-nil, inl, inr}
+use Rattle.std.proofs.Common.{◌≡◌, ◌≢◌, ℕ, zero, suc, ◌<◌, ◌≤◌, length, List, [], ◌∷◌, ◌++◌, Option, Some, None, sym, refl, ap, ◌∙◌, subst, append_assoc, append-nil, inl, inr}
 use Rattle.atomic_table.specs.Table.{rest}
 use Rattle.cordyceps_shared.specs.FreeChains.{FreeChain, MayJoin, end_after}
 use Rattle.cordyceps_shared.specs.Knowing.{Grown}
