@@ -65,8 +65,8 @@ pub(crate) fn refill<E: Drop>(words: &Words<E>, seat: &mut PartySeat<E>, spare: 
     taken.count
 }
 
-/// Reads the pool's word, gives the slots in hand back, and returns `true` if the pool has no room. Its contract also states that the party
-/// has no more rooms than the queue.
+/// Reads the pool's word, gives the slots in hand back, and returns `true` if the pool has no room. Its contract also
+/// states that the party has no more rooms than the queue.
 fn look_at_pool<E: Drop>(words: &Words<E>, seat: &mut PartySeat<E>) -> bool
     requires table { IsSeatOf seat.old.table_id words.now.table_id }
     requires hand { MayReturn words.now.table_id.slots seat.old.me }
@@ -153,8 +153,8 @@ fn put_rest<E: Drop, B: Count>(
     words.compare_exchange::<GiveRest<B>>(seat, POOL, 0, word) == 0
 }
 
-/// Keeps the first `rooms` free rooms and gives the others to the pool, and returns `true`. If other rooms are there, it
-/// returns `false`, and keeps all.
+/// Keeps the first `rooms` free rooms and gives the others to the pool, and returns `true`. If other rooms are there,
+/// it returns `false`, and keeps all.
 fn give_rest<E: Drop>(
     words: &Words<E>,
     seat: &mut PartySeat<E>,

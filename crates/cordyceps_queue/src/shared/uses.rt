@@ -1,7 +1,16 @@
 //! The uses of a room, and how the words of the table spell them.
 //!
-//! A room is used again and again. One bit says to which use of its room a word belongs: the next use of the room has
-//! the other bit. So a link that was written in an earlier use leads nowhere, and no step has to clear it.
+//! ```text
+//! HEAD         2 * head + b                      b: the bit of the head's use
+//! RIGHT        2 * (tail + 1) + b                b: the bit of the tail's use; 0 while a party has the right
+//! LINKS + r    4 * (next + 1) + 2 * b + c        b: the bit of the use of next; c: that of the use of r
+//! ```
+//!
+//! A room is used again and again. One bit says to which use of its room a word belongs: whoever begins a use of a room
+//! loads the room's link, and takes the bit `c` that this does not have. So the link counts as null until one of this
+//! use is stored, and no step has to clear it. A party knows the bits of the rooms that it acts on: it has read them in
+//! `HEAD`, `RIGHT` or a link, or begun the use. In the link of a free room `next` is the next free room, and `b` says
+//! nothing.
 ghost use Rattle.std.specs.Prelude.{◌≡◌, ◌+◌, ◌*◌, ◌-◌, ◌<◌, ◌≤◌, ℕ, suc, MatchOption};
 ghost use Rattle.cordyceps_base.specs.declared.shared.TheConstants.{MAX_ROOMS};
 ghost use Rattle.cordyceps_queue.specs.Shared.Bits.{IsBit, IsLink, IsRead};
@@ -33,8 +42,8 @@ pub(crate) fn pointed(word: u64) -> RoomUse
     }
 }
 
-/// Returns the word of the right to dequeue while no party has it, which leads to this tail. The word is 0 while a party
-/// has the right.
+/// Returns the word of the right to dequeue while no party has it, which leads to this tail. While a party has the
+/// right, the word is 0.
 #[inline(always)]
 pub(crate) fn free_right(tail: RoomUse) -> u64
     requires { (tail.room ≤ MAX_ROOMS) × IsBit tail.bit }
