@@ -22,9 +22,9 @@
 //! 2. `swap_in` swaps `HEAD` with the room, which puts the element into the queue, and gets the room that was the head.
 //! 3. `link` stores that room's link, which leads to the new one.
 //!
-//! A try to dequeue (`tries`, `stub_steps`) loads the tail's link. If it leads on, the tail's element comes out, and
-//! the next room is the new tail. If the tail is the stub, there is no element, and the try goes on with the next room.
-//! If the link is null, the try loads `HEAD`:
+//! A try to dequeue (`tries`, `stub_steps`) loads the tail's link (`look`). If it leads on, the tail's element comes
+//! out, and the next room is the new tail. If the tail is the stub, there is no element, and the try goes on with the
+//! next room. If the link is null, the try loads `HEAD`:
 //!
 //! - If another room is the head, a producer is between its steps 2 and 3, and the try returns `Inconsistent`.
 //! - If the stub is the tail and the head, the queue was `Empty`.
@@ -32,12 +32,13 @@
 //!   link. So the try puts the stub in behind it, by the same three steps, and loads the tail's link again. If that is
 //!   still null, a producer came in before the stub, and the try returns `Inconsistent`.
 //!
-//! A party without the right swaps `RIGHT` with 0 before its try, and stores the tail there afterwards. If it finds 0,
-//! the try returns `Busy`. A consumer keeps the right for many tries.
+//! A party without the right swaps `RIGHT` with 0 before its try (`take`), and stores the tail there afterwards
+//! (`give`). If it finds 0, the try returns `Busy`. A consumer keeps the right for many tries.
 //!
 //! The room of an element that came out follows the party's free rooms (`linking`). Its link leads to the new tail,
 //! which is the next room to come out. So free rooms stay linked as they came out, and only where another room follows
-//! is a link stored. Rooms that no party has are in the pool (`pool`), one chain whose ends and number are in a word.
+//! is a link stored (`tie`). Rooms that no party has are in the pool (`pool`), one chain whose ends and number are in a
+//! word.
 //!
 //! Users see `calls`, `consumer`, `owned_consumer` and `waiting`, and `batch`, which `take_linked` and `close` return.
 //!
