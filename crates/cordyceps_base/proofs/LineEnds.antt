@@ -1,5 +1,5 @@
 -- What a line is read by, and what stays linked where an end of one is written.
-use Rattle.std.proofs.Common.{◌≡◌, ℕ, suc, ◌-◌, ◌<◌, Bool, true, false, not, ◌==◌, T, eqb→eq, [], ◌∷◌, ◌++◌, length, take, drop, slice_get, Some, refl, sym, ap, ◌∙◌, subst, arith, length-append, append_assoc}
+use Rattle.std.proofs.Common.{◌≡◌, ℕ, suc, ◌-◌, ◌<◌, Bool, true, false, ◌==◌, T, eqb→eq, [], ◌∷◌, ◌++◌, length, take, drop, slice_get, Some, refl, sym, ap, ◌∙◌, subst, arith, length-append, append_assoc}
 use Rattle.std.specs.Bool.{MatchBool}
 use denote.RawPtr.{Ptr, null_ptr, Testable, InBlock}
 use Rattle.cordyceps_base.specs.declared.boxes.homes.Home.{Home}
@@ -25,11 +25,11 @@ module _ {X : Type 0} where
   pub line_testable : (h : Ptr) (ns : Row X) → IsDoubleLine h ns → Testable h
   line_testable h ns l = first_testable l.prev h ns l.last l.linked l.comparable
 
-  pub line_empty : (h : Ptr) (ns : Row X) (c : Nodes X) (r : Bool) → nodes_of ns ≡ c → IsDoubleLine h ns → MatchBool r (InBlock h) (h ≡ null_ptr) → not r ≡ (length c == 0)
-  line_empty h [] c true seen l m = absurd (subst InBlock l.linked.0 m)
-  line_empty h (n ∷ ns) c true seen l m = subst (λ (s : Nodes X). not true ≡ (length s == 0)) seen (sym (not_zero (length (nodes_of ns))))
-  line_empty h [] c false seen l m = subst (λ (s : Nodes X). not false ≡ (length s == 0)) seen refl
-  line_empty h (n ∷ ns) c false seen l m = absurd (subst InBlock (sym l.linked.0.0 ∙ m) l.comparable.0.0)
+  pub line_empty : (h : Ptr) (ns : Row X) (c : Nodes X) (r : Bool) → nodes_of ns ≡ c → IsDoubleLine h ns → MatchBool r (h ≡ null_ptr) (InBlock h) → r ≡ (length c == 0)
+  line_empty h [] c false seen l m = absurd (subst InBlock l.linked.0 m)
+  line_empty h (n ∷ ns) c false seen l m = subst (λ (s : Nodes X). false ≡ (length s == 0)) seen (sym (not_zero (length (nodes_of ns))))
+  line_empty h [] c true seen l m = subst (λ (s : Nodes X). true ≡ (length s == 0)) seen refl
+  line_empty h (n ∷ ns) c true seen l m = absurd (subst InBlock (sym l.linked.0.0 ∙ m) l.comparable.0.0)
 
   pub line_first : (h : Ptr) (ns : Row X) (c : Nodes X) → nodes_of ns ≡ c → IsDoubleLine h ns → 0 < length c → slice_get (box_addresses ns) 0 ≡ Some h
   line_first h ns c seen l some = let long = length_is ns c seen in first_on l.prev h ns l.last null_ptr l.linked (omega (arith, some, long))

@@ -56,7 +56,7 @@ module _ {X : Type 0} where
     pub ahead : length front ≡ k
     pub led_front : Lead front before
     pub here : LineAt h.ptr line
-    pub led_back : Lead back after
+    pub front_preceded_by : Lead back after
     pub whole : ns ≡ flat before ++ (line ++ flat after)
     pub shows : lines_in hs (nodes_of ns) ≡ seen (before ++ line ∷ after)
     pub comparable : AreNullComparable (box_addresses line)
@@ -76,7 +76,7 @@ module _ {X : Type 0} where
         ahead = u.ahead;
         led_front = u.first;
         here = u.here;
-        led_back = u.last;
+        front_preceded_by = u.last;
         whole = whole;
         shows = table_shows hs ns w.lines w.parts w.led w.comparable w.distinct ∙ ap seen u.lines;
         comparable = comparable_front u.line (flat u.after) (comparable_back (flat u.before) (u.line ++ flat u.after) (subst (λ ls. AreNullComparable (box_addresses ls)) whole w.comparable));
@@ -144,7 +144,7 @@ module _ {X : Type 0} (xs : List Address) (n : ℕ) {ns : List (OwnedNode X)} {k
 
   module _ (next : Address) (m row : List (OwnedNode X)) (led : LineAt next.ptr m) (is : row ≡ flat u.before ++ (m ++ flat u.after)) (a : AreNullComparable (box_addresses row)) (d : AreDistinct (box_addresses row)) where
     out_lead : Lead (take n (set xs k next)) (u.before ++ m ∷ u.after)
-    out_lead = subst (λ hs. Lead hs (u.before ++ m ∷ u.after)) (sym (write_at xs u.front u.back n k h next u.firsts u.ahead)) (lead_between u.front u.back u.before u.after next m u.led_front led u.led_back)
+    out_lead = subst (λ hs. Lead hs (u.before ++ m ∷ u.after)) (sym (write_at xs u.front u.back n k h next u.firsts u.ahead)) (lead_between u.front u.back u.before u.after next m u.led_front led u.front_preceded_by)
 
     out_whole : row ≡ flat (u.before ++ m ∷ u.after)
     out_whole = is ∙ sym (flat_between u.before u.after m)

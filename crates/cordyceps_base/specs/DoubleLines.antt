@@ -2,6 +2,7 @@
 use Rattle.std.specs.Prelude.{◌≡◌, ◌≤◌, ◌⊎◌, Bool, true, false, ℕ, zero, suc, List, [], ◌∷◌, ◌++◌, length, take, drop}
 use denote.RawPtr.{Ptr, block_ptr, null_ptr, Testable, InBlock}
 use Rattle.cordyceps_base.specs.declared.boxes.Address.{Address}
+use Rattle.cordyceps_base.specs.declared.double_lines.TheConstants.{MAX_LINES}
 use Rattle.cordyceps_base.specs.Boxes.{box_addresses}
 use Rattle.cordyceps_base.specs.DoubleChain.{Segment, Follows, prev_of}
 use Rattle.cordyceps_base.specs.Element.{Element}
@@ -103,16 +104,16 @@ module _ {X : Type 0} where
 
   -- the part of an array that is used leads to such lines
   pub record IsTable (xs : List Address) (n : ℕ) (ns : List (OwnedNode X)) : Type 0 where
-    pub long : length xs ≡ 64
-    pub within : n ≤ 64
+    pub long : length xs ≡ MAX_LINES
+    pub within : n ≤ MAX_LINES
     pub lines : AreLines (take n xs) ns
 
   -- what a walk over a table has left: the address leads to what is left of a line, which the lines from `line` on
   -- follow
   pub record IsLeft (xs : List Address) (count line : ℕ) (at : Ptr) (ns : List (OwnedNode X)) : Type 0 where
-    pub long : length xs ≡ 64
+    pub long : length xs ≡ MAX_LINES
     pub passed : line ≤ count
-    pub within : count ≤ 64
+    pub within : count ≤ MAX_LINES
     pub comparable : AreNullComparable (box_addresses ns)
     pub here : List (OwnedNode X)
     pub others : List (List (OwnedNode X))

@@ -59,7 +59,21 @@ impl Address {
         }
     }
 
+    /// Returns `true` if the address is null.
+    ///
+    /// # Complexity
+    /// O(1).
+    pub fn is_null(self) -> bool
+        requires { Testable self.ptr }
+        ensures { MatchBool result (self.ptr ≡ null_ptr) (InBlock self.ptr) }
+    {
+        NonNull::new(self.ptr).is_none()
+    }
+
     /// Returns `true` if the address is not null.
+    ///
+    /// # Complexity
+    /// O(1).
     pub fn is_not_null(self) -> bool
         requires { Testable self.ptr }
         ensures { MatchBool result (InBlock self.ptr) (self.ptr ≡ null_ptr) }
@@ -68,8 +82,11 @@ impl Address {
     }
 }
 
+// SAFETY: an address owns nothing, and only a call of the `Boxes` that own a block reads there. The check proves it of
+// a raw pointer, without a file in `proofs/`.
 unsafe impl Send for Address {}
 
+// SAFETY: as for `Send`.
 unsafe impl Sync for Address {}
 
 /// A box as its pointer and its allocator.
@@ -97,6 +114,8 @@ impl<B: Drop, A: Allocator> RawBox<B, A> {
         ensures { result.value ≡ self.value }
     {
         let RawBox { at, alloc } = self;
+        // SAFETY: a `RawBox` owns its block, and the right of its allocator to free that. The proof is in
+        // `proofs/boxes/RawBox/into_box/`.
         unsafe { Box::from_raw(alloc, at) }
     }
 }
@@ -114,10 +133,12 @@ impl<B, A: Allocator> Model for Boxes<B, A> {
     ghost also_shares = { λ b _ κ. boxes_lent B.row b.blocks κ };
 }
 
-// Boxes may go to another thread if their values and their allocator may.
+// SAFETY: boxes may go to another thread if their values and their allocator may, since a row owns nothing but its
+// blocks and the right to free them. The proof is in `proofs/boxes/Boxes/TheSendSync/`.
 unsafe impl<B: Send, A: Allocator + Send> Send for Boxes<B, A> {}
 
-// Threads may share boxes if they may share their values.
+// SAFETY: threads may share boxes if they may share their values, since a `&` to a row reaches nothing else. The proof
+// is in `proofs/boxes/Boxes/TheSendSync/`.
 unsafe impl<B: Sync, A: Allocator> Sync for Boxes<B, A> {}
 
 impl<B, A: Allocator> Boxes<B, A> {
@@ -148,6 +169,8 @@ impl<B, A: Allocator> Boxes<B, A> {
         ensures { slice_get (box_values self.now.blocks) k ≡ Some result.now }
     {
         let at = at.ptr as *mut B;
+        // SAFETY: box `k` of the row is at `at`, and the row is lent as long as the value is. The proof is in
+        // `proofs/boxes/Boxes/get/`.
         unsafe { &*at }
     }
 
@@ -158,6 +181,8 @@ impl<B, A: Allocator> Boxes<B, A> {
         ensures value { slice_get (box_values self.old.blocks) k ≡ Some result.now }
     {
         let at = at.ptr as *mut B;
+        // SAFETY: box `k` of the row is at `at`, and the row is lent to this caller alone, as long as the value is. The
+        // proof is in `proofs/boxes/Boxes/get_mut/`.
         unsafe { &mut *at }
     }
 
@@ -170,6 +195,8 @@ impl<B, A: Allocator> Boxes<B, A> {
             ≡ Some result.now }
     {
         let at = at.ptr as *mut B;
+        // SAFETY: a box of the row is at `at`, and the row is lent to this caller alone, as long as the value is. The
+        // proof is in `proofs/boxes/Boxes/at_mut/`.
         unsafe { &mut *at }
     }
 }

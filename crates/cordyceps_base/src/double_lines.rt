@@ -93,7 +93,7 @@ impl<T> Line<T> {
     pub fn is_empty(&self) -> bool
         ensures { result ≡ (length self.now == 0) }
     {
-        !self.first.is_not_null()
+        self.first.is_null()
     }
 
     /// Returns a reference to the value of the first node. Requires a node.
@@ -200,7 +200,7 @@ impl<T> Growing<T> {
     }
 
     /// Appends the first node of a line, and returns what is left of that, too. Requires that it has a node.
-    pub fn with_first_of(self, line: Line<T>) -> (Growing<T>, Line<T>)
+    pub fn append_first_of(self, line: Line<T>) -> (Growing<T>, Line<T>)
         requires { 0 < length line }
         ensures { (address : Ptr) × (e : Element T) × (result.0 ≡ self ++ (address, e) ∷ [])
             × (line ≡ (address, e) ∷ result.1) }
@@ -236,7 +236,7 @@ impl<T> Growing<T> {
             row: more,
         } = rest;
         let (first, row) = followed_by(row, first, last, at);
-        let more = led_back(more, at, last);
+        let more = front_preceded_by(more, at, last);
         Line {
             first,
             row: row.join(more).null_comparable(),
@@ -244,12 +244,15 @@ impl<T> Growing<T> {
     }
 }
 
-/// A table of at most 64 lines. A contract sees a list of the lines, in order. A line in it may have no node.
+/// The maximum number of lines in a table.
+pub const MAX_LINES: usize = 64;
+
+/// A table of at most `MAX_LINES` lines. A contract sees a list of the lines, in order. A line in it may have no node.
 ///
 /// # Complexity
 /// Each call is O(1) and allocates nothing, but for `take_at` and `free`.
 pub struct Lines<T> {
-    firsts: [Address; 64],
+    firsts: [Address; MAX_LINES],
     count: usize,
     row: Row<T>,
 }
@@ -272,7 +275,7 @@ impl<T> Lines<T> {
         ensures { result ≡ [] }
     {
         Lines {
-            firsts: [Address::null(); 64],
+            firsts: [Address::null(); MAX_LINES],
             count: 0,
             row: Boxes::empty(),
         }
@@ -305,13 +308,13 @@ impl<T> Lines<T> {
         let _count = self.count;
     }
 
-    /// Adds a line, as the last. Requires less than 64 lines.
+    /// Adds a line, as the last. Requires less than `MAX_LINES` lines.
     pub fn push(&mut self, line: Line<T>)
-        requires { length self.old < 64 }
+        requires { length self.old < MAX_LINES }
         ensures { self.new ≡ self.old ++ line ∷ [] }
     {
         let Line { first, row: more } = line;
-        let more = led_back(more, first, Address::null());
+        let more = front_preceded_by(more, first, Address::null());
         self.firsts[self.count] = first;
         self.count += 1;
         let row = taken(&mut self.row).join(more);
@@ -342,7 +345,7 @@ impl<T> Lines<T> {
     {
         let _count = self.count;
         let first = self.firsts[k];
-        if !first.is_not_null() {
+        if first.is_null() {
             return None;
         }
         Some(&self.row.from_address(first).get(first, 0).value)
@@ -379,7 +382,7 @@ impl<T> Lines<T> {
         let (one, rest) = back.cut(1);
         let firsts = &mut self.firsts;
         firsts[k] = next;
-        let rest = led_back(rest.null_comparable(), next, Address::null());
+        let rest = front_preceded_by(rest.null_comparable(), next, Address::null());
         put_back(&mut self.row, front.join(rest).distinct().null_comparable());
         alone(at, one)
     }
@@ -395,14 +398,14 @@ impl<T> Lines<T> {
         let (front, back) = taken(&mut self.row).cut_at(at);
         let next = back.get(at, 0).links.next;
         let prev = back.get(at, 0).links.prev;
-        if !prev.is_not_null() {
+        if prev.is_null() {
             let (k, row) = number_of(&self.firsts, self.count, front.join(back), at);
             put_back(&mut self.row, row);
             return self.take_first(k);
         }
         let (one, rest) = back.cut(1);
-        let front = led_on(front, prev, next);
-        let rest = led_back(rest.null_comparable(), next, prev);
+        let front = end_followed_by(front, prev, next);
+        let rest = front_preceded_by(rest.null_comparable(), next, prev);
         put_back(&mut self.row, front.join(rest).distinct().null_comparable());
         alone(at, one)
     }
@@ -452,7 +455,7 @@ fn alone<T>(at: Address, row: Row<T>) -> Line<T>
 }
 
 /// Makes the first node of a line lead back to `prev`, where the line is at the front of a row. It may have no node.
-fn led_back<T>(row: Row<T>, first: Address, prev: Address) -> Row<T>
+fn front_preceded_by<T>(row: Row<T>, first: Address, prev: Address) -> Row<T>
     requires linked { (l more : List (OwnedNode T)) × (row.blocks ≡ l ++ more)
         × ((p t : Ptr) × Segment p first.ptr l t null_ptr) }
     requires null_comparable { AreNullComparable (box_addresses row.blocks) }
@@ -461,7 +464,7 @@ fn led_back<T>(row: Row<T>, first: Address, prev: Address) -> Row<T>
         → ((m : List (OwnedNode T)) × (result.blocks ≡ m ++ more) × (nodes_of m ≡ nodes_of l)
         × ((t : Ptr) × Segment prev.ptr first.ptr m t null_ptr)) }
 {
-    if !first.is_not_null() {
+    if first.is_null() {
         return row;
     }
     let mut row = row;
@@ -470,7 +473,7 @@ fn led_back<T>(row: Row<T>, first: Address, prev: Address) -> Row<T>
 }
 
 /// Makes the last node of a row lead to `next`.
-fn led_on<T>(row: Row<T>, last: Address, next: Address) -> Row<T>
+fn end_followed_by<T>(row: Row<T>, last: Address, next: Address) -> Row<T>
     requires { (more l : List (OwnedNode T)) × (row.blocks ≡ more ++ l) × (0 < length l)
         × ((p h q : Ptr) × Segment p h l last.ptr q) }
     ensures { (more l : List (OwnedNode T)) (p h q : Ptr) → row.blocks ≡ more ++ l
@@ -486,7 +489,12 @@ fn led_on<T>(row: Row<T>, last: Address, next: Address) -> Row<T>
 
 /// Returns the number of the line whose first node is at an address, and the same row. It marks the node, by a `prev`
 /// that is not null, and looks for the mark: two addresses cannot be compared.
-fn number_of<T>(firsts: &[Address; 64], count: usize, row: Row<T>, at: Address) -> (usize, Row<T>)
+fn number_of<T>(
+    firsts: &[Address; MAX_LINES],
+    count: usize,
+    row: Row<T>,
+    at: Address,
+) -> (usize, Row<T>)
     requires table { IsTable firsts.now count row.blocks }
     requires first { BeginsLine (take count firsts.now) row.blocks at.ptr }
     ensures same { result.1.blocks ≡ row.blocks }
@@ -502,8 +510,8 @@ fn number_of<T>(firsts: &[Address; 64], count: usize, row: Row<T>, at: Address) 
 }
 
 /// Returns the number of the first line whose first node has a mark: its `prev` is not null.
-fn marked<T>(firsts: &[Address; 64], count: usize, row: &Row<T>) -> usize
-    requires long { (length firsts.now ≡ 64) × (count ≤ 64) }
+fn marked<T>(firsts: &[Address; MAX_LINES], count: usize, row: &Row<T>) -> usize
+    requires long { (length firsts.now ≡ MAX_LINES) × (count ≤ MAX_LINES) }
     requires row { AreNullComparable (box_addresses row.now.blocks) × AreDistinct (box_addresses row.now.blocks) }
     requires marked { (ls : List (List (OwnedNode T))) × (k : ℕ) × (row.now.blocks ≡ flat ls)
         × IsMarkedAt (take count firsts.now) ls k }
@@ -526,7 +534,7 @@ fn is_marked<T>(first: Address, row: &Row<T>) -> bool
     requires { IsHead first row.now.blocks }
     ensures { IsHeadMarked result first row.now.blocks }
 {
-    if !first.is_not_null() {
+    if first.is_null() {
         return false;
     }
     row.from_address(first)

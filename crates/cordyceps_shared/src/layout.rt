@@ -3,7 +3,8 @@
 //! A stack's table ends before `LINKS`, since its links lie in its slots, and no step writes its word at `RIGHT`.
 //!
 //! `POOL`, `HEAD` and `RIGHT` have 128 bytes each of their own. These are two cache lines, since a processor may fetch
-//! lines in pairs. So a step on one of them takes neither another of them nor a link away from another processor.
+//! lines in pairs. A step on one of them takes its line from all other processors, but neither another of them nor a
+//! link. A queue's links share lines: one line each would take eight times the memory.
 
 /// The index of the word that leads to the pool: the free rooms that no party has.
 pub const POOL: usize = 0;

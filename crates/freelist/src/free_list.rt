@@ -93,7 +93,7 @@ impl<T: Linked<Links<T>>> FreeList<T> {
         requires table { party.old.table ≡ self.now }
         requires room { 0 < party.old.rooms }
         ensures answer { MatchResult result
-            (λ first. PushesAt 1 handle first party.old party.new)
+            (λ was_empty. PushesAt 1 handle was_empty party.old party.new)
             (λ back. (back ≡ handle) × Misses party.old party.new) }
         ensures whole { party.old.share ≡ whole → is_ok result ≡ true }
     {
@@ -122,7 +122,7 @@ impl<T: Linked<Links<T>>> FreeList<T> {
     ) -> Result<bool, TryPushError<T::Handle>>
         requires { party.old.table ≡ self.now }
         ensures answer { MatchResult result
-            (λ first. PushesRefilled handle first party.old party.new)
+            (λ was_empty. PushesRefilled handle was_empty party.old party.new)
             (λ error. FailsToPush handle error party.old party.new) }
         ensures few { party.old.share ≡ whole → party.new.rooms ≤ max party.old.rooms QUANTUM }
         ensures whole { party.old.share ≡ whole → IfErr result (λ error. IsCertainlyFull error party.new) }
@@ -147,8 +147,8 @@ impl<T: Linked<Links<T>>> FreeList<T> {
         requires table { party.old.table ≡ self.now }
         requires rooms { length blocks ≤ party.old.rooms }
         ensures answer { MatchResult result
-            (λ first. (shared : List T.Handle) × (blocks ≡ map T.element shared)
-            × PushesAllAt 1 shared first party.old party.new)
+            (λ was_empty. (shared : List T.Handle) × (blocks ≡ map T.element shared)
+            × PushesAllAt 1 shared was_empty party.old party.new)
             (λ back. (back ≡ blocks) × Misses party.old party.new) }
         ensures whole { party.old.share ≡ whole → is_ok result ≡ true }
     {

@@ -74,6 +74,8 @@ impl Home {
     }
 }
 
+// SAFETY: `allocate` gives no block, and `deallocate` is called only with the right `housed`, which it drops with the
+// word in it; so no block is freed that is still used. The proofs are in `proofs/boxes/homes/HomeAllocator/`.
 unsafe impl Allocator for Home {
     ghost dealloc_token = { λ _ τ p. housed τ p };
 
@@ -104,6 +106,8 @@ impl<B> RawBox<B, Home> {
     {
         let RawBox { at, alloc: _ } = self;
         let housed = at as *mut Housed<B>;
+        // SAFETY: the right `housed` of this block owns the word behind it. The proof is in
+        // `proofs/boxes/homes/RawBox+B+Home/released/`.
         let home = unsafe { (*housed).home };
         if home == HEAP {
             Ok(RawBox {
@@ -111,6 +115,8 @@ impl<B> RawBox<B, Home> {
                 alloc: heap,
             })
         } else {
+            // SAFETY: the box owns its value, and nothing reads that here again. The proof is in
+            // `proofs/boxes/homes/RawBox+B+Home/released/`.
             Err(unsafe { at.read() })
         }
     }

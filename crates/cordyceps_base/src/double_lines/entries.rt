@@ -5,7 +5,7 @@ ghost use denote.RawPtr.{null_ptr};
 ghost use Rattle.cordyceps_base.specs.DoubleLines.{flat, IsLeft};
 ghost use Rattle.cordyceps_base.specs.Nodes.{entries};
 
-use super::Lines;
+use super::{Lines, MAX_LINES};
 use crate::boxes::Address;
 use crate::double_row::Row;
 use std::alloc::AllocError;
@@ -20,7 +20,7 @@ use std::marker::Model;
 /// A walk over all n nodes is O(n + k), for k lines.
 #[derive(Drop)]
 pub struct Entries<'a, T> {
-    firsts: &'a [Address; 64],
+    firsts: &'a [Address; MAX_LINES],
     count: usize,
     line: usize,
     at: Address,
@@ -91,7 +91,7 @@ impl<'a, T> Iterator for Entries<'a, T> {
         let (line, at) = first_left(self.firsts, self.count, self.line, self.at, rest);
         self.line = line;
         self.at = at;
-        if !at.is_not_null() {
+        if at.is_null() {
             return None;
         }
         let block = rest.get(at, 0);
@@ -104,7 +104,7 @@ impl<'a, T> Iterator for Entries<'a, T> {
 /// Passes lines without a node. Returns the number of lines passed, and the address of the first node that is left, or
 /// null if none is.
 fn first_left<T>(
-    firsts: &[Address; 64],
+    firsts: &[Address; MAX_LINES],
     count: usize,
     line: usize,
     at: Address,
@@ -116,7 +116,7 @@ fn first_left<T>(
 {
     let mut line = line;
     let mut at = at;
-    while line < count && !at.is_not_null() {
+    while line < count && at.is_null() {
         at = firsts[line];
         line += 1;
     }

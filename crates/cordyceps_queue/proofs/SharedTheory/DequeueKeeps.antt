@@ -28,7 +28,7 @@ use Rattle.cordyceps_queue.specs.Past.{HasLooked, WasBlockedReversed}
 use Rattle.cordyceps_queue.specs.Shared.Plays.{SeatState, Sees, MovesTo, HandsOut, Blocked}
 use Rattle.cordyceps_shared.specs.Slots.{Homes, EmptyAtHome}
 use Rattle.cordyceps_queue.specs.Shared.Rule.{TableState, link_of, party, machine_of, FullAtHome, PlainHolds}
-use Rattle.cordyceps_queue.specs.Shared.View.{View, name, cleared_count}
+use Rattle.cordyceps_queue.specs.Shared.View.{View, name, begun_count}
 use Rattle.cordyceps_queue.specs.Cores.Abstract.{AbstractParty, AbstractMachine, update, insert_room, set_stage, set_right, hand_out}
 use Rattle.cordyceps_queue.proofs.CoreTheory.Basics.{at_only, none_some, zero_suc, suc_zero, suc_inj, some_inj, at_split, at_more, put_same, put_other}
 use Rattle.cordyceps_queue.proofs.CoreTheory.DequeueSteps.{out_keeps, chain_after_out}
@@ -38,7 +38,7 @@ use Rattle.cordyceps_queue.proofs.CoreTheory.SplitParties.{deal_behind}
 use Rattle.cordyceps_queue.proofs.CoreTheory.ProducerSteps.{spare_shared, ready_shared, shared_pooled}
 use Rattle.cordyceps_queue.proofs.CoreTheory.ChainShrinks.{at_down, real_first, tail_full, tail_away, second}
 use Rattle.cordyceps_queue.proofs.SharedTheory.SeatNames.{few_rooms}
-use Rattle.cordyceps_queue.proofs.SharedTheory.WordsAsMachine.{quiet, party_spelled, links_same, next_low, none_cleared, keeps_rule, rooms_of}
+use Rattle.cordyceps_queue.proofs.SharedTheory.WordsAsMachine.{quiet, party_spelled, links_same, next_low, none_begun, keeps_rule, rooms_of}
 use Rattle.cordyceps_queue.proofs.SharedTheory.WordsAsMachine.{empties, empties_same, readies, readies_same}
 use Rattle.cordyceps_queue.proofs.SharedTheory.WordsAsMachine.{linkeds_low, linkeds_same, chain_near, LeavesPool}
 use Rattle.cordyceps_queue.proofs.SharedTheory.WordsAsMachine.{PlainStep, Becomes, Comes as Keeping}
@@ -75,11 +75,11 @@ module _ {E : Type 0} (s : TableState E) (k : PlainHolds s) (id : ℕ) (v : View
   full_among : (rooms : List ℕ) → Among rooms k.chain.rooms → FullAtHome s.homes k.cell rooms
   full_among rooms among i x ix ne = let a = among i x ix in k.full a.0 x a.1 ne
 
-  -- a step that leaves whose the rooms are and the slots, at a stage at which no room is cleared
-  pub leaves_rooms : (es : List (Event Name E)) (stage : Stage) (chain : Chain) (words : List ℕ) → ((q : ℕ) → stage ≡ Cleared q → ⊥) → cleared_count v.stage ≡ 0 → length (real chain.rooms) ≡ length (real k.chain.rooms)
+  -- a step that leaves whose the rooms are and the slots, at a stage at which it has begun no use of a room
+  pub leaves_rooms : (es : List (Event Name E)) (stage : Stage) (chain : Chain) (words : List ℕ) → ((q : ℕ) → stage ≡ Cleared q → ⊥) → begun_count v.stage ≡ 0 → length (real chain.rooms) ≡ length (real k.chain.rooms)
       → ((r : ℕ) → k.chain.owner r ≡ Pooled → chain.owner r ≡ Pooled) → ((r : ℕ) → k.chain.owner r ≡ Pooled → word.next words r ≡ word.next s.words r) → LeavesPool s k v (sees es v.free v.end v.back v.to stage) words s.homes chain
   leaves_rooms es stage chain words away quiet even owners links =
-      let now = none_cleared stage away in record {
+      let now = none_begun stage away in record {
         owners = owners;
         links = links;
         slots = λ r pooled. refl;
@@ -87,7 +87,7 @@ module _ {E : Type 0} (s : TableState E) (k : PlainHolds s) (id : ℕ) (v : View
       }
 
   -- a step that changes no word and no slot
-  pub reads : (es : List (Event Name E)) → Under actor (name v) es → (stage : Stage) (chain : Chain) → Meets (set_stage n id (party v) stage) chain (reverse es ++ out_events) → Among chain.rooms k.chain.rooms → ((q : ℕ) → stage ≡ Cleared q → ⊥) → cleared_count v.stage ≡ 0 → length (real chain.rooms) ≡ length (real k.chain.rooms) → ((r : ℕ) → k.chain.owner r ≡ Pooled → chain.owner r ≡ Pooled) → (i : ℕ)
+  pub reads : (es : List (Event Name E)) → Under actor (name v) es → (stage : Stage) (chain : Chain) → Meets (set_stage n id (party v) stage) chain (reverse es ++ out_events) → Among chain.rooms k.chain.rooms → ((q : ℕ) → stage ≡ Cleared q → ⊥) → begun_count v.stage ≡ 0 → length (real chain.rooms) ≡ length (real k.chain.rooms) → ((r : ℕ) → k.chain.owner r ≡ Pooled → chain.owner r ≡ Pooled) → (i : ℕ)
       → Becomes s k v (sees es v.free v.end v.back v.to stage) record { words = set s.words i (get_or s.words i 0); homes = s.homes; views = set s.views id (sees es v.free v.end v.back v.to stage) } × Sees v es (sees es v.free v.end v.back v.to stage)
   reads es under stage chain met among away quiet even owners i =
       let w = sees es v.free v.end v.back v.to stage in
@@ -96,7 +96,7 @@ module _ {E : Type 0} (s : TableState E) (k : PlainHolds s) (id : ℕ) (v : View
       (subst (λ (ws : List ℕ). Becomes s k v w record { words = ws; homes = s.homes; views = set s.views id w }) (sym (set-get_or s.words i 0)) r.0, r.1)
 
   -- the right changes
-  pub rights : (es : List (Event Name E)) → Under actor (name v) es → (stage : Stage) (chain : Chain) (right : ℕ) → Meets (set_right n id (party v) right stage) chain (reverse es ++ out_events) → Among chain.rooms k.chain.rooms → ((q : ℕ) → stage ≡ Cleared q → ⊥) → cleared_count v.stage ≡ 0 → length (real chain.rooms) ≡ length (real k.chain.rooms) → ((r : ℕ) → k.chain.owner r ≡ Pooled → chain.owner r ≡ Pooled)
+  pub rights : (es : List (Event Name E)) → Under actor (name v) es → (stage : Stage) (chain : Chain) (right : ℕ) → Meets (set_right n id (party v) right stage) chain (reverse es ++ out_events) → Among chain.rooms k.chain.rooms → ((q : ℕ) → stage ≡ Cleared q → ⊥) → begun_count v.stage ≡ 0 → length (real chain.rooms) ≡ length (real k.chain.rooms) → ((r : ℕ) → k.chain.owner r ≡ Pooled → chain.owner r ≡ Pooled)
       → Becomes s k v (sees es v.free v.end v.back v.to stage) record { words = set s.words RIGHT right; homes = s.homes; views = set s.views id (sees es v.free v.end v.back v.to stage) } × Sees v es (sees es v.free v.end v.back v.to stage)
   rights es under stage chain right met among away quiet even owners =
       let w = sees es v.free v.end v.back v.to stage in
@@ -173,7 +173,7 @@ module _ {E : Type 0} (s : TableState E) (k : PlainHolds s) (id : ℕ) (v : View
     out_leaves =
         let first = ap (λ (l : List ℕ). length l) (real_first k.chain.rooms t is_real tail_at) in
         let none_back = ap (λ (l : List ℕ). length l) bare in
-        let quiet = none_cleared v.stage (λ q e. none_some (sym (ap tail_of e) ∙ has)) in record {
+        let quiet = none_begun v.stage (λ q e. none_some (sym (ap tail_of e) ∙ has)) in record {
           owners = λ x pooled. put_other k.chain.owner t (Spare id) x (not_tail x pooled) ∙ pooled;
           links = λ x pooled. refl;
           slots = λ x pooled. set_else s.homes t x none (not_tail x pooled);
@@ -219,10 +219,10 @@ module _ {E : Type 0} (s : TableState E) (k : PlainHolds s) (id : ℕ) (v : View
       (c : PlainStep s k id i new (v, [])) × then (get_or s.words i 0) (c.view, carried_after [] c.act)
 
   -- a load after which the party is at this stage, and that changes nothing else
-  abbrev pub loads_to : (es : List (Event Name E)) → Under actor (name v) es → (stage : Stage) → Meets (set_stage n id (party v) stage) k.chain (reverse es ++ out_events) → ((q : ℕ) → stage ≡ Cleared q → ⊥) → cleared_count v.stage ≡ 0 → (i : ℕ)
+  abbrev pub loads_to : (es : List (Event Name E)) → Under actor (name v) es → (stage : Stage) → Meets (set_stage n id (party v) stage) k.chain (reverse es ++ out_events) → ((q : ℕ) → stage ≡ Cleared q → ⊥) → begun_count v.stage ≡ 0 → (i : ℕ)
       → Comes i (get_or s.words i 0) (λ _. MovesTo es stage (v, []))
-  loads_to es under stage M away uncleared i =
-      let r = reads es under stage k.chain M same_rooms away uncleared refl (λ x pooled. pooled) i in
+  loads_to es under stage M away unbegun i =
+      let r = reads es under stage k.chain M same_rooms away unbegun refl (λ x pooled. pooled) i in
       (quiet (sees es v.free v.end v.back v.to stage) r.0, stood es stage r.1)
 
   -- with the tail's link a room: the element is handed out
@@ -265,7 +265,7 @@ module _ {E : Type 0} (s : TableState E) (k : PlainHolds s) (id : ℕ) (v : View
         record { keeps = keeping n k.chain h M id (party v) there t has; is_real = is_real; looked = looked },
         (λ far. was_now (name v) h looked (open_blocks n k.chain h M id (party v) there t has nothing open_link far)),
       ) in
-      loads_to before under (Null t) met (λ q is. cc) (none_cleared v.stage (λ q e. none_some (sym (ap tail_of e) ∙ has))) i
+      loads_to before under (Null t) met (λ q is. cc) (none_begun v.stage (λ q e. none_some (sym (ap tail_of e) ∙ has))) i
 
   -- the read of a tail's link that is no stub
   abbrev pub ReadsTail : List (Event Name E) → ℕ → ℕ → ℕ → SeatState E → Type 0

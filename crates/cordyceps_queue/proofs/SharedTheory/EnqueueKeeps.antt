@@ -22,7 +22,7 @@ use Rattle.cordyceps_queue.specs.Shared.Plays.{SeatState, LegalReversed, Sees}
 use Rattle.cordyceps_queue.specs.Shared.Plays as play
 use Rattle.cordyceps_shared.specs.Slots.{Homes, EmptyAtHome, Hand}
 use Rattle.cordyceps_queue.specs.Shared.Rule.{TableState, party, party_of, machine_of, FullAtHome, PlainHolds}
-use Rattle.cordyceps_queue.specs.Shared.View.{View, name, cleared_count}
+use Rattle.cordyceps_queue.specs.Shared.View.{View, name, begun_count}
 use Rattle.cordyceps_queue.specs.Cores.Abstract.{AbstractMachine, update, clear_room, swap_head, link_next}
 use Rattle.cordyceps_queue.proofs.CoreTheory.Basics.{some_inj, put_same, put_other, at_split, real_more}
 use Rattle.cordyceps_queue.proofs.CoreTheory.ChainGrows.{real_one}
@@ -106,7 +106,7 @@ module _ {E : Type 0} (s : TableState E) (k : PlainHolds s) (id : ℕ) (v : View
           owners = λ x pooled. put_other k.chain.owner r (Ready id) x (not_mine x pooled) ∙ pooled;
           links = λ x pooled. next_beside_next s.words r x 0 (not_mine x pooled);
           slots = λ x pooled. set_else s.homes r x none (not_mine x pooled);
-          even = let long = ap (λ (l : List ℕ). length l) free in let none_back = ap (λ (l : List ℕ). length l) bare in let not_cleared = ap cleared_count idle in omega arith;
+          even = let long = ap (λ (l : List ℕ). length l) free in let none_back = ap (λ (l : List ℕ). length l) bare in let not_begun = ap begun_count idle in omega arith;
         }
       where
         not_mine : (x : ℕ) → k.chain.owner x ≡ Pooled → x ≢ r
@@ -161,7 +161,7 @@ module _ {E : Type 0} (s : TableState E) (k : PlainHolds s) (id : ℕ) (v : View
               let one = ap (λ (l : List ℕ). length l) (real_more k.chain.rooms (r ∷ [])
               ∙ ap (λ l. real k.chain.rooms ++ l) (real_one r known.is_real)) in
               let long = length-append (real k.chain.rooms) (r ∷ []) in
-              let cleared = ap cleared_count ready in omega arith;
+              let begun = ap begun_count ready in omega arith;
         }
       where
         not_mine : (x : ℕ) → k.chain.owner x ≡ Pooled → x ≢ r
@@ -191,12 +191,12 @@ module _ {E : Type 0} (s : TableState E) (k : PlainHolds s) (id : ℕ) (v : View
           owners = λ x pooled. pooled;
           links = λ x pooled. next_beside_next s.words old x (suc r) (λ same. shared_pooled old_shared (ap k.chain.owner (sym same) ∙ pooled));
           slots = λ x pooled. refl;
-          even = let not_cleared = ap cleared_count waits in omega arith;
+          even = let not_begun = ap begun_count waits in omega arith;
         }
 
 module _ {E : Type 0} where
   pub clears : (slots id i : ℕ) (me : SeatState E) (r : ℕ) (rs : List ℕ) (item : Option E) (e : E) → i ≡ LINKS + r → item ≡ Some e → me.0.stage ≡ Rest → me.0.back ≡ [] → me.0.free ≡ r ∷ rs → me.0.known.share ≢ []
-      → PlainAllows slots id me i (λ _. 0) (play.after_clear item (step slots i 0 0 none) me)
+      → PlainAllows slots id me i (λ _. 0) (play.after_begin item (step slots i 0 0 none) me)
   clears slots id i me r rs item e is chosen idle bare free named s k deep at =
       let c = clear_kept s k id me.0 at named r rs e idle bare free in
       let same : LINKS + r ≡ i = omega arith in

@@ -14,7 +14,7 @@ use Rattle.cordyceps_queue.specs.Shared.Plays.{SeatState, carry, MovesTo, HandsO
 use Rattle.cordyceps_queue.specs.Shared.Plays as play
 use Rattle.cordyceps_queue.specs.Shared.Rule.{TableState, link_of, party, PlainHolds}
 use Rattle.cordyceps_shared.specs.FreeChains.{MayJoin}
-use Rattle.cordyceps_queue.specs.Shared.View.{View, name, free_chain, back_chain, view_returned, cleared_count}
+use Rattle.cordyceps_queue.specs.Shared.View.{View, name, free_chain, back_chain, view_returned, begun_count}
 use Rattle.cordyceps_queue.specs.Cores.Abstract.{AbstractParty, AbstractMachine, update, set_right}
 use Rattle.cordyceps_queue.proofs.CoreTheory.Basics.{some_inj, put_again, zero_suc, suc_zero, suc_inj}
 use Rattle.cordyceps_queue.proofs.CoreTheory.DequeueSteps.{free_right, take_keeps, chain_after_take, give_keeps, chain_after_give}
@@ -51,14 +51,14 @@ module _ {E : Type 0} (s : TableState E) (k : PlainHolds s) (id : ℕ) (v : View
         let x : Event Name E = Event.Busy (name v) in
         let met = subst (λ q. Meets q k.chain (x ∷ gone_by)) (sym (unmoved e)) (busy_keeps core k.chain gone_by k.meets id (party v) is_there rest e) in
         let r = rights s k id v at named bare (x ∷ []) (refl, tt) Rest k.chain 0 met (same_rooms s k id v at named bare)
-        (λ q is. cc) (ap cleared_count rest) refl (λ x pooled. pooled) in (
+        (λ q is. cc) (ap begun_count rest) refl (λ x pooled. pooled) in (
           quiet (sees s k id v at named bare (x ∷ []) v.free v.end v.back v.to Rest) r.0,
           λ _. ((λ _. stood s k id v at named bare (x ∷ []) Rest r.1), λ t f. absurd (zero_suc (sym e ∙ f))),
         )
     takes_bare slots deep (suc t) e =
         let x : Event Name E = Event.Take (name v) in
         let r = rights s k id v at named bare (x ∷ []) (refl, tt) (Holding t) (chain_after_take core k.chain gone_by k.meets id (party v) is_there t rest e) 0
-        (take_keeps core k.chain gone_by k.meets id (party v) is_there t rest e) (same_rooms s k id v at named bare) (λ q is. cc) (ap cleared_count rest) refl (λ x pooled. pooled) in
+        (take_keeps core k.chain gone_by k.meets id (party v) is_there t rest e) (same_rooms s k id v at named bare) (λ q is. cc) (ap begun_count rest) refl (λ x pooled. pooled) in
         let first = free_right core.right core.party k.chain.rooms gone_by k.chain.keeper t e k.meets.right in
         let near = chain_near s k 0 t first.tail_at in
         let w = sees s k id v at named bare (x ∷ []) v.free v.end v.back v.to (Holding t) in (
@@ -87,7 +87,7 @@ module _ {E : Type 0} (s : TableState E) (k : PlainHolds s) (id : ℕ) (v : View
     gives_bare n' is =
         let x : Event Name E = Event.Free (name v) in
         let r = rights s k id v at named bare (x ∷ []) (refl, tt) Rest (chain_after_give core k.chain gone_by k.meets id (party v) is_there t holding) (suc t)
-        (give_keeps core k.chain gone_by k.meets id (party v) is_there t holding) (same_rooms s k id v at named bare) (λ q is. cc) (ap cleared_count holding) refl (λ x pooled. pooled) in
+        (give_keeps core k.chain gone_by k.meets id (party v) is_there t holding) (same_rooms s k id v at named bare) (λ q is. cc) (ap begun_count holding) refl (λ x pooled. pooled) in
         let same : suc t ≡ n' = omega arith in
         subst (λ q. Comes s k id v at named bare RIGHT q (λ _. MovesTo (x ∷ []) Rest (v, []))) same
         (quiet (sees s k id v at named bare (x ∷ []) v.free v.end v.back v.to Rest) r.0, stood s k id v at named bare (x ∷ []) Rest r.1)

@@ -31,7 +31,7 @@ use Rattle.cordyceps_shared.proofs.FreeLinks.{links_drop, links_take, links_appe
 use Rattle.cordyceps_queue.specs.Shared.Parts.{AreNew}
 use Rattle.cordyceps_shared.specs.Slots.{Homes, EmptyAtHome}
 use Rattle.cordyceps_queue.specs.Shared.Rule.{TableState, History, link_of, party, party_of, machine_of, PlainHolds}
-use Rattle.cordyceps_queue.specs.Shared.View.{View, knows, newcomer, down_from, free_chain, cleared_count, room_count}
+use Rattle.cordyceps_queue.specs.Shared.View.{View, knows, newcomer, down_from, free_chain, begun_count, room_count}
 use Rattle.cordyceps_queue.specs.Cores.Abstract.{AbstractParty}
 use Rattle.cordyceps_queue.proofs.CoreTheory.Basics.{at_only, put_again}
 use Rattle.cordyceps_queue.proofs.CoreTheory.NewMachines.{new_owner, is_unmade}
@@ -304,8 +304,8 @@ module _ {E : Type 0} (s : TableState E) (k : PlainHolds s) (id other : ℕ) (v 
           let all = k.all in
           let none_back = ap (λ (l : List ℕ). length l) bare in
           let none_too = ap (λ (l : List ℕ). length l) bare_too in
-          let quiet = ap cleared_count rest in
-          let quiet_too = ap cleared_count rest_too in
+          let quiet = ap begun_count rest in
+          let quiet_too = ap begun_count rest_too in
           let long = length-append v.free w.free in
           omega (arith, tally_set (room_count {E = E}) s.views id v (view_absorbing v w) at, tally_set (room_count {E = E}) (set s.views id (view_absorbing v w)) other w view_absorbed there);
       spent = two_set (λ _ u. u.known.share ≡ [] → room_count u ≡ 0) s.views id other (view_absorbing v w) view_absorbed (λ e. absurd (joined_some v.known.share w.known.share named e)) (λ _. refl) (λ j u _ _ e. k.spent j u e);

@@ -1,5 +1,5 @@
 -- What a party that took the right holds, and what a try comes to.
-use Rattle.std.proofs.Common.{◌≡◌, ◌≢◌, ℕ, zero, suc, ◌-◌, ◌<◌, ◌≤◌, length, List, [], ◌∷◌, ◌++◌, Option, Some, None, sym, refl, ap, ◌∙◌, subst, arith, append_assoc, append-nil, inl, inr}
+use Rattle.std.proofs.Common.{◌≡◌, ◌≢◌, ℕ, zero, suc, ◌<◌, ◌≤◌, length, List, [], ◌∷◌, ◌++◌, Option, Some, None, sym, refl, ap, ◌∙◌, subst, append_assoc, append-nil, inl, inr}
 use Rattle.atomic_table.specs.Table.{rest}
 use Rattle.cordyceps_shared.specs.FreeChains.{FreeChain, MayJoin, end_after}
 use Rattle.cordyceps_shared.specs.Knowing.{Grown}
@@ -25,9 +25,6 @@ near_all slots free back now bare same near i r ir = near i r (subst (λ l. Item
 
 pub near_parts : (slots : ℕ) (free now back : List ℕ) → now ≡ free → back ≡ [] → Near slots free → Near slots (now ++ back)
 near_parts slots free now back same bare near = subst (Near slots) (sym (ap (λ l. now ++ l) bare ∙ (append-nil now ∙ same))) near
-
-pub pred_suc : (n : ℕ) → n ≢ 0 → n ≡ suc (n - 1)
-pred_suc n ne = omega arith
 
 abbrev pub hand_of : {A : Type 0} → A → List (ℕ × Option A) → Option A
 hand_of d [] = None

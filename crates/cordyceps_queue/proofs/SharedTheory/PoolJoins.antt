@@ -19,7 +19,7 @@ use Rattle.cordyceps_queue.specs.declared.shared.spare.Spare.{Spare}
 use Rattle.cordyceps_queue.specs.History.{Event, held, actor}
 use Rattle.cordyceps_queue.specs.Shared.Parts.{TracksEnd, MayReturn, Relinked, Refills, GivesRest, RefillsTo, RefillsAtMost}
 use Rattle.cordyceps_queue.specs.Shared.Plays.{SeatState, LegalReversed, IsResting, Sees, FindsPool, LacksRooms, carry}
-use Rattle.cordyceps_queue.specs.Shared.View.{View, free_chain, back_chain, view_returned, cleared_count}
+use Rattle.cordyceps_queue.specs.Shared.View.{View, free_chain, back_chain, view_returned, begun_count}
 use Rattle.cordyceps_queue.proofs.SharedTheory.SpareRooms.{tracks_joined}
 use Rattle.cordyceps_queue.proofs.SharedTheory.WordsAsMachine.{at_after}
 
@@ -112,7 +112,7 @@ module _ {E : Type 0} where
             let seen = ap (λ (z : Known (Event Name E)). length (held (plain z.seen))) known in
             let mine = ap (λ (c : FreeChain). length c.rooms) d.free in
             let theirs = ap (λ (z : List ℕ). length z) f.back in
-            let quiet = ap cleared_count d.stage in omega arith;
+            let quiet = ap begun_count d.stage in omega arith;
       }
 
   pub tracks_refilled : (slots end : ℕ) (spare : FreeRooms) (taken : FreeRooms) (m p l k : SeatState E) → IsFilled slots taken m p l → k ≡ (view_returned l.0, []) → Tracks spare (free_chain l.0) → (l.0.free ≡ [] → spare.first ≡ taken.first) → end ≡ l.0.to
@@ -146,7 +146,7 @@ module _ {E : Type 0} where
       let all = r.all is in
       let less = lacks refl (r.sees.share ∙ is) in
       let none = ap (λ (l : List ℕ). length l) r.rests.back in
-      let quiet = ap cleared_count r.rests.stage in omega arith
+      let quiet = ap begun_count r.rests.stage in omega arith
       in record {
         rests = subst (IsResting slots) (sym g) r.rests;
         sees = subst (λ (q : SeatState E). Sees m.0 [] q.0) (sym g) r.sees;

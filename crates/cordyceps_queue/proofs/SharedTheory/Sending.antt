@@ -1,7 +1,7 @@
 -- A call after others of which it is known what they put in and took out, and what is received of what others send.
-use Rattle.std.proofs.Common.{◌≡◌, ℕ, ◌+◌, ◌<◌, List, [], ◌∷◌, ◌++◌, map, length, get_or, take, sym, ap, ◌∙◌, subst}
+use Rattle.std.proofs.Common.{◌≡◌, ℕ, List, [], ◌∷◌, ◌++◌, map, subst}
 use Rattle.std.specs.Prelude.{Result}
-use Rattle.std.proofs.lemmas.List.{append-nil, take_more}
+use Rattle.std.proofs.lemmas.List.{append-nil}
 use Rattle.atomic_table.specs.Seated.{TableId}
 use Rattle.cordyceps_shared.specs.Histories.{plain}
 use Rattle.cordyceps_shared.specs.Sending.{Delivers, Splits}
@@ -21,12 +21,6 @@ module _ {E A : Type 0} (f : E → A) where
   pub then_enqueues : {s g : List A} {u v : PartyOf E} (e : E) (w : PartyOf E) → Moves f s g u v → Enqueues e v w → Moves f (s ++ f e ∷ []) g u w
   then_enqueues {s} {g} {u} {v} e w before c = subst (λ z. Moves f (s ++ f e ∷ []) z u w) (append-nil g)
       (moves_then (put_by f) (got_by f) s g (f e ∷ []) [] u v w before (moves_enqueue f e v w c))
-
-  -- the same in a loop over a slice
-  pub enqueues_next : {g : List A} {u v : PartyOf E} (xs : List A) (i : ℕ) (d : A) (e : E) (w : PartyOf E) → i < length xs → f e ≡ get_or xs i d
-      → Moves f (take i xs) g u v → Enqueues e v w → Moves f (take (i + 1) xs) g u w
-  enqueues_next {g} {u} xs i d e w within is before c =
-      subst (λ z. Moves f z g u w) (ap (λ x. take i xs ++ x ∷ []) is ∙ sym (take_more xs i d within)) (then_enqueues e w before c)
 
   -- an enqueue that may have taken rooms of the pool first
   pub then_refilled : {s g : List A} {u v : PartyOf E} (e : E) (w : PartyOf E) → Moves f s g u v → EnqueuesRefilled e v w → Moves f (s ++ f e ∷ []) g u w

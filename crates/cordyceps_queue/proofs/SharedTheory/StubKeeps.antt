@@ -19,14 +19,14 @@ use Rattle.cordyceps_queue.specs.Shared.Plays.{SeatState, Sees, carry, MovesTo, 
 use Rattle.cordyceps_queue.specs.Shared.Plays as play
 use Rattle.cordyceps_queue.specs.Shared.Rule.{TableState, link_of, machine_of, FullAtHome, AreLinked, party, PlainHolds}
 use Rattle.cordyceps_shared.specs.FreeChains.{MayJoin}
-use Rattle.cordyceps_queue.specs.Shared.View.{View, name, free_chain, back_chain, view_returned, cleared_count}
+use Rattle.cordyceps_queue.specs.Shared.View.{View, name, free_chain, back_chain, view_returned, begun_count}
 use Rattle.cordyceps_queue.specs.Cores.Abstract.{AbstractMachine, set_stage, clear_stub, swap_head, link_next}
 use Rattle.cordyceps_queue.proofs.CoreTheory.Basics.{some_inj, none_some, zero_suc, suc_zero, suc_inj, put_same, at_split, real_more}
 use Rattle.cordyceps_queue.proofs.CoreTheory.DequeueSteps.{pass_keeps, chain_after_pass}
 use Rattle.cordyceps_queue.proofs.CoreTheory.HolderSteps.{was_now, keeping, stage_keeps, tell_keeps, open_blocks, none_held, stub_out}
 use Rattle.cordyceps_queue.proofs.CoreTheory.ChainShrinks.{real_stub, second}
 use Rattle.cordyceps_queue.proofs.CoreTheory.StubSteps.{clear_stub_keeps, swap_stub_keeps, chain_after_stub, link_stub_keeps}
-use Rattle.cordyceps_queue.proofs.SharedTheory.WordsAsMachine.{party_as, quiet, link_spelled, head_spelled, next_low, none_cleared, keeps_rule, empties_same, readies_same, chain_near, head_near, linkeds, linkeds_low, own_links, Among, Becomes, PlainAllows}
+use Rattle.cordyceps_queue.proofs.SharedTheory.WordsAsMachine.{party_as, quiet, link_spelled, head_spelled, next_low, none_begun, keeps_rule, empties_same, readies_same, chain_near, head_near, linkeds, linkeds_low, own_links, Among, Becomes, PlainAllows}
 use Rattle.cordyceps_queue.proofs.CoreTheory.ProducerSteps.{spare_shared, shared_pooled}
 use Rattle.cordyceps_queue.proofs.SharedTheory.EnqueueKeeps.{views_put, wide_words}
 use Rattle.cordyceps_queue.proofs.SharedTheory.ReturnKeeps.{returning, moved_on, handed_on}
@@ -51,7 +51,7 @@ module _ {E : Type 0} (s : TableState E) (k : PlainHolds s) (id : ℕ) (v : View
       → Comes s k id v at named bare i (get_or s.words i 0) (λ _ z. MovesTo [] (Holding t) (v, []) z × Blocked z.0)
   fails t i has nothing was =
       let met = stage_keeps core k.chain past k.meets id (party v) is_there t has (Holding t) refl (λ a b o. absurd (nothing a b o)) (keeping core k.chain past k.meets id (party v) is_there t has) in
-      let c = loads_to s k id v at named bare [] tt (Holding t) met (λ q is. cc) (none_cleared v.stage (λ q e. none_some (sym (ap tail_of e) ∙ has))) i in
+      let c = loads_to s k id v at named bare [] tt (Holding t) met (λ q is. cc) (none_begun v.stage (λ q e. none_some (sym (ap tail_of e) ∙ has))) i in
       (c.0, (c.1, blocked s k id v at named bare [] (Holding t) was))
 
   -- ---- the first read, of the stub's link
@@ -80,12 +80,12 @@ module _ {E : Type 0} (s : TableState E) (k : PlainHolds s) (id : ℕ) (v : View
               in
               inl (inl refl, at_open);
         } in
-        let c = loads_to s k id v at named bare (look ∷ []) (refl, tt) StubNull met (λ q is. cc) (ap cleared_count holding) LINKS in
+        let c = loads_to s k id v at named bare (look ∷ []) (refl, tt) StubNull met (λ q is. cc) (ap begun_count holding) LINKS in
         (c.0, λ _. ((λ _. c.1), λ r' f. absurd (zero_suc (sym e ∙ f))))
     looks_stub_bare slots deep (suc r) e =
         let linked : core.next 0 ≡ Some r = ap link_of e in
         let met = pass_keeps core k.chain (look ∷ past) looked id (party v) is_there r holding linked (inl refl) in
-        let o = reads s k id v at named bare (look ∷ []) (refl, tt) (Second r) (chain_after_pass core k.chain (look ∷ past) looked id (party v) is_there r holding linked (inl refl)) met (less_rooms s k id v at named bare) (λ q is. cc) (ap cleared_count holding) (ap (λ (l : List ℕ). length l) (sym (real_stub k.chain.rooms tail_at))) (λ x pooled. pooled) LINKS in
+        let o = reads s k id v at named bare (look ∷ []) (refl, tt) (Second r) (chain_after_pass core k.chain (look ∷ past) looked id (party v) is_there r holding linked (inl refl)) met (less_rooms s k id v at named bare) (λ q is. cc) (ap begun_count holding) (ap (λ (l : List ℕ). length l) (sym (real_stub k.chain.rooms tail_at))) (λ x pooled. pooled) LINKS in
         let at_second = second core k.chain past k.meets 0 r tail_at linked in
         let near = chain_near s k 1 r at_second in
         let ne : r ≢ 0 = λ z. zero_suc (k.meets.once 0 1 0 tail_at (subst (ItemAt k.chain.rooms 1) z at_second)) in
@@ -110,7 +110,7 @@ module _ {E : Type 0} (s : TableState E) (k : PlainHolds s) (id : ℕ) (v : View
         let held = record (party v) { stage = Holding 0 } in
         let back : Meets (set_stage core id (party v) (Holding 0)) k.chain past = stage_keeps core k.chain past k.meets id (party v) is_there 0 has (Holding 0) refl (λ a b o. absurd (subst (λ l. Owes l a b) at_null o)) mine in
         let met = tell_keeps (set_stage core id (party v) (Holding 0)) k.chain past back id held (put_same core.party id (Some held)) 0 refl x refl (mine.held_by, none_held core k.chain past k.meets id (party v) is_there 0 has refl e) refl refl (λ q s. s) (λ q n w. w) in
-        let c = loads_to s k id v at named bare (x ∷ []) (refl, tt) (Holding 0) met (λ q is. cc) (ap cleared_count at_null) HEAD in
+        let c = loads_to s k id v at named bare (x ∷ []) (refl, tt) (Holding 0) met (λ q is. cc) (ap begun_count at_null) HEAD in
         (c.0, λ _. ((λ _. c.1), λ ne. absurd (ne e)))
     heads_stub_bare slots (no ne) =
         let c = fails 0 HEAD (ap tail_of at_null) (λ a b o. subst (λ l. Owes l a b) at_null o)
@@ -129,7 +129,7 @@ module _ {E : Type 0} (s : TableState E) (k : PlainHolds s) (id : ℕ) (v : View
         let f = party_as s k id v at named at_null in
         let met = stage_keeps core k.chain past k.meets id (party v) is_there t (ap tail_of at_null) (PutClear t) refl (λ a b o. absurd (subst (λ l. Owes l a b) at_null o))
         (f.0, stub_out core k.chain past k.meets id (party v) is_there t (ap tail_of at_null) f.0.is_real e) in
-        let c = loads_to s k id v at named bare [] tt (PutClear t) met (λ q is. cc) (ap cleared_count at_null) HEAD in
+        let c = loads_to s k id v at named bare [] tt (PutClear t) met (λ q is. cc) (ap begun_count at_null) HEAD in
         (c.0, ((λ _. c.1), λ ne. absurd (ne e)))
     heads_bare (no ne) =
         let c = fails t HEAD (ap tail_of at_null) (λ a b o. subst (λ l. Owes l a b) at_null o) ((party_as s k id v at named at_null).1 ne) in
@@ -138,17 +138,17 @@ module _ {E : Type 0} (s : TableState E) (k : PlainHolds s) (id : ℕ) (v : View
   -- ---- the stub is put in
   -- a step that changes one word and no slot
   abbrev stores : (stage : Stage) (chain : Chain) (next : AbstractMachine Name E) (i x : ℕ) → AreLinked (set s.words i x) (set s.views id (view [] stage)) → next ≡ machine_of k.cell (set s.words i x) (set s.views id (view [] stage)) → Meets next chain past → FullAtHome s.homes k.cell chain.rooms → ((q : ℕ) → stage ≡ Cleared q → ⊥) → Among (set s.words i x) k.chain.rooms chain.rooms
-      → cleared_count v.stage ≡ 0 → length (real chain.rooms) ≡ length (real k.chain.rooms) → ((r : ℕ) → k.chain.owner r ≡ Pooled → chain.owner r ≡ Pooled) → ((r : ℕ) → k.chain.owner r ≡ Pooled → word.next (set s.words i x) r ≡ word.next s.words r)
+      → begun_count v.stage ≡ 0 → length (real chain.rooms) ≡ length (real k.chain.rooms) → ((r : ℕ) → k.chain.owner r ≡ Pooled → chain.owner r ≡ Pooled) → ((r : ℕ) → k.chain.owner r ≡ Pooled → word.next (set s.words i x) r ≡ word.next s.words r)
       → Comes s k id v at named bare i x (λ _. MovesTo [] stage (v, []))
-  stores stage chain next i x linked same met full away among uncleared even owners links =
-      let r = keeps_rule s k id [] v (view [] stage) (set s.words i x) s.homes k.cell chain next at named tt refl same met (length-set s.words i x) refl full (empties_same s k id (view [] stage) (k.empty id v at named)) (readies_same s k id (view [] stage) away) linked refl among (λ j y jy. inl (j, jy)) (leaves_rooms s k id v at named bare [] stage chain (set s.words i x) away uncleared even owners links) in
+  stores stage chain next i x linked same met full away among unbegun even owners links =
+      let r = keeps_rule s k id [] v (view [] stage) (set s.words i x) s.homes k.cell chain next at named tt refl same met (length-set s.words i x) refl full (empties_same s k id (view [] stage) (k.empty id v at named)) (readies_same s k id (view [] stage) away) linked refl among (λ j y jy. inl (j, jy)) (leaves_rooms s k id v at named bare [] stage chain (set s.words i x) away unbegun even owners links) in
       (quiet (view [] stage) r.0, stood s k id v at named bare [] stage r.1)
 
   clears_stub_bare : (t : ℕ) → v.stage ≡ PutClear t → Comes s k id v at named bare LINKS 0
       (λ _. MovesTo [] (PutSwap t) (v, []))
   clears_stub_bare t l =
       stores (PutSwap t) k.chain (clear_stub core id (party v) t) LINKS 0 (linkeds s k id 0 0 (view [] (PutSwap t)) (own_links s k id 0 0 v at named (λ mine. spare_shared mine k.meets.stub)) (λ j ne mine. spare_shared mine k.meets.stub)) (link_spelled s.words 0 0 k.cell (set s.views id (view [] (PutSwap t))) (let w = wide_words s k id v at named in let st = k.stub in omega arith) (views_put s k id v at named (view [] (PutSwap t)) named)) (clear_stub_keeps core k.chain past k.meets id (party v) is_there t l) k.full (λ q is. cc) (λ j x jx. inr (j, jx))
-      (ap cleared_count l) refl (λ x pooled. pooled)
+      (ap begun_count l) refl (λ x pooled. pooled)
       (λ x pooled. next_beside_next s.words 0 x 0
       (λ same. shared_pooled k.meets.stub (ap k.chain.owner (sym same) ∙ pooled)))
 
@@ -158,7 +158,7 @@ module _ {E : Type 0} (s : TableState E) (k : PlainHolds s) (id : ℕ) (v : View
       let old = word.head s.words in
       stores (PutLink t old) (chain_after_stub core k.chain past k.meets id (party v) is_there t l) (swap_head core id (party v) 0 (PutLink t old)) HEAD 0 (linkeds_low s k id HEAD 0 (view [] (PutLink t old)) (omega arith) (k.linked id v at named)) (head_spelled s.words 0 k.cell (set s.views id (view [] (PutLink t old))) (let w = wide_words s k id v at named in omega arith) (views_put s k id v at named (view [] (PutLink t old)) named))
       (swap_stub_keeps core k.chain past k.meets id (party v) is_there t l) full (λ q is. cc) among
-      (ap cleared_count l) (ap (λ (z : List ℕ). length z)
+      (ap begun_count l) (ap (λ (z : List ℕ). length z)
       (real_more k.chain.rooms (0 ∷ []) ∙ append-nil (real k.chain.rooms))) (λ x pooled. pooled)
       (λ x pooled. next_low s.words HEAD 0 (omega arith) x)
     where
@@ -174,7 +174,7 @@ module _ {E : Type 0} (s : TableState E) (k : PlainHolds s) (id : ℕ) (v : View
       let f = party_as s k id v at named l in
       let shared = k.meets.shared f.at old f.old_at in
       stores (PutRead t) k.chain (link_next core id (party v) old 0 (PutRead t)) (LINKS + old) 1 (linkeds s k id old 1 (view [] (PutRead t)) (own_links s k id old 1 v at named (λ mine. spare_shared mine shared)) (λ j ne mine. spare_shared mine shared)) (link_spelled s.words old 1 k.cell (set s.views id (view [] (PutRead t))) (let w = wide_words s k id v at named in let st = inside in omega arith) (views_put s k id v at named (view [] (PutRead t)) named)) (link_stub_keeps core k.chain past k.meets id (party v) is_there t old l) k.full (λ q is. cc) (λ j x jx. inr (j, jx))
-      (ap cleared_count l) refl (λ x pooled. pooled)
+      (ap begun_count l) refl (λ x pooled. pooled)
       (λ x pooled. next_beside_next s.words old x 1
       (λ same. shared_pooled shared (ap k.chain.owner (sym same) ∙ pooled)))
 
@@ -274,8 +274,8 @@ module _ {E : Type 0} (slots id : ℕ) (me : SeatState E) (hand : me.1 ≡ carry
             ),
       ))
 
-  pub clears_stub : (t : ℕ) → me.0.stage ≡ PutClear t → PlainAllows slots id me LINKS (λ _. 0) (λ _. play.after_clear_stub (step slots LINKS 0 0 none) me 0)
-  clears_stub t l = returning slots id LINKS me (λ _. 0) (λ _. play.after_clear_stub (step slots LINKS 0 0 none) me 0) hand near named may
+  pub clears_stub : (t : ℕ) → me.0.stage ≡ PutClear t → PlainAllows slots id me LINKS (λ _. 0) (λ _. play.after_begin_stub (step slots LINKS 0 0 none) me 0)
+  clears_stub t l = returning slots id LINKS me (λ _. 0) (λ _. play.after_begin_stub (step slots LINKS 0 0 none) me 0) hand near named may
       (λ s k deep at.
       let c = clears_stub_bare s k id (view_returned me.0) at named refl t l in (
         c.0,

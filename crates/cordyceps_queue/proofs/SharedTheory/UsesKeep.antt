@@ -71,7 +71,7 @@ module _ {E : Type 0} where
 
   -- ---- a load of a free room's link, by which a use of the room begins
   pub begins : (slots id i : ℕ) (me : SeatState E) (r : ℕ) (rs : List ℕ) (item : Option E) (e : E) → i ≡ LINKS + r → item ≡ Some e → me.0.stage ≡ Rest → me.0.back ≡ [] → me.0.free ≡ r ∷ rs → me.0.known.share ≢ []
-      → Allows RuleHolds slots id me i (λ n. n) (play.after_clear item (step slots i 0 0 none) me)
+      → Allows RuleHolds slots id me i (λ n. n) (play.after_begin item (step slots i 0 0 none) me)
   begins slots id i me r rs item e is chosen idle bare free named s k deep at fits =
       let p = k.plain in
       let q = plain_table s k in
@@ -137,7 +137,7 @@ module _ {E : Type 0} where
           link = subst (λ n. IsLink (get_or s.words n 0) (word.next k.words r) f.to f.bit) index f.is;
           knows = λ x xs g. ap (λ l. bit_of l x) b.0.becomes.bits
               ∙ (ap (λ n. bit_of ((r, c) ∷ p.uses) n) (sym (firsts x xs g)) ∙ put_same (bit_of p.uses) r c);
-          told = subst (λ n. plain.after_clear item (step slots i 0 0 none) me n (w, carried_after me.1 b.0.act))
+          told = subst (λ n. plain.after_begin item (step slots i 0 0 none) me n (w, carried_after me.1 b.0.act))
               (ap (λ n. get_or k.words n 0) is) b.1;
         },
       )

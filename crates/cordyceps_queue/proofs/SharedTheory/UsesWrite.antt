@@ -334,7 +334,7 @@ module _ {E : Type 0} (slots id : ℕ) (me : SeatState E) (hand : me.1 ≡ carry
       )
 
   -- ---- a load of the stub's link, by which a use of its room begins
-  pub stub_begins : (t : ℕ) → me.0.stage ≡ PutClear t → Allows RuleHolds slots id me LINKS (λ n. n) (play.after_clear_stub (step slots LINKS 0 0 none) me)
+  pub stub_begins : (t : ℕ) → me.0.stage ≡ PutClear t → Allows RuleHolds slots id me LINKS (λ n. n) (play.after_begin_stub (step slots LINKS 0 0 none) me)
   stub_begins t waits s k deep at fits =
       let p = k.plain in
       let q = plain_table s k in

@@ -30,7 +30,7 @@ use Rattle.cordyceps_queue.specs.Cores.Meets.{Owner, Spare, Ready, Pooled, Chain
 use Rattle.cordyceps_queue.specs.Shared.Plays.{SeatState, LegalReversed, Sees}
 use Rattle.cordyceps_shared.specs.Slots.{Homes, EmptyAtHome}
 use Rattle.cordyceps_queue.specs.Shared.Rule.{TableState, link_of, party, party_if, party_of, machine_of, FullAtHome, AllEmptyAtHome, AllReady, AreLinked, IsPool, PlainHolds}
-use Rattle.cordyceps_queue.specs.Shared.View.{View, knows, name, cleared_count, room_count}
+use Rattle.cordyceps_queue.specs.Shared.View.{View, knows, name, begun_count, room_count}
 use Rattle.cordyceps_queue.specs.Cores.Abstract.{AbstractParty, AbstractMachine, update}
 use Rattle.cordyceps_queue.proofs.CoreTheory.StepLeaves.{fits_as}
 use Rattle.cordyceps_queue.proofs.CoreTheory.Basics.{put_same, put_other, at_more}
@@ -64,19 +64,19 @@ named_party : (names : List Name) (p : AbstractParty Name) → names ≢ [] → 
 named_party [] p some_name = absurd (some_name refl)
 named_party (n ∷ ns) p some_name = refl
 
--- a party at this stage has cleared no room
-pub none_cleared : (p : Stage) → ((q : ℕ) → p ≡ Cleared q → ⊥) → cleared_count p ≡ 0
-none_cleared Rest away = refl
-none_cleared (Cleared r) away = absurd (away r refl)
-none_cleared (Swapped r old) away = refl
-none_cleared (Holding t) away = refl
-none_cleared StubNull away = refl
-none_cleared (Second t) away = refl
-none_cleared (Null t) away = refl
-none_cleared (PutClear t) away = refl
-none_cleared (PutSwap t) away = refl
-none_cleared (PutLink t old) away = refl
-none_cleared (PutRead t) away = refl
+-- a party at this stage has begun no use of a room
+pub none_begun : (p : Stage) → ((q : ℕ) → p ≡ Cleared q → ⊥) → begun_count p ≡ 0
+none_begun Rest away = refl
+none_begun (Cleared r) away = absurd (away r refl)
+none_begun (Swapped r old) away = refl
+none_begun (Holding t) away = refl
+none_begun StubNull away = refl
+none_begun (Second t) away = refl
+none_begun (Null t) away = refl
+none_begun (PutClear t) away = refl
+none_begun (PutSwap t) away = refl
+none_begun (PutLink t old) away = refl
+none_begun (PutRead t) away = refl
 
 -- these rooms are of the chain that was, or the head
 abbrev pub Among : List ℕ → List ℕ → List ℕ → Type 0
@@ -286,11 +286,11 @@ module _ {E : Type 0} where
     pub head_near : word.head s.words < length s.homes
     head_near = chain_near k.meets.last.at (word.head s.words) k.meets.last.head_at
 
-    -- the cleared room of another party, or of this one before the step, is that party's alone
+    -- the room of which another party, or this one before the step, has begun a use is that party's alone
     ready_owner : (j : ℕ) (u : View E) (r : ℕ) → get_elem? s.views j ≡ some u → u.known.share ≢ [] → u.stage ≡ Cleared r → k.chain.owner r ≡ Ready j
     ready_owner j u r at some_name is = (party_as j u at some_name is).ready
 
-    -- what rooms have changes in one room, which no other party has cleared, or in none
+    -- what rooms have changes in one room, of which no other party has begun a use, or in none
     pub readies : (id r : ℕ) (y : Option E) (w : View E) → ((q : ℕ) → w.stage ≡ Cleared q → update k.cell r y q ≡ w.item) → ((j : ℕ) → j ≢ id → k.chain.owner r ≡ Ready j → ⊥) → AllReady (update k.cell r y) (set s.views id w)
     readies id r y w mine apart j u q = one_set (λ _ z. z.known.share ≢ [] → z.stage ≡ Cleared q → update k.cell r y q ≡ z.item) s.views id w (λ _ is. mine q is)
         (λ i z ne e some_name is. put_other k.cell r y q (λ same. apart i ne (ap k.chain.owner (sym same) ∙ ready_owner i z q e some_name is)) ∙ k.ready i z q e some_name is)

@@ -46,8 +46,8 @@ pub record TracksEnd (spare : Spare) (chain : FreeChain) : Type 0 where
   pub end : chain.rooms ≢ [] → spare.end ≡ chain.end
 
 module _ {E : Type 0} where
-  -- a party that rested has cleared its first free room for this element, and has the room's slot in hand
-  pub record IsCleared (slots room next : ℕ) (e : E) (m k : SeatState E) : Type 0 where
+  -- a party that rested has begun a use of its first free room for this element, and has the room's slot in hand
+  pub record IsBegun (slots room next : ℕ) (e : E) (m k : SeatState E) : Type 0 where
     pub stage : (view k).stage ≡ Cleared room
     pub item : (view k).item ≡ Some e
     pub free : (view m).free ≡ room ∷ (view k).free

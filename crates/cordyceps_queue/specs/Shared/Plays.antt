@@ -36,8 +36,8 @@ module _ {E : Type 0} where
     pub named : (view m).known.share ≢ []
     pub near : Near slots (view m).free
 
-  -- a load of the link of the first free room: the room is cleared for this element, and its slot is in hand
-  pub record HasCleared (slots r : ℕ) (rs : List ℕ) (e : E) (found : ℕ) (m k : SeatState E) : Type 0 where
+  -- a load of the link of the first free room: a use of the room begins for this element, and its slot is in hand
+  pub record HasBegun (slots r : ℕ) (rs : List ℕ) (e : E) (found : ℕ) (m k : SeatState E) : Type 0 where
     pub stage : (view k).stage ≡ Cleared r
     pub item : (view k).item ≡ Some e
     pub free : (view k).free ≡ rs
@@ -48,14 +48,14 @@ module _ {E : Type 0} where
     pub end : (view k).end ≡ (view m).end
     pub next_is : found ≡ leads rs (view m).end
 
-  abbrev pub after_clear_for : Option E → ℕ → SeatState E → ℕ → SeatState E → Type 0
-  after_clear_for item slots m found k = (r : ℕ) (rs : List ℕ) (e : E) → (view m).free ≡ r ∷ rs → item ≡ Some e
-      → HasCleared slots r rs e found m k
+  abbrev pub after_begin_for : Option E → ℕ → SeatState E → ℕ → SeatState E → Type 0
+  after_begin_for item slots m found k = (r : ℕ) (rs : List ℕ) (e : E) → (view m).free ≡ r ∷ rs → item ≡ Some e
+      → HasBegun slots r rs e found m k
 
-  abbrev pub after_clear : Option E → TableStep E → SeatState E → ℕ → SeatState E → Type 0
-  after_clear item st m found k = after_clear_for item st.slots m found k
+  abbrev pub after_begin : Option E → TableStep E → SeatState E → ℕ → SeatState E → Type 0
+  after_begin item st m found k = after_begin_for item st.slots m found k
 
-  -- a swap of the head: the cleared room is the head, and its slot, which has the element, goes back
+  -- a swap of the head: the room of this use is the head, and its slot, which has the element, goes back
   pub record HasSwapped (slots r : ℕ) (e : E) (cs : Hand E) (found : ℕ) (m k : SeatState E) : Type 0 where
     pub stage : (view k).stage ≡ Swapped r found
     pub free : (view k).free ≡ (view m).free
@@ -203,8 +203,8 @@ module _ {E : Type 0} where
       × (found ≢ t → MovesTo [] (Holding t) m k × Blocked (view k))
 
   -- the stub is put in: its link becomes null, it becomes the head, and the old head is linked to it
-  abbrev pub after_clear_stub : TableStep E → SeatState E → ℕ → SeatState E → Type 0
-  after_clear_stub st m n k = (t : ℕ) → (view m).stage ≡ PutClear t → MovesTo [] (PutSwap t) m k
+  abbrev pub after_begin_stub : TableStep E → SeatState E → ℕ → SeatState E → Type 0
+  after_begin_stub st m n k = (t : ℕ) → (view m).stage ≡ PutClear t → MovesTo [] (PutSwap t) m k
 
   abbrev pub after_swap_stub : TableStep E → SeatState E → ℕ → SeatState E → Type 0
   after_swap_stub st m found k = (t : ℕ) → (view m).stage ≡ PutSwap t

@@ -78,7 +78,7 @@ module _ {E : Type 0} where
       (j : ℕ) (v : View E) → get_elem? views j ≡ some v → v.known.share ≢ []
       → Links words v.free v.end × Links words v.back v.to
 
-  -- a cleared room has the element that it was cleared for
+  -- a room of which a use has begun has the element for which it began
   abbrev pub AllReady : (ℕ → Option E) → List (View E) → Type 0
   AllReady cell views =
       (j : ℕ) (v : View E) (r : ℕ) → get_elem? views j ≡ some v → v.known.share ≢ [] → v.stage ≡ Cleared r →

@@ -44,10 +44,10 @@ module _ {E : Type 0} where
     pub bit : ℕ
     pub link : IsLink found next to bit
     pub knows : (r : ℕ) (rs : List ℕ) → (view m).free ≡ r ∷ rs → bit_of (view k).bits r ≡ 1 - bit
-    pub told : plain.after_clear item st m next k
+    pub told : plain.after_begin item st m next k
 
-  abbrev pub after_clear : Option E → TableStep E → SeatState E → ℕ → SeatState E → Type 0
-  after_clear item st m found k = Begins item st m found k
+  abbrev pub after_begin : Option E → TableStep E → SeatState E → ℕ → SeatState E → Type 0
+  after_begin item st m found k = Begins item st m found k
 
   abbrev pub after_swap : TableStep E → SeatState E → ℕ → SeatState E → Type 0
   after_swap st m found k = KeepsBits m k × Finds found k (λ old. plain.after_swap st m old k)
@@ -106,10 +106,10 @@ module _ {E : Type 0} where
     pub bit : ℕ
     pub link : IsLink found next to bit
     pub knows : bit_of (view k).bits 0 ≡ 1 - bit
-    pub told : plain.after_clear_stub st m 0 k
+    pub told : plain.after_begin_stub st m 0 k
 
-  abbrev pub after_clear_stub : TableStep E → SeatState E → ℕ → SeatState E → Type 0
-  after_clear_stub st m found k = KeepsBits m k × BeginsStub st m found k
+  abbrev pub after_begin_stub : TableStep E → SeatState E → ℕ → SeatState E → Type 0
+  after_begin_stub st m found k = KeepsBits m k × BeginsStub st m found k
 
   abbrev pub after_swap_stub : TableStep E → SeatState E → ℕ → SeatState E → Type 0
   after_swap_stub st m found k = KeepsBits m k × Finds found k (λ old. plain.after_swap_stub st m old k)

@@ -9,8 +9,9 @@ use Rattle.cordyceps_queue.specs.declared.cores.stage.Stage.TheVariants.{Rest, C
 use Rattle.cordyceps_queue.specs.History.{Event}
 
 -- what the party knows of the history; its free rooms, whose links lead from each to the next, and the last one's link;
--- its rooms whose slot it has yet to give back, and their last link; where it is within a call; the element that it
--- cleared a room for; and the bits of the uses of rooms, of which it knows those of the rooms that its stage names
+-- its rooms whose slot it has yet to give back, and their last link; where it is within a call, as a stage of the core;
+-- the element for which it began a use of a room; and the bits of the uses of rooms, of which it knows those of the
+-- rooms that its stage names
 pub record View (E : Type 0) : Type 0 where
   pub known : Known (Event Name E)
   pub free : List ℕ
@@ -26,10 +27,10 @@ abbrev pub bit_of : List (ℕ × ℕ) → ℕ → ℕ
 bit_of [] r = 0
 bit_of (x ∷ xs) r = cond (eqb r x.0) x.1 (bit_of xs r)
 
--- how many rooms a party at this stage has cleared
-abbrev pub cleared_count : Stage → ℕ
-cleared_count (Cleared r) = 1
-cleared_count _ = 0
+-- of how many rooms a party at this stage has begun a use, and not put them in yet
+abbrev pub begun_count : Stage → ℕ
+begun_count (Cleared r) = 1
+begun_count _ = 0
 
 -- the numbers from n down to 1
 abbrev pub down_from : ℕ → List ℕ
@@ -71,9 +72,9 @@ module _ {E : Type 0} where
   abbrev pub with_first_rooms : ℕ → View E → View E
   with_first_rooms n v = record v { free = take n v.free; end = leads (drop n v.free) v.end }
 
-  -- how many rooms it has, free, to be given back or cleared
+  -- how many rooms it has, free, to be given back or with a use begun
   abbrev pub room_count : View E → ℕ
-  room_count v = length v.free + length v.back + cleared_count v.stage
+  room_count v = length v.free + length v.back + begun_count v.stage
 
   -- the name under which the party acts
   abbrev pub name : View E → Name

@@ -4,6 +4,8 @@ ghost use Rattle.cordyceps_queue.specs.Cores.Drain.{is_cleared};
 
 /// Where a party is between two steps. `room` is the room that it enqueues, `old` the head before its swap, and `tail`
 /// the room at which the party that has the right dequeues. The stub is room 0.
+///
+/// Threads have the same stages. Where the core makes a link null, they begin a use of its room (`uses`).
 #[derive(Clone, Copy)]
 pub enum Stage {
     /// In no call.

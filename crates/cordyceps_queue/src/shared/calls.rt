@@ -29,8 +29,8 @@ use std::marker::Model;
 ///
 /// Its maker chooses the number of its rooms. A room is a permit to insert one element: inserting spends one, and
 /// whoever removes the element gets it. Each call is made through a party of this queue, which has some of the rooms.
-/// Rooms that no party has are in the pool: `give_back` puts them there, and `refill`, `refill_at_most` and `try_enqueue`
-/// take them.
+/// Rooms that no party has are in the pool: `give_back` puts them there, and `refill`, `refill_at_most` and
+/// `try_enqueue` take them.
 /// Calls allocate nothing, except the constructors. A handle that is put in comes out as the same element, first in,
 /// first out. A party dequeues by the right to do so, which one party has at a time.
 ///
@@ -44,21 +44,21 @@ use std::marker::Model;
 /// and is not linked yet.
 ///
 /// # Threads
-/// A call borrows its party mutably, so one thread at a time acts through a party. Calls through several parties may
-/// run at the same time:
+/// A call borrows its party mutably, so one thread at a time acts through a party. All calls of different parties may
+/// run at the same time, except `close` and the queue's drop: these take the queue, when no other thread has it. One
+/// party at a time has the right to dequeue, so there is one consumer at a time. Where two calls want the same, this is
+/// what each gets:
 ///
-/// | call | beside any call of another party | beside a call of its own row |
-/// |---|---|---|
-/// | `enqueue` | yes | both put their elements in, and neither waits |
-/// | `refill` | yes | one gets the rooms of the pool; the other finds none |
-/// | `refill_at_most`, `try_enqueue` | yes | one gets rooms of the pool; the other finds what is left, or none |
-/// | `give_back` | yes | one puts its rooms into the pool; the other returns `false` |
-/// | `give_all_back` | yes | one puts its rooms into the pool; the other takes these and puts all there |
-/// | `try_dequeue`, `try_consume` | yes | one gets the right to dequeue; the other returns `Busy`, or its party |
-/// | `dequeue`, `consume` | yes | one gets the right to dequeue; the other waits for it |
-/// | the calls of a consumer | yes | there is one consumer at a time |
-/// | `split`, `absorb`, `receipt`, `copy_receipt`, `learn` | yes | yes |
-/// | `close`, and the queue's drop | no: they take the queue, when no other thread has it | |
+/// | calls at the same time | what each gets |
+/// |---|---|
+/// | two of `enqueue` | both put their elements in, and neither waits |
+/// | `enqueue`, a try to dequeue | the oldest element comes out, or `Inconsistent` says that a link is not there yet |
+/// | two of `try_dequeue`, `try_consume` | one gets the right to dequeue; the other gets `Busy`, or its party back |
+/// | two of `dequeue`, `consume` | one gets the right to dequeue; the other waits for it |
+/// | two of `refill` | one gets the rooms of the pool; the other finds none |
+/// | two of `refill_at_most`, `try_enqueue` | one gets rooms of the pool; the other finds what is left, or none |
+/// | two of `give_back` | one puts its rooms into the pool; the other returns `false` |
+/// | two of `give_all_back` | one puts its rooms into the pool; the other takes these and puts all there |
 ///
 /// # Complexity
 /// Dropping the queue drops its elements and the stub: O(r), for r rooms.
@@ -248,6 +248,18 @@ impl<T: Linked<Links<T>>> MpscQueue<T> {
     ///
     /// # Waits
     /// Never.
+    ///
+    /// # Examples
+    /// From `mailbox::send` of `cordyceps_shared_uses`:
+    /// ```
+    /// let sent = queue.try_enqueue(party, letter);
+    /// // The receiver is woken whether or not the queue accepted the letter. A superfluous wake-up does no harm.
+    /// receiver.unpark();
+    /// match sent {
+    ///     Ok(()) => return,
+    ///     Err(back) => letter = back,
+    /// }
+    /// ```
     pub fn try_enqueue(&self, party: &mut Party<T>, handle: T::Handle) -> Result<(), T::Handle>
         requires { party.old.table ≡ self.now.table }
         ensures answer { MatchResult result
@@ -337,6 +349,16 @@ impl<T: Linked<Links<T>>> MpscQueue<T> {
     ///
     /// # Waits
     /// Never.
+    ///
+    /// # Examples
+    /// Here a receiver puts all rooms into the pool, from where `try_enqueue` of the senders takes them.
+    ///
+    /// From `mailbox::deliver` of `cordyceps_shared_uses`:
+    /// ```
+    /// let (queue, mut receiver) = MpscQueue::new(alloc, rooms)?;
+    /// queue.give_back(&mut receiver, rooms);
+    /// let sender = queue.split(&mut receiver, 0);
+    /// ```
     pub fn give_back(&self, party: &mut Party<T>, rooms: usize) -> bool
         requires table { party.old.table ≡ self.now.table }
         requires rooms { rooms ≤ party.old.rooms }
@@ -444,6 +466,15 @@ impl<T: Linked<Links<T>>> MpscQueue<T> {
     ///
     /// # Waits
     /// Never.
+    ///
+    /// # Examples
+    /// From `laws::close_behind` of `cordyceps_queue`:
+    /// ```
+    /// while let Some(handle) = elements.next() {
+    ///     queue.enqueue(&mut party, handle);
+    /// }
+    /// queue.close(party)
+    /// ```
     pub fn close(self, party: Party<T>) -> Closed<T>
         requires table { party.table ≡ self.table }
         requires whole { party.share ≡ whole }

@@ -1,4 +1,19 @@
 //! Consumers of a shared queue, which have the right to dequeue.
+//!
+//! A `Right` is a party with the right and the tail's room. It cannot be dropped, so each way out of a consumer, its
+//! drop among them, gives the right back. The drop has no clause on the queue, since it could speak only of the
+//! consumer, which is gone.
+//!
+//! - A consumer pauses after it came to the queue's end (`Pace`). It is quicker than a producer, whose stores are
+//!   sequentially consistent. Without pauses each element would go over alone, and each store of the producer would
+//!   wait for a line that the consumer had just read: in a model 106 ns an element, where a try that takes and gives
+//!   back the right takes 27.
+//! - It gives rooms back when its caller says so, who knows in what numbers elements come. To do it by itself, it would
+//!   need a locked instruction, and its removals have none.
+//! - It has no `peek`. Only the party that has taken a slot can lend its value, and the step that takes the slot
+//!   removes the element. So a caller removes an element to look at it.
+//! - It splits off no party. The rule knows who has the right by the first name of its share, and a split halves that
+//!   name. So split the other parties off before one of them takes the right.
 ghost use Rattle.std.specs.Prelude.{◌≡◌, ◌≤◌, List, map, take, true, false, is_ok, Some, Err, MatchResult};
 ghost use Rattle.cordyceps_shared.specs.Histories.{plain};
 ghost use Rattle.cordyceps_shared.specs.Shares.{whole};
@@ -109,17 +124,13 @@ pub(crate) fn take_right<T: Linked<Links<T>>>(
     ensures whole { party.share ≡ whole → is_ok result ≡ true }
 {
     let Party { mut seat, spare } = party;
-    let tail = steps::take(words, &mut seat);
-    if tail.room == 0 {
+    let Some(tail) = steps::take(words, &mut seat) else {
         return Err(Party { seat, spare });
-    }
+    };
     Ok(Right {
         seat,
         spare,
-        tail: RoomUse {
-            room: tail.room - 1,
-            bit: tail.bit,
-        },
+        tail,
         pace: Pace::new(),
     })
 }
@@ -331,6 +342,27 @@ impl<'a, T: Linked<Links<T>>> Consumer<'a, T> {
     ///
     /// # Waits
     /// Never. After a try that came to the queue's end, the next one may pause for up to 511 spin-loop hints.
+    ///
+    /// # Examples
+    /// From `logger::store_until_end` of `cordyceps_shared_uses`:
+    /// ```
+    /// match consumer.take_linked(max) {
+    ///     Ok(batch) => {
+    ///         log = store_more(log, batch);
+    ///         let rooms = consumer.rooms();
+    ///         consumer.give_back(rooms);
+    ///     }
+    ///     Err(why) => {
+    ///         if is_end {
+    ///             return Stored {
+    ///                 party: consumer.release(),
+    ///                 log,
+    ///             };
+    ///         }
+    ///         pause(rt, &parker, why);
+    ///     }
+    /// }
+    /// ```
     pub fn take_linked(&mut self, max: usize) -> Result<Batch<T>, TryDequeueError>
         requires { 1 ≤ max }
         ensures answer { MatchResult result

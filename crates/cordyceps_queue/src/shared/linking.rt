@@ -8,7 +8,7 @@ ghost use Rattle.cordyceps_queue.specs.Shared.View.{free_chain, back_chain, all_
 use crate::shared::plays::{Skip, Tie};
 use crate::shared::spare::Spare;
 use crate::shared::table::{PartySeat, Words};
-use crate::shared::uses::free_link;
+use crate::shared::uses::{free_link, free_link_to};
 use cordyceps_shared::free::FreeRooms;
 use cordyceps_shared::layout::LINKS;
 
@@ -31,7 +31,7 @@ pub(crate) fn tie<E: Drop>(words: &Words<E>, seat: &mut PartySeat<E>, spare: &mu
     if spare.rooms.count == 0 {
         spare.rooms.first = at;
     } else if spare.end != at {
-        words.store::<Tie>(seat, LINKS + spare.rooms.last, 4 * at);
+        words.store::<Tie>(seat, LINKS + spare.rooms.last, free_link_to(at));
     }
 }
 

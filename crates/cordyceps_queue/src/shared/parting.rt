@@ -14,6 +14,7 @@ use crate::shared::linking::{pass, tie};
 use crate::shared::plays::{Cut, Learn, Merge};
 use crate::shared::spare::Spare;
 use crate::shared::table::{OwnedTable, PartySeat, Words};
+use crate::shared::uses::{RoomUse, free_link_to, free_right, null_link};
 use atomic_table::Table;
 use cordyceps_base::shared::MAX_ROOMS;
 use cordyceps_shared::free::{Count, FreeRooms};
@@ -28,11 +29,11 @@ fn links(alloc: Global, rooms: usize) -> Result<Vec<u64>, AllocError>
     ensures { IfOk result (λ words. AreNewWords words.items rooms) }
 {
     let mut words = vec![in alloc; 0; LINKS + rooms + 1]?;
-    words[RIGHT] = 2;
+    words[RIGHT] = free_right(RoomUse { room: 0, bit: 0 });
     for room in 0..rooms + 1 {
-        words[LINKS + room] = 4 * room as u64;
+        words[LINKS + room] = free_link_to(room as u64);
     }
-    words[LINKS] = 1;
+    words[LINKS] = null_link(0);
     Ok(words)
 }
 

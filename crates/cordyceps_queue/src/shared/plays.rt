@@ -1,7 +1,7 @@
 //! The steps of a shared queue, for contracts. Values of these types are not used when the program runs.
-ghost use Rattle.cordyceps_queue.specs.Shared.Uses.{after_clear, after_swap, after_link, after_take, after_look};
+ghost use Rattle.cordyceps_queue.specs.Shared.Uses.{after_begin, after_swap, after_link, after_take, after_look};
 ghost use Rattle.cordyceps_queue.specs.Shared.Uses.{after_look_stub, after_read, after_head, after_head_stub};
-ghost use Rattle.cordyceps_queue.specs.Shared.Uses.{after_clear_stub, after_swap_stub, after_link_stub, after_give};
+ghost use Rattle.cordyceps_queue.specs.Shared.Uses.{after_begin_stub, after_swap_stub, after_link_stub, after_give};
 ghost use Rattle.cordyceps_queue.specs.Shared.Uses.{after_reread, after_tie, after_skip};
 ghost use Rattle.cordyceps_queue.specs.Shared.Uses.{after_refill, after_gather, after_glance, after_give_back, after_give_rest};
 ghost use Rattle.cordyceps_queue.specs.Shared.Parting.{after_learn, view_keeping, view_giving};
@@ -15,12 +15,12 @@ use std::marker::PhantomData;
 
 /// A load of a free room's link, by which an enqueue begins a use of the room, takes its slot and learns the next free
 /// room.
-pub(crate) struct Clear<B> {
+pub(crate) struct Begin<B> {
     item: PhantomData<B>,
 }
 
-impl<E, B: Chosen<E>> Play<Option<E>, SeatView<E>> for Clear<B> {
-    ghost then = { after_clear B.item };
+impl<E, B: Chosen<E>> Play<Option<E>, SeatView<E>> for Begin<B> {
+    ghost then = { after_begin B.item };
 }
 
 /// A swap of the head, which puts an element in.
@@ -94,10 +94,10 @@ impl<E> Play<Option<E>, SeatView<E>> for HeadStub {
 }
 
 /// A load of the stub's link, which begins a use of its room.
-pub(crate) struct ClearStub;
+pub(crate) struct BeginStub;
 
-impl<E> Play<Option<E>, SeatView<E>> for ClearStub {
-    ghost then = { after_clear_stub };
+impl<E> Play<Option<E>, SeatView<E>> for BeginStub {
+    ghost then = { after_begin_stub };
 }
 
 /// A swap of the head, which puts the stub in.

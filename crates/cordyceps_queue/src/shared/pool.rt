@@ -65,9 +65,9 @@ pub(crate) fn refill<E: Drop>(words: &Words<E>, seat: &mut PartySeat<E>, spare: 
     taken.count
 }
 
-/// Gives the slots in hand back, and returns `true` if the pool has no room. Its contract also states that the party
-/// has no more rooms than the queue.
-fn is_empty<E: Drop>(words: &Words<E>, seat: &mut PartySeat<E>) -> bool
+/// Reads the pool's word, gives the slots in hand back, and returns `true` if the pool has no room. Its contract also
+/// states that the party has no more rooms than the queue.
+fn look_at_pool<E: Drop>(words: &Words<E>, seat: &mut PartySeat<E>) -> bool
     requires table { IsSeatOf seat.old.table_id words.now.table_id }
     requires hand { MayReturn words.now.table_id.slots seat.old.me }
     ensures table { seat.new.table_id ≡ seat.old.table_id }
@@ -113,7 +113,7 @@ pub(crate) fn give_back<E: Drop>(
     ensures tracks { TracksEnd spare.new (free_chain (view seat.new.me)) }
 {
     // so that no link is read in vain
-    let has_none = is_empty(words, seat);
+    let has_none = look_at_pool(words, seat);
     if rooms == 0 {
         return true;
     }
@@ -153,8 +153,8 @@ fn put_rest<E: Drop, B: Count>(
     words.compare_exchange::<GiveRest<B>>(seat, POOL, 0, word) == 0
 }
 
-/// Keeps the first `rooms` free rooms and gives the others to the pool, and returns `true`. If other rooms are there, it
-/// returns `false`, and keeps all.
+/// Keeps the first `rooms` free rooms and gives the others to the pool, and returns `true`. If other rooms are there,
+/// it returns `false`, and keeps all.
 fn give_rest<E: Drop>(
     words: &Words<E>,
     seat: &mut PartySeat<E>,

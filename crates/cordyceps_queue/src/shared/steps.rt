@@ -1,6 +1,6 @@
 //! The atomic steps of a shared queue. Each function is a part of a call.
 ghost use Rattle.std.specs.Prelude.{◌≡◌, ◌≢◌, ◌≤◌, ◌<◌, ℕ, suc, List, [], ◌∷◌, length, Some, None, MatchOption};
-ghost use Rattle.cordyceps_queue.specs.Shared.Parts.{IsSeatOf, IsCleared, IsSwapped, AsksRight, TracksEnd};
+ghost use Rattle.cordyceps_queue.specs.Shared.Parts.{IsSeatOf, IsBegun, IsSwapped, AsksRight, TracksEnd};
 ghost use Rattle.cordyceps_queue.specs.History.{Event};
 ghost use Rattle.cordyceps_queue.specs.Shared.Uses.{HasUse};
 ghost use Rattle.cordyceps_shared.specs.Slots.{view, hand};
@@ -9,17 +9,19 @@ ghost use Rattle.cordyceps_queue.specs.Shared.Plays.{HandsOneOut, MovesTo, Hands
 ghost use Rattle.cordyceps_queue.specs.Shared.View.{name, free_chain, all_rooms};
 ghost use Rattle.cordyceps_queue.specs.declared.cores.stage.Stage.TheVariants.{Cleared, Swapped, Rest, Holding, Null, PutRead};
 
-use crate::shared::plays::{Clear, Give, Link, Look, Reread, Swap, Take};
+use crate::shared::plays::{Begin, Give, Link, Look, Reread, Swap, Take};
 use crate::shared::spare::Spare;
 use crate::shared::table::{Chosen, PartySeat, Words};
-use crate::shared::uses::{RoomUse, free_link, leads_to, link_to, pointed, pointer};
+use crate::shared::uses::{
+    RoomUse, free_link, free_right, free_tail, leads_to, link_to, pointed, pointer,
+};
 use cordyceps_shared::layout::{HEAD, LINKS, RIGHT};
 use std::marker::Brand;
 use std::mem;
 
 /// Begins a use of a free room, by which the room's link is null, and takes the room's slot, before this element is put
 /// in. Returns what the link leads to, which is the next free room, and the bit of the new use.
-fn clear<E: Drop, B: Chosen<E>>(
+fn begin<E: Drop, B: Chosen<E>>(
     words: &Words<E>,
     seat: &mut PartySeat<E>,
     room: usize,
@@ -30,10 +32,10 @@ fn clear<E: Drop, B: Chosen<E>>(
     requires room { (rs : List ℕ) × ((view seat.old.me).free ≡ room ∷ rs) }
     requires item { B.item ≡ Some _item.now }
     ensures table { seat.new.table_id ≡ seat.old.table_id }
-    ensures cleared { IsCleared words.now.table_id.slots room result.0 _item.now seat.old.me seat.new.me }
+    ensures begun { IsBegun words.now.table_id.slots room result.0 _item.now seat.old.me seat.new.me }
     ensures knows { HasUse seat.new.me record { room = room; bit = result.1 } }
 {
-    free_link(words.load::<Clear<B>>(seat, LINKS + room))
+    free_link(words.load::<Begin<B>>(seat, LINKS + room))
 }
 
 /// Puts the element into the slot, makes its room the head, and returns the old head. The slot was empty, so nothing
@@ -88,7 +90,7 @@ pub(crate) fn enqueue<E: Drop>(
         (Event.Swap (name (view seat.old.me)) item ∷ Event.Link (name (view seat.old.me)) ∷ []) (view seat.new.me) }
 {
     let room = spare.rooms.first as usize - 1;
-    let (next, bit) = clear::<E, Brand>(words, seat, room, &item);
+    let (next, bit) = begin::<E, Brand>(words, seat, room, &item);
     spare.rooms.first = next;
     spare.rooms.count -= 1;
     let to = RoomUse { room, bit };
@@ -105,7 +107,7 @@ pub(crate) fn give<E: Drop>(words: &Words<E>, seat: &mut PartySeat<E>, tail: Roo
     ensures rest { IsResting words.now.table_id.slots seat.new.me }
     ensures answer { MovesTo (Event.Free (name (view seat.old.me)) ∷ []) Rest seat.old.me seat.new.me }
 {
-    words.store::<Give>(seat, RIGHT, pointer(tail) + 2);
+    words.store::<Give>(seat, RIGHT, free_right(tail));
 }
 
 /// Reads the tail's link again, after the stub was put in. If it leads on, returns the new tail.
@@ -126,16 +128,15 @@ pub(crate) fn reread<E: Drop>(
     leads_to(words.load::<Reread>(seat, LINKS + tail.room), tail.bit)
 }
 
-/// Takes the right to dequeue. The room of what it returns is 1 more than the tail's, with the bit of the tail's use,
-/// or 0 if another party has the right.
-pub(crate) fn take<E: Drop>(words: &Words<E>, seat: &mut PartySeat<E>) -> RoomUse
+/// Takes the right to dequeue and returns the tail, or `None` if another party has the right.
+pub(crate) fn take<E: Drop>(words: &Words<E>, seat: &mut PartySeat<E>) -> Option<RoomUse>
     requires table { IsSeatOf seat.old.table_id words.now.table_id }
     requires rest { IsResting words.now.table_id.slots seat.old.me }
     ensures table { seat.new.table_id ≡ seat.old.table_id }
-    ensures took { AsksRight words.now.table_id.slots result.room seat.old.me seat.new.me }
-    ensures knows { (t : ℕ) → result.room ≡ suc t → HasUse seat.new.me record { room = t; bit = result.bit } }
+    ensures took { MatchOption result (AsksRight words.now.table_id.slots 0 seat.old.me seat.new.me)
+        (λ t. AsksRight words.now.table_id.slots (suc t.room) seat.old.me seat.new.me × HasUse seat.new.me t) }
 {
-    pointed(words.swap::<Take>(seat, RIGHT, 0))
+    free_tail(words.swap::<Take>(seat, RIGHT, 0))
 }
 
 /// Reads the link of a tail that is not the stub. If it leads on, returns the new tail and what was in the slot; if it

@@ -8,7 +8,7 @@ ghost use Rattle.cordyceps_queue.specs.Shared.Parts.{IsSeatOf};
 ghost use Rattle.cordyceps_queue.specs.Shared.View.{bit_of, name};
 ghost use Rattle.cordyceps_queue.specs.declared.cores.stage.Stage.TheVariants.{Holding, StubNull, Second, Null, PutClear, PutSwap, PutLink, PutRead};
 
-use crate::shared::plays::{ClearStub, Head, HeadStub, LinkStub, LookStub, Read, SwapStub};
+use crate::shared::plays::{BeginStub, Head, HeadStub, LinkStub, LookStub, Read, SwapStub};
 use crate::shared::table::{PartySeat, Words};
 use crate::shared::uses::{RoomUse, free_link, leads_to, link_to, pointed, pointer};
 use cordyceps_shared::layout::{HEAD, LINKS};
@@ -79,7 +79,7 @@ pub(crate) fn is_head<E: Drop>(words: &Words<E>, seat: &mut PartySeat<E>, tail: 
 }
 
 /// Begins a use of the stub's room, by which its link is null, and returns it.
-fn clear_stub<E: Drop>(words: &Words<E>, seat: &mut PartySeat<E>, _tail: RoomUse) -> RoomUse
+fn begin_stub<E: Drop>(words: &Words<E>, seat: &mut PartySeat<E>, _tail: RoomUse) -> RoomUse
     requires table { IsSeatOf seat.old.table_id words.now.table_id }
     requires stage { IsAtStage words.now.table_id.slots (PutClear _tail.room) seat.old.me }
     requires knows { HasUse seat.old.me _tail }
@@ -89,7 +89,7 @@ fn clear_stub<E: Drop>(words: &Words<E>, seat: &mut PartySeat<E>, _tail: RoomUse
 {
     RoomUse {
         room: 0,
-        bit: free_link(words.load::<ClearStub>(seat, LINKS)).1,
+        bit: free_link(words.load::<BeginStub>(seat, LINKS)).1,
     }
 }
 
@@ -138,7 +138,7 @@ pub(crate) fn put_stub<E: Drop>(words: &Words<E>, seat: &mut PartySeat<E>, tail:
     ensures answer { MovesTo [] (PutRead tail.room) seat.old.me seat.new.me }
     ensures knows { HasUse seat.new.me tail }
 {
-    let stub = clear_stub(words, seat, tail);
+    let stub = begin_stub(words, seat, tail);
     let old = swap_stub(words, seat, tail, stub);
     link_stub(words, seat, tail, stub, old);
 }

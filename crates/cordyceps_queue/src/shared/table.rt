@@ -29,12 +29,11 @@ impl<E> TableRule<Option<E>, SeatView<E>, usize> for Rule {
 
 /// The words and slots of the table.
 ///
-/// The word `HEAD` is twice the head's room, and the bit of its use. The word `RIGHT` is 0 while a party has the right
-/// to dequeue, and else twice the number after the tail's room, and the bit of its use. The word `LINKS + r` is the
-/// link of room `r`: four times the number after the room that it leads to, twice the bit of the use of that, and the
-/// bit of the use of `r` in which it was written. If that bit is not the one of the room's present use, the link is
-/// null. The link of a free room leads to the next free room of the party, or of the pool. The word `POOL` leads to the
-/// pool, or is 0. The other words are not used. Slot `r` has the element of room `r`, and room 0 is the stub's.
+/// The word `HEAD` leads to the head. The word `RIGHT` leads to the tail, and is 0 while a party has the right to
+/// dequeue. The word `LINKS + r` is the link of room `r`. If it was written in an earlier use of the room, it is null.
+/// The link of a free room leads to the next free room of the party, or of the pool. `uses` says how these words are
+/// spelled. The word `POOL` leads to the pool, or is 0. The other words are not used. Slot `r` has the element of room
+/// `r`, and room 0 is the stub's.
 pub(crate) type Words<E> = Shared<Option<E>, SeatView<E>, usize, Rule>;
 
 /// The table, which owns its memory.
@@ -43,7 +42,7 @@ pub(crate) type OwnedTable<E> = Table<Option<E>, SeatView<E>, usize, Rule, Globa
 /// The seat of a party: the token by which it acts on the table.
 pub(crate) type PartySeat<E> = Seat<Option<E>, SeatView<E>>;
 
-/// The element that a room is cleared for. Each call that clears a room chooses it.
+/// The element for which a use of a room begins. Each call that begins a use chooses it.
 pub(crate) trait Chosen<E> {
     ghost use Rattle.std.specs.Prelude.{Option};
 

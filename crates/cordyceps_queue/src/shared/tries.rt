@@ -176,13 +176,8 @@ pub(crate) fn try_dequeue<E: Drop>(
     ensures tracks { TracksEnd spare.new (free_chain (view seat.new.me)) }
     ensures answer { Dequeued words.now.table_id.slots seat.old.me seat.new.me result }
 {
-    let right = take(words, seat);
-    if right.room == 0 {
+    let Some(tail) = take(words, seat) else {
         return None;
-    }
-    let tail = RoomUse {
-        room: right.room - 1,
-        bit: right.bit,
     };
     let (tail, tried) = advance(words, seat, spare, tail);
     give(words, seat, tail);

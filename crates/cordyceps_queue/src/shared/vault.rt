@@ -1,4 +1,7 @@
-//! A value that is kept for later.
+//! A value that is kept for later: the stub that the maker of a queue provided.
+//!
+//! It is in a table of one slot. As a field it would require handles that threads can share; for a table it is enough
+//! that they can be sent. The table's key, a snapshot, tells what `close` returns.
 ghost use Rattle.std.specs.Prelude.{◌≡◌, IfOk, IfErr};
 
 use atomic_table::{Closed, Refused, Table, TableRule};

@@ -14,14 +14,9 @@ use Rattle.cordyceps_stack.specs.History.{Load, Push, held, Legal, actor}
 use Rattle.cordyceps_stack.specs.Shared.Calls.{PartyOf, PushesAt, PushesRefilled, Takes}
 use Rattle.cordyceps_stack.specs.Shared.Moves.{put_by, got_by, Moves}
 use Rattle.cordyceps_stack.proofs.Histories.{held_from-append}
-use Rattle.cordyceps_stack.proofs.SharedTheory.PartyMoves.{all_kept, moves_push, moves_refilled, moves_take}
+use Rattle.cordyceps_stack.proofs.SharedTheory.PartyMoves.{all_kept, moves_refilled, moves_take}
 
 module _ {E A : Type 0} (f : E → A) where
-  pub then_pushes : {s g : List A} {u v : PartyOf E} (n : ℕ) (e : E) (first : Bool) (w : PartyOf E) → Moves f s g u v → PushesAt n e first v w
-      → Moves f (s ++ f e ∷ []) g u w
-  then_pushes {s} {g} {u} {v} n e first w before c = subst (λ z. Moves f (s ++ f e ∷ []) z u w) (append-nil g)
-      (moves_then (put_by f) (got_by f) s g (f e ∷ []) [] u v w before (moves_push f n e first v w c))
-
   -- a push that may have taken rooms of the pool first
   pub then_refilled : {s g : List A} {u v : PartyOf E} (e : E) (first : Bool) (w : PartyOf E) → Moves f s g u v → PushesRefilled e first v w
       → Moves f (s ++ f e ∷ []) g u w

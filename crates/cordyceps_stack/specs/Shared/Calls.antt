@@ -49,18 +49,18 @@ module _ {E : Type 0} where
   abbrev pub Adds : PartyOf E → List (Event Name E) → PartyOf E → Type 0
   Adds u es w = parties.Adds actor (λ h. Legal h) u es w
 
-  -- it pushed e at its n-th try, which took a room, and `first` tells whether nothing was held before
+  -- it pushed e at its n-th try, which took a room, and `was_empty` tells whether nothing was held before
   abbrev pub PushesAt : ℕ → E → Bool → PartyOf E → PartyOf E → Type 0
-  PushesAt n e first u w =
+  PushesAt n e was_empty u w =
       Adds u (replicate n (Load (name_of u)) ++ Push (name_of u) e ∷ []) w
-      × EndsPushed e (IsTrue first) (name_of u) w.seen × (u.rooms ≡ suc w.rooms)
+      × EndsPushed e (IsTrue was_empty) (name_of u) w.seen × (u.rooms ≡ suc w.rooms)
 
   -- it pushed all es at its n-th try, which took a room each. The last was pushed first, so they are held in their
-  -- order above what was held before, and `first` tells whether that was nothing
+  -- order above what was held before, and `was_empty` tells whether that was nothing
   abbrev pub PushesAllAt : ℕ → List E → Bool → PartyOf E → PartyOf E → Type 0
-  PushesAllAt n es first u w =
+  PushesAllAt n es was_empty u w =
       Adds u (replicate n (Load (name_of u)) ++ pushes_of (name_of u) es) w
-      × EndsPushedAll es (IsTrue first) (name_of u) w.seen × (u.rooms ≡ length es + w.rooms)
+      × EndsPushedAll es (IsTrue was_empty) (name_of u) w.seen × (u.rooms ≡ length es + w.rooms)
 
   -- it tried to push, and another came between
   abbrev pub Misses : PartyOf E → PartyOf E → Type 0
@@ -88,11 +88,11 @@ module _ {E : Type 0} where
   abbrev pub LacksRooms : PartyOf E → Type 0
   LacksRooms w = w.rooms + length (held (plain w.seen)) < w.table.slots
 
-  -- it pushed e at one try, which took a room, and `first` tells whether nothing was held before; if it had no room, it
+  -- it pushed e at one try, which took a room, and `was_empty` tells whether nothing was held before; if it had no room, it
   -- took some of the pool before
-  pub record PushesRefilled (e : E) (first : Bool) (u w : PartyOf E) : Type 0 where
+  pub record PushesRefilled (e : E) (was_empty : Bool) (u w : PartyOf E) : Type 0 where
     pub adds : Adds u (Load (name_of u) ∷ Push (name_of u) e ∷ []) w
-    pub ends : EndsPushed e (IsTrue first) (name_of u) w.seen
+    pub ends : EndsPushed e (IsTrue was_empty) (name_of u) w.seen
     pub taken : ℕ
     pub rooms : u.rooms + taken ≡ suc w.rooms
     pub untouched : 0 < u.rooms → taken ≡ 0
@@ -126,6 +126,6 @@ module _ {E : Type 0} where
   IsCertainlyFull (error.Full back) w = HasAllRooms w
   IsCertainlyFull (error.Contended back) w = ⊥
 
-  -- it looked, and `none` tells whether nothing was held
+  -- it looked, and `was_empty` tells whether nothing was held
   abbrev pub Looks : Bool → PartyOf E → PartyOf E → Type 0
-  Looks none u w = Adds u (Load (name_of u) ∷ []) w × EndsLooked (IsTrue none) (name_of u) w.seen × (w.rooms ≡ u.rooms)
+  Looks was_empty u w = Adds u (Load (name_of u) ∷ []) w × EndsLooked (IsTrue was_empty) (name_of u) w.seen × (w.rooms ≡ u.rooms)

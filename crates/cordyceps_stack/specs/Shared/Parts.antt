@@ -53,17 +53,17 @@ module _ {E : Type 0} where
     pub overtaken : IsOvertaken (view k).known.seen
 
   -- the last of so many tries of a party that was ready has pushed, and the party rests
-  pub record SettlesAt (slots tries : ℕ) (x : E) (first : Bool) (m k : SeatState E) : Type 0 where
+  pub record SettlesAt (slots tries : ℕ) (x : E) (was_empty : Bool) (m k : SeatState E) : Type 0 where
     pub rests : IsResting slots k
     pub free : (view k).free ≡ (view m).free
     pub sees : Sees (view m) (replicate tries (Load (name (view m))) ++ Push (name (view m)) x ∷ []) (view k)
-    pub ends : EndsPushed x (IsTrue first) (name (view m)) (view k).known.seen
+    pub ends : EndsPushed x (IsTrue was_empty) (name (view m)) (view k).known.seen
 
   -- a party that rested has pushed, at the last of so many tries
-  pub record HasPushed (tries : ℕ) (x : E) (first : Bool) (m k : SeatState E) : Type 0 where
+  pub record HasPushed (tries : ℕ) (x : E) (was_empty : Bool) (m k : SeatState E) : Type 0 where
     pub free : length (view m).free.rooms ≡ suc (length (view k).free.rooms)
     pub sees : Sees (view m) (replicate tries (Load (name (view m))) ++ Push (name (view m)) x ∷ []) (view k)
-    pub ends : EndsPushed x (IsTrue first) (name (view m)) (view k).known.seen
+    pub ends : EndsPushed x (IsTrue was_empty) (name (view m)) (view k).known.seen
 
   -- a party that rested has put these elements into the slots of its first free rooms, and is ready to push them all
   pub record HasFilled (slots first : ℕ) (before : List (ℕ × E)) (last : ℕ) (x : E) (m k : SeatState E) : Type 0 where
@@ -84,17 +84,17 @@ module _ {E : Type 0} where
     pub overtaken : IsOvertaken (view k).known.seen
 
   -- the last of so many tries of a party that was ready has pushed all, and the party rests
-  pub record SettlesAllAt (slots tries : ℕ) (es : List E) (first : Bool) (m k : SeatState E) : Type 0 where
+  pub record SettlesAllAt (slots tries : ℕ) (es : List E) (was_empty : Bool) (m k : SeatState E) : Type 0 where
     pub rests : IsResting slots k
     pub free : (view k).free ≡ (view m).free
     pub sees : Sees (view m) (replicate tries (Load (name (view m))) ++ pushes_of (name (view m)) es) (view k)
-    pub ends : EndsPushedAll es (IsTrue first) (name (view m)) (view k).known.seen
+    pub ends : EndsPushedAll es (IsTrue was_empty) (name (view m)) (view k).known.seen
 
   -- a party that rested has pushed all, at the last of so many tries
-  pub record HasPushedAll (tries : ℕ) (es : List E) (first : Bool) (m k : SeatState E) : Type 0 where
+  pub record HasPushedAll (tries : ℕ) (es : List E) (was_empty : Bool) (m k : SeatState E) : Type 0 where
     pub free : length (view m).free.rooms ≡ length es + length (view k).free.rooms
     pub sees : Sees (view m) (replicate tries (Load (name (view m))) ++ pushes_of (name (view m)) es) (view k)
-    pub ends : EndsPushedAll es (IsTrue first) (name (view m)) (view k).known.seen
+    pub ends : EndsPushedAll es (IsTrue was_empty) (name (view m)) (view k).known.seen
 
   -- its first try failed, and the room's slot is in hand; or it pushed
   pub record FirstMissed (slots room : ℕ) (x : E) (m k : SeatState E) : Type 0 where
@@ -102,16 +102,16 @@ module _ {E : Type 0} where
     pub sees : Sees (view m) (Load (name (view m)) ∷ []) (view k)
     pub overtaken : IsOvertaken (view k).known.seen
 
-  pub record FirstPushed (slots : ℕ) (x : E) (first : Bool) (m k : SeatState E) : Type 0 where
+  pub record FirstPushed (slots : ℕ) (x : E) (was_empty : Bool) (m k : SeatState E) : Type 0 where
     pub rests : IsResting slots k
     pub sees : Sees (view m) (Load (name (view m)) ∷ Push (name (view m)) x ∷ []) (view k)
-    pub ends : EndsPushed x (IsTrue first) (name (view m)) (view k).known.seen
+    pub ends : EndsPushed x (IsTrue was_empty) (name (view m)) (view k).known.seen
 
   -- a party that rested has tried to push into its first free room, whose link was `next`; and its try came to this
-  pub record HasTried (slots room : ℕ) (x : E) (next : ℕ) (first : Option Bool) (m k : SeatState E) : Type 0 where
+  pub record HasTried (slots room : ℕ) (x : E) (next : ℕ) (was_empty : Option Bool) (m k : SeatState E) : Type 0 where
     pub free : (view m).free ≡ with_first room (view k).free
     pub next_is : next ≡ leads (view k).free.rooms (view k).free.end
-    pub answer : MatchOption first (FirstMissed slots room x m k) (λ empty. FirstPushed slots x empty m k)
+    pub answer : MatchOption was_empty (FirstMissed slots room x m k) (λ empty. FirstPushed slots x empty m k)
 
   -- the party has a batch to hand out, to which this word leads
   pub record HasTaken (slots at : ℕ) (m : SeatState E) : Type 0 where

@@ -182,7 +182,7 @@ impl<T: Linked<Links<T>>> TransferStack<T> {
         requires table { party.old.table ≡ self.now }
         requires room { 0 < party.old.rooms }
         ensures answer { MatchResult result
-            (λ first. PushesAt 1 handle first party.old party.new)
+            (λ was_empty. PushesAt 1 handle was_empty party.old party.new)
             (λ back. (back ≡ handle) × Misses party.old party.new) }
         ensures whole { party.old.share ≡ whole → is_ok result ≡ true }
     {
@@ -203,6 +203,20 @@ impl<T: Linked<Links<T>>> TransferStack<T> {
     ///
     /// # Waits
     /// Never.
+    ///
+    /// # Examples
+    /// From `run_queue::submit` of `cordyceps_shared_uses`:
+    /// ```
+    /// match queue.refill_and_try_push(party, job) {
+    ///     Ok(was_empty) => {
+    ///         if was_empty {
+    ///             alarm.ring();
+    ///         }
+    ///         return;
+    ///     }
+    ///     Err(error) => job = error.into_inner(),
+    /// }
+    /// ```
     pub fn refill_and_try_push(
         &self,
         party: &mut Party<T>,
@@ -210,7 +224,7 @@ impl<T: Linked<Links<T>>> TransferStack<T> {
     ) -> Result<bool, TryPushError<T::Handle>>
         requires { party.old.table ≡ self.now }
         ensures answer { MatchResult result
-            (λ first. PushesRefilled handle first party.old party.new)
+            (λ was_empty. PushesRefilled handle was_empty party.old party.new)
             (λ error. FailsToPush handle error party.old party.new) }
         ensures few { party.old.share ≡ whole → party.new.rooms ≤ max party.old.rooms QUANTUM }
         ensures whole { party.old.share ≡ whole → IfErr result (λ error. IsCertainlyFull error party.new) }
@@ -219,7 +233,7 @@ impl<T: Linked<Links<T>>> TransferStack<T> {
             return Err(TryPushError::Full(handle));
         }
         match self.try_push(party, handle) {
-            Ok(first) => Ok(first),
+            Ok(was_empty) => Ok(was_empty),
             Err(back) => Err(TryPushError::Contended(back)),
         }
     }
@@ -241,8 +255,8 @@ impl<T: Linked<Links<T>>> TransferStack<T> {
         requires table { party.old.table ≡ self.now }
         requires rooms { length elements ≤ party.old.rooms }
         ensures answer { MatchResult result
-            (λ first. (pushed : List T.Handle) × (elements ≡ map T.element pushed)
-            × PushesAllAt 1 pushed first party.old party.new)
+            (λ was_empty. (pushed : List T.Handle) × (elements ≡ map T.element pushed)
+            × PushesAllAt 1 pushed was_empty party.old party.new)
             (λ back. (back ≡ elements) × Misses party.old party.new) }
         ensures whole { party.old.share ≡ whole → is_ok result ≡ true }
     {
@@ -351,6 +365,14 @@ impl<T: Linked<Links<T>>> TransferStack<T> {
     ///
     /// # Waits
     /// Never.
+    ///
+    /// # Examples
+    /// From `run_queue::work` of `cordyceps_shared_uses`:
+    /// ```
+    /// let batch = queue.take_all(&mut party);
+    /// let rooms = party.rooms();
+    /// queue.give_back(&mut party, rooms);
+    /// ```
     pub fn give_back(&self, party: &mut Party<T>, rooms: usize) -> bool
         requires table { party.old.table ≡ self.now }
         requires rooms { rooms ≤ party.old.rooms }
@@ -414,6 +436,15 @@ impl<T: Linked<Links<T>>> TransferStack<T> {
     ///
     /// # Waits
     /// Never.
+    ///
+    /// # Examples
+    /// From `tour::hand_over` of `cordyceps_uses`:
+    /// ```
+    /// // The stack has eight rooms, and this party has them all.
+    /// let (shared, mut taker) = TransferStack::<Job>::new(alloc, 8)?;
+    /// // Another thread gets a party of its own, with four rooms.
+    /// let mut pusher = shared.split(&mut taker, 4);
+    /// ```
     pub fn split(&self, party: &mut Party<T>, rooms: usize) -> Party<T>
         requires table { party.old.table ≡ self.now }
         requires rooms { rooms ≤ party.old.rooms }
@@ -436,6 +467,14 @@ impl<T: Linked<Links<T>>> TransferStack<T> {
     ///
     /// # Waits
     /// Never.
+    ///
+    /// # Examples
+    /// From `tour::hand_over` of `cordyceps_uses`:
+    /// ```
+    /// // When the other thread has ended, the taker absorbs its party, and has its rooms and its history.
+    /// shared.absorb(&mut taker, pusher);
+    /// Ok(shared.take_all(&mut taker))
+    /// ```
     pub fn absorb(&self, party: &mut Party<T>, other: Party<T>)
         requires { (party.old.table ≡ self.now) × (other.table ≡ self.now) }
         ensures { Absorbs (λ h. Legal h) party.old other party.new }
@@ -458,6 +497,13 @@ impl<T: Linked<Links<T>>> TransferStack<T> {
     ///
     /// # Waits
     /// Never.
+    ///
+    /// # Examples
+    /// From `tasks::schedule` of `cordyceps_uses`:
+    /// ```
+    /// let party = push_all(rt, &shared, party, tasks);
+    /// let came = shared.close(party);
+    /// ```
     pub fn close(self, mut party: Party<T>) -> Stack<T>
         requires table { party.table ≡ self }
         requires whole { party.share ≡ whole }

@@ -102,7 +102,8 @@ fn attempt<E: Drop>(
     ensures answer { (before : List (ℕ × E)) → (x : E)
         → IsReadyAll words.now.table_id.slots first before last x seat.old.me → MatchOption result
         (HasKept words.now.table_id.slots first before last x seat.new.me × HasMissed seat.old.me seat.new.me)
-        (λ none. SettlesAllAt words.now.table_id.slots 1 (elements_then before x) none seat.old.me seat.new.me) }
+        (λ was_empty. SettlesAllAt words.now.table_id.slots 1 (elements_then before x) was_empty
+        seat.old.me seat.new.me) }
 {
     let read = words.load::<LoadAll>(seat, HEAD);
     relink(words, seat, last, read);
@@ -115,7 +116,7 @@ fn attempt<E: Drop>(
 
 /// Pushes what is in the slots in hand, by as many tries as it needs, and returns whether the stack was empty. It
 /// pauses after each failure.
-fn settle<E: Drop, R: Wait>(
+fn settle_at_last<E: Drop, R: Wait>(
     rt: &R,
     words: &Words<E>,
     seat: &mut PartySeat<E>,
@@ -134,7 +135,7 @@ fn settle<E: Drop, R: Wait>(
     let backoff = Backoff::new();
     for _ in rt.forever() {
         match attempt(words, seat, first, last) {
-            Some(none) => return none,
+            Some(was_empty) => return was_empty,
             None => pause(&backoff),
         }
     }
@@ -155,8 +156,8 @@ pub(crate) fn try_push_all<T: Linked<Links<T>>>(
     ensures rest { IsResting words.now.table_id.slots seat.new.me }
     ensures tracks { Tracks free.new (view seat.new.me).free }
     ensures answer { MatchResult result
-        (λ none. (pushed : List T.Handle) × (elements ≡ map T.element pushed)
-        × HasPushedAll 1 pushed none seat.old.me seat.new.me)
+        (λ was_empty. (pushed : List T.Handle) × (elements ≡ map T.element pushed)
+        × HasPushedAll 1 pushed was_empty seat.old.me seat.new.me)
         (λ back. (back ≡ elements) × HasBacked seat.old.me seat.new.me) }
 {
     let mut others = elements;
@@ -165,8 +166,8 @@ pub(crate) fn try_push_all<T: Linked<Links<T>>>(
     };
     let first = free.first;
     let last = fill(words, seat, free, handle, others);
-    if let Some(none) = attempt(words, seat, first, last) {
-        return Ok(none);
+    if let Some(was_empty) = attempt(words, seat, first, last) {
+        return Ok(was_empty);
     }
     relink(words, seat, last, 0);
     seat.turn();
@@ -201,7 +202,7 @@ pub(crate) fn push_all<T: Linked<Links<T>>, R: Wait>(
     let first = free.first;
     let last = fill(words, seat, free, handle, others);
     match attempt(words, seat, first, last) {
-        Some(none) => none,
-        None => settle(rt, words, seat, first, last),
+        Some(was_empty) => was_empty,
+        None => settle_at_last(rt, words, seat, first, last),
     }
 }

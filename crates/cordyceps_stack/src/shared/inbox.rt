@@ -78,6 +78,14 @@ impl<'a, T: Linked<Links<T>>> Inbox<'a, T> {
     ///
     /// # Waits
     /// Never.
+    ///
+    /// # Examples
+    /// From `tour::receive` of `cordyceps_uses`:
+    /// ```
+    /// // The inbox takes both jobs at once, and hands out the one that was pushed first.
+    /// let mut inbox = Inbox::new(&shared, taker);
+    /// let came = inbox.pop();
+    /// ```
     pub fn pop(&mut self) -> Option<T::Handle>
         ensures popped { ReceivesFrom T.element self.old.taken self.old.party result self.new }
         ensures table { self.new.party.table ≡ self.old.party.table }
@@ -111,6 +119,15 @@ impl<'a, T: Linked<Links<T>>> Inbox<'a, T> {
     ///
     /// # Complexity
     /// O(1).
+    ///
+    /// # Examples
+    /// From `tour::receive` of `cordyceps_uses`:
+    /// ```
+    /// // What it took and did not hand out is returned with its party.
+    /// let (left, party) = inbox.finish();
+    /// drop(left);
+    /// drop(shared.close(party));
+    /// ```
     pub fn finish(self) -> (Stack<T>, Party<T>)
         ensures { (result.0 ≡ self.entry.taken) × (result.1 ≡ self.entry.party) }
     {

@@ -54,7 +54,7 @@ pub(crate) fn refill<E: Drop>(
 }
 
 /// Returns `true` if the pool has no room. Its contract also states that the party has no more rooms than the stack.
-fn is_empty<E: Drop>(words: &Words<E>, seat: &mut PartySeat<E>) -> bool
+fn look_at_pool<E: Drop>(words: &Words<E>, seat: &mut PartySeat<E>) -> bool
     requires table { IsSeatOf seat.old.table_id words.now.table_id }
     requires rest { IsResting words.now.table_id.slots seat.old.me }
     ensures same { (seat.new.table_id ≡ seat.old.table_id) × (seat.new.me ≡ seat.old.me) }
@@ -100,7 +100,7 @@ pub(crate) fn give_back<E: Drop>(
         return true;
     }
     // so that no link is read in vain
-    if !is_empty(words, seat) {
+    if !look_at_pool(words, seat) {
         return false;
     }
     let (after, last) = pass(words, seat, free, rooms);
@@ -152,7 +152,7 @@ fn give_rest<E: Drop>(
     ensures tracks { Tracks free.new (view seat.new.me).free }
 {
     // so that no link is read in vain
-    if !is_empty(words, seat) {
+    if !look_at_pool(words, seat) {
         return false;
     }
     let (after, last) = pass(words, seat, free, rooms);

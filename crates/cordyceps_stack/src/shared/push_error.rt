@@ -3,6 +3,20 @@ ghost use Rattle.std.specs.Prelude.{◌≡◌};
 ghost use Rattle.cordyceps_stack.specs.Shared.Calls.{handle_of};
 
 /// Why an element was not pushed. It has the handle.
+///
+/// # Examples
+/// From `run_queue::submit` of `cordyceps_shared_uses`:
+/// ```
+/// match queue.refill_and_try_push(party, job) {
+///     Ok(was_empty) => {
+///         if was_empty {
+///             alarm.ring();
+///         }
+///         return;
+///     }
+///     Err(error) => job = error.into_inner(),
+/// }
+/// ```
 #[derive(Drop, Debug)]
 pub enum TryPushError<H> {
     /// The party has no room, and the pool has none.

@@ -99,7 +99,7 @@ fn attempt<E: Drop>(words: &Words<E>, seat: &mut PartySeat<E>, room: usize) -> O
     ensures table { seat.new.table_id ≡ seat.old.table_id }
     ensures answer { (x : E) → IsReady words.now.table_id.slots room x seat.old.me → MatchOption result
         (IsReady words.now.table_id.slots room x seat.new.me × HasMissed seat.old.me seat.new.me)
-        (λ first. SettlesAt words.now.table_id.slots 1 x first seat.old.me seat.new.me) }
+        (λ was_empty. SettlesAt words.now.table_id.slots 1 x was_empty seat.old.me seat.new.me) }
 {
     let read = load(words, seat, room);
     relink(words, seat, room, read);
@@ -126,12 +126,12 @@ fn first_attempt<E: Drop>(
 {
     let read = begin(words, seat, room);
     let next = fill(words, seat, room, read, item);
-    let first = if settle(words, seat, room, read) {
+    let was_empty = if settle(words, seat, room, read) {
         Some(read == 0)
     } else {
         None
     };
-    (next, first)
+    (next, was_empty)
 }
 
 /// Empties the slot in hand and returns it. The room is the first free one again, and `next` leads to the one after it.
@@ -166,15 +166,15 @@ pub(crate) fn try_push<E: Drop>(
     ensures rest { IsResting words.now.table_id.slots seat.new.me }
     ensures tracks { Tracks free.new (view seat.new.me).free }
     ensures answer { MatchResult result
-        (λ first. HasPushed 1 item first seat.old.me seat.new.me)
+        (λ was_empty. HasPushed 1 item was_empty seat.old.me seat.new.me)
         (λ back. (back ≡ item) × HasMissed seat.old.me seat.new.me) }
 {
     let room = free.first as usize - 1;
     match first_attempt(words, seat, room, item) {
-        (next, Some(first)) => {
+        (next, Some(was_empty)) => {
             free.first = next as u64;
             free.count -= 1;
-            Ok(first)
+            Ok(was_empty)
         }
         (next, None) => Err(back_out(words, seat, room, next)),
     }
@@ -208,7 +208,7 @@ fn settle_at_last<E: Drop, R: Wait>(
     let backoff = Backoff::new();
     for _ in rt.forever() {
         match attempt(words, seat, room) {
-            Some(first) => return first,
+            Some(was_empty) => return was_empty,
             None => pause(&backoff),
         }
     }
@@ -235,11 +235,11 @@ pub(crate) fn push<E: Drop, R: Wait>(
     ensures whole { (view seat.old.me).known.share ≡ whole → HasPushed 1 item result seat.old.me seat.new.me }
 {
     let room = free.first as usize - 1;
-    let (next, first) = first_attempt(words, seat, room, item);
+    let (next, was_empty) = first_attempt(words, seat, room, item);
     free.first = next as u64;
     free.count -= 1;
-    match first {
-        Some(first) => first,
+    match was_empty {
+        Some(was_empty) => was_empty,
         None => settle_at_last(rt, words, seat, room),
     }
 }

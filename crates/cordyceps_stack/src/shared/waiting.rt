@@ -23,8 +23,8 @@ impl<T: Linked<Links<T>>> TransferStack<T> {
     pub fn push<R: Wait>(&self, rt: &R, party: &mut Party<T>, handle: T::Handle)
         requires table { party.old.table ≡ self.now }
         requires room { 0 < party.old.rooms }
-        ensures pushed { (tries : ℕ) × (first : Bool) × PushesAt (suc tries) handle first party.old party.new }
-        ensures whole { party.old.share ≡ whole → (first : Bool) × PushesAt 1 handle first party.old party.new }
+        ensures pushed { (tries : ℕ) × (was_empty : Bool) × PushesAt (suc tries) handle was_empty party.old party.new }
+        ensures whole { party.old.share ≡ whole → (was_empty : Bool) × PushesAt 1 handle was_empty party.old party.new }
     {
         self.push_was_empty(rt, party, handle);
     }

@@ -15,16 +15,16 @@ followed_by-row-requires-clause-linked g c = (c.self.invariant.next, c.self.inva
 pub followed_by-row-requires-clause-null_comparable : goal.followed_by-row-requires-clause-null_comparable
 followed_by-row-requires-clause-null_comparable g c = c.self.invariant.comparable
 
-pub led_back-more-requires-clause-linked : goal.led_back-more-requires-clause-linked
-led_back-more-requires-clause-linked g c = let more = c.rest.inside.row.blocks in (more, [], sym (append-nil more), (c.rest.invariant.prev, c.rest.invariant.last, c.rest.invariant.linked))
+pub front_preceded_by-more-requires-clause-linked : goal.front_preceded_by-more-requires-clause-linked
+front_preceded_by-more-requires-clause-linked g c = let more = c.rest.inside.row.blocks in (more, [], sym (append-nil more), (c.rest.invariant.prev, c.rest.invariant.last, c.rest.invariant.linked))
 
-pub led_back-more-requires-clause-null_comparable : goal.led_back-more-requires-clause-null_comparable
-led_back-more-requires-clause-null_comparable g c = c.rest.invariant.comparable
+pub front_preceded_by-more-requires-clause-null_comparable : goal.front_preceded_by-more-requires-clause-null_comparable
+front_preceded_by-more-requires-clause-null_comparable g c = c.rest.invariant.comparable
 
 pub invariant_of-result : goal.invariant_of-result
 invariant_of-result g c =
     let more = c.rest.inside.row.blocks in let h = c.followed_by-row.result.0.ptr in
-    let (m, is, same, (t, f)) = c.led_back-more.ensures more [] (sym (append-nil more)) (c.rest.invariant.prev, c.rest.invariant.last, c.rest.invariant.linked) in
+    let (m, is, same, (t, f)) = c.front_preceded_by-more.ensures more [] (sym (append-nil more)) (c.rest.invariant.prev, c.rest.invariant.last, c.rest.invariant.linked) in
     let all = c.null_comparable.ensures.0 ∙ c.join.ensures ∙ ap (λ s. c.followed_by-row.result.1.blocks ++ s) (is ∙ append-nil m) in
     record {
       comparable = subst (λ ls. AreNullComparable (box_addresses ls)) (sym c.null_comparable.ensures.0) c.null_comparable.ensures.1;
@@ -36,6 +36,6 @@ invariant_of-result g c =
 pub returns : goal.returns
 returns g c =
     let more = c.rest.inside.row.blocks in
-    let (m, is, same, led) = c.led_back-more.ensures more [] (sym (append-nil more)) (c.rest.invariant.prev, c.rest.invariant.last, c.rest.invariant.linked) in
-    ap nodes_of (c.null_comparable.ensures.0 ∙ c.join.ensures) ∙ nodes_of-append c.followed_by-row.result.1.blocks c.led_back-more.result.blocks
+    let (m, is, same, led) = c.front_preceded_by-more.ensures more [] (sym (append-nil more)) (c.rest.invariant.prev, c.rest.invariant.last, c.rest.invariant.linked) in
+    ap nodes_of (c.null_comparable.ensures.0 ∙ c.join.ensures) ∙ nodes_of-append c.followed_by-row.result.1.blocks c.front_preceded_by-more.result.blocks
     ∙ (λ i. (c.followed_by-row.ensures.same ∙ c.self.view_is) i ++ (ap nodes_of (is ∙ append-nil m) ∙ same ∙ c.rest.view_is) i)

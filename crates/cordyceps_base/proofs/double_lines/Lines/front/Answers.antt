@@ -4,33 +4,33 @@ use Rattle.cordyceps_base.proofs.LineReads.{none, read_at, at_line, at_testable,
 use Rattle.cordyceps_base.proofs.LineTables.{table_count}
 use Rattle.cordyceps_base.proofs.double_lines.Lines.front.Goals as goal
 
-pub is_not_null-requires : goal.is_not_null-requires
-is_not_null-requires g c =
+pub is_null-requires : goal.is_null-requires
+is_null-requires g c =
     let i = c.self.inside in let ns = i.row.blocks in let w = c.self.invariant in let h = get_or i.firsts c.args.k none in
     let n = table_count i.firsts i.count ns c.args.self.now w c.self.view_is in let within = c.requires in let long = w.long in let most = w.within in
     let u = at_line (take i.count i.firsts) ns c.args.k h w.lines (read_at i.firsts i.count c.args.k (omega (arith, n, within)) (omega (arith, long, most))) in
     at_testable u
 
-pub returns-then-not-is_not_null : goal.returns-then-not-is_not_null
-returns-then-not-is_not_null g c =
+pub returns-then-is_null : goal.returns-then-is_null
+returns-then-is_null g c =
     let i = c.self.inside in let ns = i.row.blocks in let w = c.self.invariant in let h = get_or i.firsts c.args.k none in
     let n = table_count i.firsts i.count ns c.args.self.now w c.self.view_is in let within = c.requires in let long = w.long in let most = w.within in
     let u = at_line (take i.count i.firsts) ns c.args.k h w.lines (read_at i.firsts i.count c.args.k (omega (arith, n, within)) (omega (arith, long, most))) in
-    (nodes_of u.line, at_shown u c.args.self.now c.self.view_is, at_none u c.if-not-is_not_null.ensures)
+    (nodes_of u.line, at_shown u c.args.self.now c.self.view_is, at_none u c.if-is_null.ensures)
 
 pub get-requires : goal.get-requires
 get-requires g c =
     let i = c.self.inside in let ns = i.row.blocks in let w = c.self.invariant in let h = get_or i.firsts c.args.k none in
     let n = table_count i.firsts i.count ns c.args.self.now w c.self.view_is in let within = c.requires in let long = w.long in let most = w.within in
     let u = at_line (take i.count i.firsts) ns c.args.k h w.lines (read_at i.firsts i.count c.args.k (omega (arith, n, within)) (omega (arith, long, most))) in
-    at_there u (at_some u c.if-not-is_not_null.ensures) c.from_address.result.now.blocks w.lines.distinct c.from_address.ensures
+    at_there u (at_some u c.if-is_null.ensures) c.from_address.result.now.blocks w.lines.distinct c.from_address.ensures
 
 pub returns : goal.returns
 returns g c =
     let i = c.self.inside in let ns = i.row.blocks in let w = c.self.invariant in let h = get_or i.firsts c.args.k none in
     let n = table_count i.firsts i.count ns c.args.self.now w c.self.view_is in let within = c.requires in let long = w.long in let most = w.within in
     let u = at_line (take i.count i.firsts) ns c.args.k h w.lines (read_at i.firsts i.count c.args.k (omega (arith, n, within)) (omega (arith, long, most))) in
-    (nodes_of u.line, at_shown u c.args.self.now c.self.view_is, at_value u (at_some u c.if-not-is_not_null.ensures) c.from_address.result.now.blocks c.get.result.now w.lines.distinct c.from_address.ensures c.get.ensures)
+    (nodes_of u.line, at_shown u c.args.self.now c.self.view_is, at_value u (at_some u c.if-is_null.ensures) c.from_address.result.now.blocks c.get.result.now w.lines.distinct c.from_address.ensures c.get.ensures)
 
 pub bounds-self-inside-k : goal.bounds-self-inside-k
 bounds-self-inside-k g c =

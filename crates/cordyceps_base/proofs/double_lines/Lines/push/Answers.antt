@@ -9,11 +9,11 @@ use Rattle.cordyceps_base.proofs.double_lines.Lines.push.Goals as goal
 takes_space : (x y s : ℕ) → 0 < 24 + x + s + y
 takes_space x y s = omega arith
 
-pub led_back-more-requires-clause-linked : goal.led_back-more-requires-clause-linked
-led_back-more-requires-clause-linked g c = let m = c.line.inside.row.blocks in let l = c.line.invariant in (m, [], sym (append-nil m), (l.prev, l.last, l.linked))
+pub front_preceded_by-more-requires-clause-linked : goal.front_preceded_by-more-requires-clause-linked
+front_preceded_by-more-requires-clause-linked g c = let m = c.line.inside.row.blocks in let l = c.line.invariant in (m, [], sym (append-nil m), (l.prev, l.last, l.linked))
 
-pub led_back-more-requires-clause-null_comparable : goal.led_back-more-requires-clause-null_comparable
-led_back-more-requires-clause-null_comparable g c = c.line.invariant.comparable
+pub front_preceded_by-more-requires-clause-null_comparable : goal.front_preceded_by-more-requires-clause-null_comparable
+front_preceded_by-more-requires-clause-null_comparable g c = c.line.invariant.comparable
 
 pub bounds-self-inside-self-inside : goal.bounds-self-inside-self-inside
 bounds-self-inside-self-inside g c =
@@ -24,7 +24,7 @@ pub invariant_of-self : goal.invariant_of-self
 invariant_of-self g c =
     let i = c.self.inside in let l = c.line.invariant in let more = c.line.inside.row.blocks in
     let n = table_count i.firsts i.count i.row.blocks c.args.self.now c.self.invariant c.self.view_is in let asked = c.requires in
-    let (m, is, same, (t, led)) = c.led_back-more.ensures more [] (sym (append-nil more)) (l.prev, l.last, l.linked) in
+    let (m, is, same, (t, led)) = c.front_preceded_by-more.ensures more [] (sym (append-nil more)) (l.prev, l.last, l.linked) in
     let first = c.line.inside.first in
     table_with i.firsts i.count i.row.blocks m c.put_back.new.row.blocks first c.self.invariant (t, subst (λ p. Segment p first.ptr m t _) c.null.ensures led) (omega (arith, n, asked))
     (c.put_back.ensures ∙ c.null_comparable.ensures.0 ∙ c.distinct.ensures.0 ∙ c.join-row.ensures ∙ (λ j. c.taken.ensures.0 j ++ (is ∙ append-nil m) j))
@@ -35,7 +35,7 @@ pub returns : goal.returns
 returns g c =
     let i = c.self.inside in let l = c.line.invariant in let more = c.line.inside.row.blocks in
     let n = table_count i.firsts i.count i.row.blocks c.args.self.now c.self.invariant c.self.view_is in let asked = c.requires in
-    let (m, is, same, (t, led)) = c.led_back-more.ensures more [] (sym (append-nil more)) (l.prev, l.last, l.linked) in
+    let (m, is, same, (t, led)) = c.front_preceded_by-more.ensures more [] (sym (append-nil more)) (l.prev, l.last, l.linked) in
     let first = c.line.inside.first in
     table_with_shown i.firsts i.count i.row.blocks m c.put_back.new.row.blocks first c.args.self.now c.args.line c.self.invariant (t, subst (λ p. Segment p first.ptr m t _) c.null.ensures led) (omega (arith, n, asked))
     (c.put_back.ensures ∙ c.null_comparable.ensures.0 ∙ c.distinct.ensures.0 ∙ c.join-row.ensures ∙ (λ j. c.taken.ensures.0 j ++ (is ∙ append-nil m) j))

@@ -24,22 +24,22 @@ get-requires-2 g c =
     let u = at_spot (take i.count i.firsts) i.row.blocks c.args.self.now c.args.at.ptr c.self.invariant.lines c.self.view_is c.requires in
     spot_there u c.cut_at-front.result.0.blocks c.cut_at-front.result.1.blocks (cut_of _ _ _ _ _ c.taken.ensures.0 c.cut_at-front.ensures)
 
-pub is_not_null-requires : goal.is_not_null-requires
-is_not_null-requires g c =
+pub is_null-requires : goal.is_null-requires
+is_null-requires g c =
     let i = c.self.inside in
     let u = at_spot (take i.count i.firsts) i.row.blocks c.args.self.now c.args.at.ptr c.self.invariant.lines c.self.view_is c.requires in
     prev_testable u c.get-2.result.now (spot_read u c.cut_at-front.result.0.blocks c.cut_at-front.result.1.blocks c.get-2.result.now (cut_of _ _ _ _ _ c.taken.ensures.0 c.cut_at-front.ensures) c.get-2.ensures)
 
-pub led_on-front-requires : goal.led_on-front-requires
-led_on-front-requires g c =
+pub end_followed_by-front-requires : goal.end_followed_by-front-requires
+end_followed_by-front-requires g c =
     let i = c.self.inside in
     let u = at_spot (take i.count i.firsts) i.row.blocks c.args.self.now c.args.at.ptr c.self.invariant.lines c.self.view_is c.requires in
     let cut = spot_cut u c.cut_at-front.result.0.blocks c.cut_at-front.result.1.blocks (cut_of _ _ _ _ _ c.taken.ensures.0 c.cut_at-front.ensures) in
     let b = c.get-2.result.now in let same = spot_read u c.cut_at-front.result.0.blocks c.cut_at-front.result.1.blocks b (cut_of _ _ _ _ _ c.taken.ensures.0 c.cut_at-front.ensures) c.get-2.ensures in
-    (flat u.before, u.front, cut.0, later_there u b same c.if-not-is_not_null.ensures, front_led u b same)
+    (flat u.before, u.front, cut.0, later_there u b same c.if-is_null.ensures, front_led u b same)
 
-pub led_back-rest-requires-clause-linked : goal.led_back-rest-requires-clause-linked
-led_back-rest-requires-clause-linked g c =
+pub front_preceded_by-rest-requires-clause-linked : goal.front_preceded_by-rest-requires-clause-linked
+front_preceded_by-rest-requires-clause-linked g c =
     let i = c.self.inside in
     let u = at_spot (take i.count i.firsts) i.row.blocks c.args.self.now c.args.at.ptr c.self.invariant.lines c.self.view_is c.requires in
     let cut = spot_cut u c.cut_at-front.result.0.blocks c.cut_at-front.result.1.blocks (cut_of _ _ _ _ _ c.taken.ensures.0 c.cut_at-front.ensures) in
@@ -64,7 +64,7 @@ number_of-k-requires-clause-first g c =
     let i = c.self.inside in
     let u = at_spot (take i.count i.firsts) i.row.blocks c.args.self.now c.args.at.ptr c.self.invariant.lines c.self.view_is c.requires in
     let b = c.get-2.result.now in let same = spot_read u c.cut_at-front.result.0.blocks c.cut_at-front.result.1.blocks b (cut_of _ _ _ _ _ c.taken.ensures.0 c.cut_at-front.ensures) c.get-2.ensures in
-    spot_begins u c.join.result.blocks (spot_joined u c.cut_at-front.result.0.blocks c.cut_at-front.result.1.blocks c.join.result.blocks (cut_of _ _ _ _ _ c.taken.ensures.0 c.cut_at-front.ensures) c.join.ensures) (first_there u b same c.if-not-is_not_null.ensures)
+    spot_begins u c.join.result.blocks (spot_joined u c.cut_at-front.result.0.blocks c.cut_at-front.result.1.blocks c.join.result.blocks (cut_of _ _ _ _ _ c.taken.ensures.0 c.cut_at-front.ensures) c.join.ensures) (first_there u b same c.if-is_null.ensures)
 
 pub invariant_of-self : goal.invariant_of-self
 invariant_of-self g c =
@@ -89,8 +89,8 @@ take_first-requires-clause-some g c =
     let f = at_some u (subst InBlock (sym at) (spot_in_block v)) in
     ((f.node.0, block_element (block_of f.node)), nodes_of f.rest, at_shown u (lines_in hs (nodes_of row)) refl ∙ ap (λ l. Some (nodes_of l)) f.parts)
 
-pub returns-then-not-is_not_null : goal.returns-then-not-is_not_null
-returns-then-not-is_not_null g c =
+pub returns-then-is_null : goal.returns-then-is_null
+returns-then-is_null g c =
     let i = c.self.inside in let row = c.put_back.new.row.blocks in let hs = take i.count i.firsts in let k = c.number_of-k.result.0 in
     let v = at_spot hs i.row.blocks c.args.self.now c.args.at.ptr c.self.invariant.lines c.self.view_is c.requires in
     let is = c.put_back.ensures ∙ c.number_of-k.ensures.same ∙ spot_joined v c.cut_at-front.result.0.blocks c.cut_at-front.result.1.blocks c.join.result.blocks (cut_of _ _ _ _ _ c.taken.ensures.0 c.cut_at-front.ensures) c.join.ensures in
@@ -110,8 +110,8 @@ invariant_of-self-2 g c =
     let cut = spot_cut u c.cut_at-front.result.0.blocks c.cut_at-front.result.1.blocks (cut_of _ _ _ _ _ c.taken.ensures.0 c.cut_at-front.ensures) in
     let b = c.get.result.now in let same = spot_read u c.cut_at-front.result.0.blocks c.cut_at-front.result.1.blocks b (cut_of _ _ _ _ _ c.taken.ensures.0 c.cut_at-front.ensures) c.get.ensures in
     let o = c.get-2.result.now in let same' = spot_read u c.cut_at-front.result.0.blocks c.cut_at-front.result.1.blocks o (cut_of _ _ _ _ _ c.taken.ensures.0 c.cut_at-front.ensures) c.get-2.ensures in
-    let (l, is_l, shown_l, first) = c.led_on-front.ensures (flat u.before) u.front _ _ _ cut.0 (later_there u o same' c.if-not-is_not_null.ensures) (front_is_led u o same') in
-    let (r, is_r, shown_r, second) = c.led_back-rest.ensures u.back (flat u.after) (c.null_comparable.ensures.0 ∙ c.cut-one.ensures.1 ∙ ap (drop 1) cut.1) (back_led u b same) in record {
+    let (l, is_l, shown_l, first) = c.end_followed_by-front.ensures (flat u.before) u.front _ _ _ cut.0 (later_there u o same' c.if-is_null.ensures) (front_is_led u o same') in
+    let (r, is_r, shown_r, second) = c.front_preceded_by-rest.ensures u.back (flat u.after) (c.null_comparable.ensures.0 ∙ c.cut-one.ensures.1 ∙ ap (drop 1) cut.1) (back_led u b same) in record {
       long = c.self.invariant.long;
       within = c.self.invariant.within;
       lines = left_lines u c.put_back-2.new.row.blocks l r o.links.prev.ptr b.links.next.ptr
@@ -127,8 +127,8 @@ returns g c =
     let cut = spot_cut u c.cut_at-front.result.0.blocks c.cut_at-front.result.1.blocks (cut_of _ _ _ _ _ c.taken.ensures.0 c.cut_at-front.ensures) in
     let b = c.get.result.now in let same = spot_read u c.cut_at-front.result.0.blocks c.cut_at-front.result.1.blocks b (cut_of _ _ _ _ _ c.taken.ensures.0 c.cut_at-front.ensures) c.get.ensures in
     let o = c.get-2.result.now in let same' = spot_read u c.cut_at-front.result.0.blocks c.cut_at-front.result.1.blocks o (cut_of _ _ _ _ _ c.taken.ensures.0 c.cut_at-front.ensures) c.get-2.ensures in
-    let (l, is_l, shown_l, first) = c.led_on-front.ensures (flat u.before) u.front _ _ _ cut.0 (later_there u o same' c.if-not-is_not_null.ensures) (front_is_led u o same') in
-    let (r, is_r, shown_r, second) = c.led_back-rest.ensures u.back (flat u.after) (c.null_comparable.ensures.0 ∙ c.cut-one.ensures.1 ∙ ap (drop 1) cut.1) (back_led u b same) in (
+    let (l, is_l, shown_l, first) = c.end_followed_by-front.ensures (flat u.before) u.front _ _ _ cut.0 (later_there u o same' c.if-is_null.ensures) (front_is_led u o same') in
+    let (r, is_r, shown_r, second) = c.front_preceded_by-rest.ensures u.back (flat u.after) (c.null_comparable.ensures.0 ∙ c.cut-one.ensures.1 ∙ ap (drop 1) cut.1) (back_led u b same) in (
       block_element (block_of u.node),
       c.alone.ensures ∙ ap nodes_of (c.cut-one.ensures.0 ∙ ap (take 1) cut.1 ∙ (λ j. (u.at j, u.node.1, block_of u.node) ∷ [])),
       left_shown u c.put_back-2.new.row.blocks l r o.links.prev.ptr b.links.next.ptr

@@ -20,8 +20,8 @@ get-requires g c =
     let (x, l, there) = c.requires.some in let f = at_node u c.args.self.now x l c.self.view_is there in
     at_there u f c.cut_at-front.result.1.blocks w.lines.distinct (cut_of _ _ _ _ _ c.taken.ensures.0 c.cut_at-front.ensures).1
 
-pub led_back-rest-requires-clause-linked : goal.led_back-rest-requires-clause-linked
-led_back-rest-requires-clause-linked g c =
+pub front_preceded_by-rest-requires-clause-linked : goal.front_preceded_by-rest-requires-clause-linked
+front_preceded_by-rest-requires-clause-linked g c =
     let i = c.self.inside in let ns = i.row.blocks in let w = c.self.invariant in let h = get_or i.firsts c.args.k none in
     let n = table_count i.firsts i.count ns c.args.self.now w c.self.view_is in let within = c.requires.within in let long = w.long in let most = w.within in
     let u = at_line (take i.count i.firsts) ns c.args.k h w.lines (read_at i.firsts i.count c.args.k (omega (arith, n, within)) (omega (arith, long, most))) in
@@ -46,7 +46,7 @@ invariant_of-self g c =
     let (x, l, there) = c.requires.some in let f = at_node u c.args.self.now x l c.self.view_is there in
     let cut = at_cut u f c.cut_at-front.result.0.blocks c.cut_at-front.result.1.blocks w.lines.distinct (cut_of _ _ _ _ _ c.taken.ensures.0 c.cut_at-front.ensures) in
     let next = c.get.result.now.links.next in
-    let (m, is, same, (t, led)) = c.led_back-rest.ensures f.rest (flat u.after) (c.null_comparable.ensures.0 ∙ out_rest i.firsts i.count u f c.cut_at-front.result.1.blocks c.cut-one.result.1.blocks cut.1 c.cut-one.ensures.1)
+    let (m, is, same, (t, led)) = c.front_preceded_by-rest.ensures f.rest (flat u.after) (c.null_comparable.ensures.0 ∙ out_rest i.firsts i.count u f c.cut_at-front.result.1.blocks c.cut-one.result.1.blocks cut.1 c.cut-one.ensures.1)
     (out_led i.firsts i.count u f c.get.result.now (at_read u f c.cut_at-front.result.1.blocks c.get.result.now w.lines.distinct (cut_of _ _ _ _ _ c.taken.ensures.0 c.cut_at-front.ensures).1 c.get.ensures)) in record {
       long = set_long i.firsts c.args.k next ∙ long;
       within = most;
@@ -64,7 +64,7 @@ returns g c =
     let (x, l, there) = c.requires.some in let f = at_node u c.args.self.now x l c.self.view_is there in
     let cut = at_cut u f c.cut_at-front.result.0.blocks c.cut_at-front.result.1.blocks w.lines.distinct (cut_of _ _ _ _ _ c.taken.ensures.0 c.cut_at-front.ensures) in
     let next = c.get.result.now.links.next in
-    let (m, is, same, (t, led)) = c.led_back-rest.ensures f.rest (flat u.after) (c.null_comparable.ensures.0 ∙ out_rest i.firsts i.count u f c.cut_at-front.result.1.blocks c.cut-one.result.1.blocks cut.1 c.cut-one.ensures.1)
+    let (m, is, same, (t, led)) = c.front_preceded_by-rest.ensures f.rest (flat u.after) (c.null_comparable.ensures.0 ∙ out_rest i.firsts i.count u f c.cut_at-front.result.1.blocks c.cut-one.result.1.blocks cut.1 c.cut-one.ensures.1)
     (out_led i.firsts i.count u f c.get.result.now (at_read u f c.cut_at-front.result.1.blocks c.get.result.now w.lines.distinct (cut_of _ _ _ _ _ c.taken.ensures.0 c.cut_at-front.ensures).1 c.get.ensures)) in (
       h.ptr,
       block_element (block_of f.node),

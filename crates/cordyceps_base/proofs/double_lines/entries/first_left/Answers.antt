@@ -2,11 +2,11 @@ use Rattle.std.proofs.Common.{arith}
 use Rattle.cordyceps_base.proofs.LineWalks.{left_testable, line_left, none_left}
 use Rattle.cordyceps_base.proofs.double_lines.entries.first_left.Goals as goal
 
-pub is_not_null-requires : goal.is_not_null-requires
-is_not_null-requires g c = left_testable c.loop-line.invariant
+pub is_null-requires : goal.is_null-requires
+is_null-requires g c = left_testable c.loop-line.invariant
 
 pub loop-line-preserved : goal.loop-line-preserved
-loop-line-preserved g c = line_left c.loop-line.invariant c.if-not-is_not_null.ensures c.loop-line-test.true
+loop-line-preserved g c = line_left c.loop-line.invariant c.if-is_null.ensures c.loop-line-test.true
 
 pub returns-after-loop-line-clause-none : goal.returns-after-loop-line-clause-none
 returns-after-loop-line-clause-none g c = λ null.

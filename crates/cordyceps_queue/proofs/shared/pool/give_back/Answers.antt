@@ -11,7 +11,7 @@ use Rattle.cordyceps_queue.proofs.shared.pool.give_back.Goals as goal
 pub pack-requires : goal.pack-requires
 pack-requires g c =
     let m = c.args.seat.now.me in
-    let e = c.is_empty-has_none.ensures in
+    let e = c.look_at_pool-has_none.ensures in
     let view = ap (λ q. q.0) e.gathered in
     let t = c.requires.rooms in
     let (_, _, few) = c.requires.table.1 in
@@ -20,13 +20,13 @@ pack-requires g c =
 
 pub put-requires-clause-bare : goal.put-requires-clause-bare
 put-requires-clause-bare g c =
-    let same = c.pass-after.ensures.seat.1 ∙ c.is_empty-has_none.ensures.gathered in
+    let same = c.pass-after.ensures.seat.1 ∙ c.look_at_pool-has_none.ensures.gathered in
     (ap (λ q. q.0.back) same, λ none. c.requires.hand.named (sym (ap (λ q. q.0.known.share) same) ∙ none))
 
 pub put-requires-clause-packs : goal.put-requires-clause-packs
 put-requires-clause-packs g c =
     let m = c.args.seat.now.me in
-    let e = c.is_empty-has_none.ensures in
+    let e = c.look_at_pool-has_none.ensures in
     let view = ap (λ q. q.0) e.gathered in
     let same = c.pass-after.ensures.seat.1 ∙ e.gathered in
     let t = c.requires.rooms in
@@ -42,7 +42,7 @@ returns-clause-tracks g c =
     let m = c.args.seat.now.me in
     let n = c.args.rooms in
     let spare = c.args.spare.now in
-    let e = c.is_empty-has_none.ensures in
+    let e = c.look_at_pool-has_none.ensures in
     let view = ap (λ q. q.0) e.gathered in
     let same = c.pass-after.ensures.seat.1 ∙ e.gathered in
     let left : Spare = record { rooms = record { first = c.pass-after.result.0; last = spare.rooms.last; count = spare.rooms.count - n }; end = spare.end } in

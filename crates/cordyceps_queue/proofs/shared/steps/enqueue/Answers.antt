@@ -11,12 +11,12 @@ use Rattle.cordyceps_queue.proofs.shared.steps.enqueue.Goals as goal
 pub overflow_sub-room : goal.overflow_sub-room
 overflow_sub-room g c = let (_, _, some_of) = first_room c.args.spare.now.rooms (free_chain c.args.seat.now.me.0) c.requires.rooms.0.tracks c.requires.rooms.1 in search rules
 
-pub clear-next-requires-clause-room : goal.clear-next-requires-clause-room
-clear-next-requires-clause-room g c = let f = first_room c.args.spare.now.rooms (free_chain c.args.seat.now.me.0) c.requires.rooms.0.tracks c.requires.rooms.1 in (f.0, f.1)
+pub begin-next-requires-clause-room : goal.begin-next-requires-clause-room
+begin-next-requires-clause-room g c = let f = first_room c.args.spare.now.rooms (free_chain c.args.seat.now.me.0) c.requires.rooms.0.tracks c.requires.rooms.1 in (f.0, f.1)
 
 pub returns-clause-rest : goal.returns-clause-rest
 returns-clause-rest g c =
-    let cleared = c.clear-next.ensures.cleared in
+    let begun = c.begin-next.ensures.begun in
     let swapped = c.swap_in-old.ensures.swapped in
     let free = c.link.ensures.free.0 ∙ swapped.free in
     let q = c.requires.rest in
@@ -24,29 +24,29 @@ returns-clause-rest g c =
       stage = stage;
       back = back;
       hand = hand;
-      named = λ e. q.named (sym (c.link.ensures.sees.share ∙ (swapped.sees.share ∙ cleared.sees.share)) ∙ e);
+      named = λ e. q.named (sym (c.link.ensures.sees.share ∙ (swapped.sees.share ∙ begun.sees.share)) ∙ e);
       near = λ i r ir.
-          q.near (suc i) r (subst (λ l. ItemAt l (suc i) r) (sym cleared.free) (subst (λ l. ItemAt l i r) free ir));
+          q.near (suc i) r (subst (λ l. ItemAt l (suc i) r) (sym begun.free) (subst (λ l. ItemAt l i r) free ir));
     }
 
 pub returns-clause-tracks : goal.returns-clause-tracks
 returns-clause-tracks g c =
-    let cleared = c.clear-next.ensures.cleared in
+    let begun = c.begin-next.ensures.begun in
     let swapped = c.swap_in-old.ensures.swapped in
     let free = c.link.ensures.free.0 ∙ swapped.free in
     let end = c.link.ensures.free.1 ∙ swapped.end in
     subst (TracksEnd _) (λ i. let chain : FreeChain = record { rooms = sym free i; end = sym end i } in chain)
-    (tracks_after c.args.spare.now (free_chain c.args.seat.now.me.0) (free_chain c.clear-next.new.seat.me.0) _ c.clear-next.result.0 cleared.free (sym cleared.end) cleared.next_is c.requires.rooms.0)
+    (tracks_after c.args.spare.now (free_chain c.args.seat.now.me.0) (free_chain c.begin-next.new.seat.me.0) _ c.begin-next.result.0 begun.free (sym begun.end) begun.next_is c.requires.rooms.0)
 
 pub returns-clause-free : goal.returns-clause-free
 returns-clause-free g c =
-    let cleared = c.clear-next.ensures.cleared in
+    let begun = c.begin-next.ensures.begun in
     let swapped = c.swap_in-old.ensures.swapped in
     let free = c.link.ensures.free.0 ∙ swapped.free in
-    ap length cleared.free ∙ ap (λ l. suc (length l)) (sym free)
+    ap length begun.free ∙ ap (λ l. suc (length l)) (sym free)
 
 pub returns-clause-sees : goal.returns-clause-sees
 returns-clause-sees g c =
-    let cleared = c.clear-next.ensures.cleared in
+    let begun = c.begin-next.ensures.begun in
     let swapped = c.swap_in-old.ensures.swapped in
-    enqueued c.args.seat.now.me.0 c.clear-next.new.seat.me.0 c.clear-next.new.seat.me.0 c.swap_in-old.new.seat.me.0 c.link.new.seat.me.0 c.args.item cleared.sees refl swapped.sees c.link.ensures.sees
+    enqueued c.args.seat.now.me.0 c.begin-next.new.seat.me.0 c.begin-next.new.seat.me.0 c.swap_in-old.new.seat.me.0 c.link.new.seat.me.0 c.args.item begun.sees refl swapped.sees c.link.ensures.sees

@@ -1,4 +1,4 @@
-use Rattle.std.proofs.Common.{◌≡◌, ◌+◌, ◌*◌, suc, sym, ◌∙◌, subst, arith, rules}
+use Rattle.std.proofs.Common.{◌≡◌, ◌+◌, ◌*◌, suc, sym, ap, ◌∙◌, subst, rules}
 use Rattle.cordyceps_queue.specs.Shared.View.{bit_of}
 use Rattle.cordyceps_shared.specs.Places.{ItemAt}
 use Rattle.cordyceps_queue.proofs.SharedTheory.WordsAsMachine.{at_after}
@@ -6,20 +6,11 @@ use Rattle.cordyceps_queue.proofs.SharedTheory.UsesWrite.{gives_back}
 use Rattle.cordyceps_queue.proofs.SharedTheory.StepTells.{told}
 use Rattle.cordyceps_queue.proofs.shared.steps.give.Goals as goal
 
-pub overflow_add-pointer : goal.overflow_add-pointer
-overflow_add-pointer g c =
-    let q = c.requires.holding.right in
-    let near = q.inside in
-    let t = c.requires.table in
-    let p = c.pointer.ensures in
-    let b = c.requires.knows.1 in search rules
-
 pub store-requires : goal.store-requires
 store-requires g c =
     let q = c.requires.holding.right in
-    let p = c.pointer.ensures in
-    let k = c.requires.knows.0 in
-    let n : c.pointer.result + 2 ≡ 2 * suc c.args.tail.room + bit_of c.args.seat.now.me.0.bits c.args.tail.room = omega arith in
+    let n : c.free_right.result ≡ 2 * suc c.args.tail.room + bit_of c.args.seat.now.me.0.bits c.args.tail.room =
+    c.free_right.ensures ∙ ap (λ b. 2 * suc c.args.tail.room + b) (sym c.requires.knows.0) in
     let near = q.inside in
     let t = c.requires.table in (
       search rules,

@@ -24,8 +24,8 @@ pub returns-clause-swapped : goal.returns-clause-swapped
 returns-clause-swapped g c =
     let x = seat_after c.exchange.ensures in
     let cs = rest c.args.seat.now.me.1 in
-    let (cleared, chosen, bare) = c.requires.stage in
-    let ready = ap (λ m. m.0.stage) x ∙ cleared in
+    let (begun, chosen, bare) = c.requires.stage in
+    let ready = ap (λ m. m.0.stage) x ∙ begun in
     let item = ap (λ m. m.0.item) x ∙ chosen in
     let f = finds_use c.swap.new.seat.me c.swap.result c.pointed.result _ (told c.swap.ensures).1 c.pointed.ensures in
     let s = f.1 c.args.to.room c.args.item cs ready item (ap (λ m. m.1) x) in record {

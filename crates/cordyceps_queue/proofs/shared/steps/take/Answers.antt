@@ -5,7 +5,7 @@ use Rattle.cordyceps_shared.specs.declared.layout.TheConstants.{RIGHT}
 use Rattle.cordyceps_queue.specs.Shared.Bits.{IsBit}
 use Rattle.cordyceps_queue.specs.Shared.Parts.{AsksRight}
 use Rattle.cordyceps_queue.specs.Shared.Plays.{carry}
-use Rattle.cordyceps_queue.proofs.SharedTheory.UsesWrite.{asks_right}
+use Rattle.cordyceps_queue.proofs.SharedTheory.UsesWrite.{asks_right, match_map}
 use Rattle.cordyceps_queue.proofs.SharedTheory.PartsJoin.{takes_by, none_near, may_join}
 use Rattle.cordyceps_queue.proofs.SharedTheory.StepTells.{told}
 use Rattle.cordyceps_queue.proofs.shared.steps.take.Goals as goal
@@ -22,13 +22,11 @@ swap-requires g c =
 
 pub returns-clause-took : goal.returns-clause-took
 returns-clause-took g c =
+    let slots = c.args.words.now.table_id.slots in
     let u = told c.swap.ensures in
-    let e = c.pointed.ensures u.right u.bit u.found_is u.is_bit in
-    subst (λ n. AsksRight c.args.words.now.table_id.slots n c.args.seat.now.me c.swap.new.seat.me) (sym e.0)
-    (takes_by (step c.args.words.now.table_id.slots RIGHT 0 0 none) _ _ c.requires.rest _ u.told)
-
-pub returns-clause-knows : goal.returns-clause-knows
-returns-clause-knows g c t is =
-    let u = told c.swap.ensures in
-    let e = c.pointed.ensures u.right u.bit u.found_is u.is_bit in
-    (u.knows t (sym e.0 ∙ is) ∙ sym e.1, subst IsBit (sym e.1) u.is_bit)
+    let asks = takes_by (step slots RIGHT 0 0 none) _ _ c.requires.rest _ u.told in
+    let found : ℕ → Type 0 = λ n. AsksRight slots n c.args.seat.now.me c.swap.new.seat.me in
+    match_map c.free_tail.result
+    (λ held. subst found held asks)
+    (λ t e. (subst found e.0 asks, (u.knows t.room e.0 ∙ sym e.1, subst IsBit (sym e.1) u.is_bit)))
+    (c.free_tail.ensures u.right u.bit u.found_is u.is_bit)

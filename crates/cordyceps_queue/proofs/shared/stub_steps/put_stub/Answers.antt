@@ -7,14 +7,14 @@ pub swap_stub-old-requires-clause-stage : goal.swap_stub-old-requires-clause-sta
 swap_stub-old-requires-clause-stage g c =
     let q = c.requires.stage in
     at_stage c.args.words.now.table_id.slots [] (PutSwap c.args.tail.room) c.args.seat.now.me
-    c.clear_stub-stub.new.seat.me q.named (stage_near _ _ c.args.seat.now.me q) c.clear_stub-stub.ensures.answer
+    c.begin_stub-stub.new.seat.me q.named (stage_near _ _ c.args.seat.now.me q) c.begin_stub-stub.ensures.answer
 
 pub link_stub-requires-clause-stage : goal.link_stub-requires-clause-stage
 link_stub-requires-clause-stage g c =
     let q = c.requires.stage in
-    let cleared = c.clear_stub-stub.ensures.answer in
+    let begun = c.begin_stub-stub.ensures.answer in
     let swapped = moves_in_turn [] [] (PutSwap c.args.tail.room) (PutLink c.args.tail.room c.swap_stub-old.result.room)
-    c.args.seat.now.me c.clear_stub-stub.new.seat.me c.swap_stub-old.new.seat.me cleared
+    c.args.seat.now.me c.begin_stub-stub.new.seat.me c.swap_stub-old.new.seat.me begun
     c.swap_stub-old.ensures.answer in (
       at_stage c.args.words.now.table_id.slots [] (PutLink c.args.tail.room c.swap_stub-old.result.room)
           c.args.seat.now.me c.swap_stub-old.new.seat.me q.named (stage_near _ _ c.args.seat.now.me q) swapped,
@@ -23,6 +23,6 @@ link_stub-requires-clause-stage g c =
 
 pub returns-clause-answer : goal.returns-clause-answer
 returns-clause-answer g c =
-    let cleared = c.clear_stub-stub.ensures.answer in
-    let swapped = moves_in_turn [] [] (PutSwap c.args.tail.room) (PutLink c.args.tail.room c.swap_stub-old.result.room) c.args.seat.now.me c.clear_stub-stub.new.seat.me c.swap_stub-old.new.seat.me cleared c.swap_stub-old.ensures.answer in
+    let begun = c.begin_stub-stub.ensures.answer in
+    let swapped = moves_in_turn [] [] (PutSwap c.args.tail.room) (PutLink c.args.tail.room c.swap_stub-old.result.room) c.args.seat.now.me c.begin_stub-stub.new.seat.me c.swap_stub-old.new.seat.me begun c.swap_stub-old.ensures.answer in
     moves_in_turn [] [] (PutLink c.args.tail.room c.swap_stub-old.result.room) (PutRead c.args.tail.room) c.args.seat.now.me c.swap_stub-old.new.seat.me c.link_stub.new.seat.me swapped c.link_stub.ensures.answer

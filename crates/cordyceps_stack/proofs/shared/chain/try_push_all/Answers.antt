@@ -17,7 +17,7 @@ pub returns-in-Some-attempt-clause-answer : goal.returns-in-Some-attempt-clause-
 returns-in-Some-attempt-clause-answer g c =
     let (before, x, has, all_are) = c.fill-last.ensures.filled in
     let s = c.in-Some-attempt.ensures.answer before x has.ready in
-    let all = pushed_all c.args.words.now.table_id.slots c.args.free.now.first 1 c.fill-last.result before x c.in-Some-attempt.none c.args.seat.now.me c.fill-last.new.seat.me c.attempt.new.seat.me has s in
+    let all = pushed_all c.args.words.now.table_id.slots c.args.free.now.first 1 c.fill-last.result before x c.in-Some-attempt.was_empty c.args.seat.now.me c.fill-last.new.seat.me c.attempt.new.seat.me has s in
     (elements_then before x, c.in-Some.ensures ∙ all_are, all)
 
 pub relink-requires-clause-filled : goal.relink-requires-clause-filled

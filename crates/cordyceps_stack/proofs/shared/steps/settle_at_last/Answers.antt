@@ -5,7 +5,7 @@ use Rattle.cordyceps_stack.proofs.shared.steps.settle_at_last.Goals as goal
 pub returns-in-Some-attempt-clause-answer : goal.returns-in-Some-attempt-clause-answer
 returns-in-Some-attempt-clause-answer g c x ready =
     let i = c.loop.invariant in
-    settles_at c.args.words.now.table_id.slots x c.in-Some-attempt.first c.args.seat.now.me c.loop.seat.me c.attempt.new.seat.me i.tried i.free (c.in-Some-attempt.ensures.answer x (i.ready x ready))
+    settles_at c.args.words.now.table_id.slots x c.in-Some-attempt.was_empty c.args.seat.now.me c.loop.seat.me c.attempt.new.seat.me i.tried i.free (c.in-Some-attempt.ensures.answer x (i.ready x ready))
 
 pub loop-preserved : goal.loop-preserved
 loop-preserved g c =

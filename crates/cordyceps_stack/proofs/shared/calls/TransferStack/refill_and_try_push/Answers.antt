@@ -7,7 +7,7 @@ use Rattle.cordyceps_stack.proofs.shared.calls.TransferStack.refill_and_try_push
 pub returns-in-Ok-clause-answer : goal.returns-in-Ok-clause-answer
 returns-in-Ok-clause-answer g c =
     let handle = c.args.handle in
-    let first = c.in-Ok.first in
+    let first = c.in-Ok.was_empty in
     let old = c.args.party.now in
     let now = c.try_push.new.party in
     elim c.else-rooms-eq0.branch [

@@ -4,7 +4,7 @@ use Rattle.cordyceps_queue.specs.Shared.View.{View}
 use Rattle.cordyceps_queue.proofs.SharedTheory.PoolJoins.{near_back}
 use Rattle.cordyceps_queue.proofs.SharedTheory.PoolKeeps.{glances}
 use Rattle.cordyceps_queue.proofs.SharedTheory.StepTells.{told}
-use Rattle.cordyceps_queue.proofs.shared.pool.is_empty.Goals as goal
+use Rattle.cordyceps_queue.proofs.shared.pool.look_at_pool.Goals as goal
 
 pub load-requires : goal.load-requires
 load-requires g c =

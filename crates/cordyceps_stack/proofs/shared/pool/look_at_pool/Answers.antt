@@ -2,7 +2,7 @@ use Rattle.std.proofs.Common.{rules}
 use Rattle.std.proofs.lemmas.Bool.{eqb-false}
 use Rattle.cordyceps_stack.proofs.SharedTheory.PoolKeeps.{glances}
 use Rattle.cordyceps_stack.proofs.SharedTheory.StepTells.{told}
-use Rattle.cordyceps_stack.proofs.shared.pool.is_empty.Goals as goal
+use Rattle.cordyceps_stack.proofs.shared.pool.look_at_pool.Goals as goal
 
 pub load-requires : goal.load-requires
 load-requires g c = (search rules, search rules, glances _ _ _ c.requires.rest.idle c.requires.rest.named)

@@ -1,5 +1,5 @@
 use Rattle.cordyceps_base.proofs.LineEnds.{on_there, led_to}
-use Rattle.cordyceps_base.proofs.double_lines.led_on.Goals as goal
+use Rattle.cordyceps_base.proofs.double_lines.end_followed_by.Goals as goal
 
 pub get_mut-requires : goal.get_mut-requires
 get_mut-requires g c =

@@ -3,7 +3,7 @@ use Rattle.cordyceps_queue.specs.Shared.Bits.{Knows}
 use Rattle.cordyceps_queue.proofs.SharedTheory.PartsJoin.{stage_hand, none_near, may_join}
 use Rattle.cordyceps_queue.proofs.SharedTheory.UsesWrite.{stub_begins, still_has}
 use Rattle.cordyceps_queue.proofs.SharedTheory.StepTells.{told}
-use Rattle.cordyceps_queue.proofs.shared.stub_steps.clear_stub.Goals as goal
+use Rattle.cordyceps_queue.proofs.shared.stub_steps.begin_stub.Goals as goal
 
 pub load-requires : goal.load-requires
 load-requires g c =

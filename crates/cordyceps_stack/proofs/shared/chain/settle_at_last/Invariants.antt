@@ -1,7 +1,7 @@
 use Rattle.std.proofs.Common.{◌≡◌, ℕ, List}
 use Rattle.cordyceps_stack.specs.Shared.Plays.{IsReadyAll}
 use Rattle.cordyceps_stack.proofs.SharedTheory.PartsJoin.{Tried}
-use Rattle.cordyceps_stack.proofs.shared.chain.settle.Given as goal
+use Rattle.cordyceps_stack.proofs.shared.chain.settle_at_last.Given as goal
 
 abbrev pub invariant-loop : goal.invariant-loop
 invariant-loop g l = record {

@@ -3,7 +3,7 @@ use Rattle.cordyceps_shared.specs.FreeChains.{leads}
 use Rattle.cordyceps_shared.specs.Places.{ItemAt}
 use Rattle.cordyceps_queue.proofs.SharedTheory.UsesKeep.{begins}
 use Rattle.cordyceps_queue.proofs.SharedTheory.StepTells.{told}
-use Rattle.cordyceps_queue.proofs.shared.steps.clear.Goals as goal
+use Rattle.cordyceps_queue.proofs.shared.steps.begin.Goals as goal
 
 pub overflow_add-room : goal.overflow_add-room
 overflow_add-room g c =
@@ -23,8 +23,8 @@ load-requires g c =
       begins _ _ _ _ c.args.room r.0 _ c.args._item.now refl i q.stage q.back r.1 q.named,
     )
 
-pub returns-clause-cleared : goal.returns-clause-cleared
-returns-clause-cleared g c =
+pub returns-clause-begun : goal.returns-clause-begun
+returns-clause-begun g c =
     let r = c.requires.room in
     let u = told c.load.ensures in
     let l = u.told c.args.room r.0 c.args._item.now r.1 c.requires.item in

@@ -7,7 +7,7 @@ use Rattle.cordyceps_base.specs.Spots.{AreNullComparable}
 use Rattle.cordyceps_base.proofs.DoubleChain.{with_prev, segment_join}
 use Rattle.cordyceps_base.proofs.Nodes.{nodes_of-append, nodes_of-set, length_is}
 use Rattle.cordyceps_base.proofs.LineEnds.{line_first, rest_line, first_alone, first_relinked, cut_shown}
-use Rattle.cordyceps_base.proofs.double_lines.Growing.with_first_of.Goals as goal
+use Rattle.cordyceps_base.proofs.double_lines.Growing.append_first_of.Goals as goal
 
 pub get-requires : goal.get-requires
 get-requires g c = line_first c.line.inside.first.ptr c.line.inside.row.blocks c.args.line c.line.view_is c.line.invariant c.requires
