@@ -45,7 +45,7 @@ def kept(crate, program, cells):
 
 
 def faults_of_program(top, program, cells):
-    """What a program names that the table of docs/CALLING.md does not keep with it."""
+    """What a program names that the table of docs/OWN_CRATE.md does not keep with it."""
     crate = next(it for it in PROGRAMS if os.path.exists(f"{top}/crates/{it}/src/{program}.rt"))
     paths, found = [*kept(f"{top}/crates/{crate}", program, cells)], set()
     parts = {re.match(r"\w+/\w+", it)[0] for it in paths if re.match(r"\w+/\w+", it)}
@@ -54,7 +54,7 @@ def faults_of_program(top, program, cells):
         found |= {f"src/{it}" for it in re.findall(r"\bcrate::(\w+)::", text)}
         for part, name, inner in re.findall(rf"Rattle\.{crate}\.(specs|proofs)\.(\w+)(?:\.(\w+))?", text):
             found.add(f"src/{inner}" if name in ("declared", "contracts") else f"{part}/{name}")
-    return [f"docs/CALLING.md keeps no {it} with {program}" for it in sorted(found - parts)]
+    return [f"docs/OWN_CRATE.md keeps no {it} with {program}" for it in sorted(found - parts)]
 
 
 class Trial:
@@ -133,11 +133,11 @@ class Trial:
     def programs(self):
         """A crate of programs is copied when it is asked for, is completed, and is left alone once it was changed. What
         is said to be kept of such a crate with one program is all that it needs."""
-        table = text_of(f"{self.top}/docs/CALLING.md").partition("### Programs to copy")[2].partition("###")[0]
+        table = text_of(f"{self.top}/docs/OWN_CRATE.md").partition("## Programs to copy")[2].partition("##")[0]
         rows = re.findall(r"^`(\w+)` \|(.*)\|(.*)\|(.*)$", table, re.M)
         self.faults += [it for name, *cells in rows for it in faults_of_program(self.top, name, cells)]
         if not rows:
-            self.faults.append("docs/CALLING.md has no table of programs")
+            self.faults.append("docs/OWN_CRATE.md has no table of programs")
         disk = "crates/cordyceps_disk"
         self.copied(0, "crates.txt: lines written 1", "disk")
         self.same(f"{disk}/src/lib.rt", f"{disk}/src/laws.rt")
