@@ -74,7 +74,7 @@
 //!   cache line from each other at each element (`crosswise` of `parting`).
 //!
 //! It is Treiber's stack with a taking of all elements in place of the pop of one, as `TransferStack` of the Rust crate
-//! `cordyceps` and `llist` of Linux.
+//! `cordyceps`, and `llist_add` and `llist_del_all` of Linux.
 
 pub(crate) mod batch;
 pub(crate) mod calls;
