@@ -26,9 +26,9 @@
 //! and writes them as plain memory, and returns them at a step.
 //!
 //! - A push takes the slot of the first free room at a load of `HEAD` (`begin`), puts the element and a link to what it
-//!   read into it (`fill`), and exchanges `HEAD` for the room, which returns the slot (`settle`). If `HEAD` is no longer
-//!   what was read, an `attempt` loads it again, writes the link anew and exchanges. `try_push` empties the slot and
-//!   returns it in place of that.
+//!   read into it (`fill`), and exchanges `HEAD` for the room, which returns the slot (`settle`). If `HEAD` is no
+//!   longer what was read, an `attempt` loads it again, writes the link anew and exchanges. `try_push` empties the slot
+//!   and returns it in place of that.
 //! - `push_all` fills as many free rooms first, and one exchange returns all slots (`chain`).
 //! - `take_all` swaps `HEAD` with 0, which takes the slots of all that was held, and walks through them (`batch`). The
 //!   rooms stay linked. The last one's link then leads to the party's other free rooms, and one load returns the slots.
@@ -59,22 +59,22 @@
 //!   exchange that finds in `HEAD` what was read is right even where `HEAD` had changed in between and came back.
 //! - Links are in slots, since a link in a word would be written by an atomic step between a push's load of `HEAD` and
 //!   its exchange, and give other pushes time to come between. For the same reason a push of several elements writes
-//!   them before it loads `HEAD`: free rooms are linked as pushed ones have to be, so between load and exchange only the
-//!   last one's link is written.
+//!   them before it loads `HEAD`: free rooms are linked as pushed ones have to be, so between load and exchange only
+//!   the last one's link is written.
 //! - Where no step on `HEAD` or `POOL` is due, slots are taken and returned at a load of a word that nobody writes,
 //!   whose cache line stays in each processor's cache.
 //! - A slot is an enum of free and used rooms with a link of 32 bits, enough for `MAX_ROOMS`: 16 bytes with a handle of
 //!   one word. As a struct of a link and an `Option` it took 24, since each enum has a tag of its own.
-//! - `TransferStack::new` takes twice its table while it runs. `atomic_table` moves the slots from a vector into a block
-//!   of its own, and has no call that makes them in place. So with handles of one word it takes at most 32 bytes for
-//!   each room while it runs, and keeps 16.
+//! - `TransferStack::new` takes twice its table while it runs. `atomic_table` moves the slots from a vector into a
+//!   block of its own, and has no call that makes them in place. So with handles of one word it takes at most 32 bytes
+//!   for each room while it runs, and keeps 16.
 //! - A push pauses for long, from its second failure on. The more parties try at a time, the more tries fail, and each
 //!   takes the line of `HEAD`. A single failure costs less than a pause.
-//! - Neighbours in the order of a new stack's rooms are 32 rooms apart, so that a push and a taker's walk do not take one
-//!   cache line from each other at each element (`crosswise` of `parting`).
+//! - Neighbours in the order of a new stack's rooms are 32 rooms apart, so that a push and a taker's walk do not take
+//!   one cache line from each other at each element (`crosswise` of `parting`).
 //!
 //! It is Treiber's stack with a taking of all elements in place of the pop of one, as `TransferStack` of the Rust crate
-//! `cordyceps` and `llist` of Linux.
+//! `cordyceps`, and `llist_add` and `llist_del_all` of Linux.
 
 pub(crate) mod batch;
 pub(crate) mod calls;

@@ -88,8 +88,8 @@ module _ {E : Type 0} where
   abbrev pub LacksRooms : PartyOf E → Type 0
   LacksRooms w = w.rooms + length (held (plain w.seen)) < w.table.slots
 
-  -- it pushed e at one try, which took a room, and `was_empty` tells whether nothing was held before; if it had no room, it
-  -- took some of the pool before
+  -- it pushed e at one try, which took a room, and `was_empty` tells whether nothing was held before; if it had no
+  -- room, it took some of the pool before
   pub record PushesRefilled (e : E) (was_empty : Bool) (u w : PartyOf E) : Type 0 where
     pub adds : Adds u (Load (name_of u) ∷ Push (name_of u) e ∷ []) w
     pub ends : EndsPushed e (IsTrue was_empty) (name_of u) w.seen
@@ -128,4 +128,6 @@ module _ {E : Type 0} where
 
   -- it looked, and `was_empty` tells whether nothing was held
   abbrev pub Looks : Bool → PartyOf E → PartyOf E → Type 0
-  Looks was_empty u w = Adds u (Load (name_of u) ∷ []) w × EndsLooked (IsTrue was_empty) (name_of u) w.seen × (w.rooms ≡ u.rooms)
+  Looks was_empty u w =
+      Adds u (Load (name_of u) ∷ []) w
+      × EndsLooked (IsTrue was_empty) (name_of u) w.seen × (w.rooms ≡ u.rooms)

@@ -49,9 +49,9 @@ fn across(side: usize, room: usize) -> usize
 ///
 /// The order is by blocks of rooms, whose rows become columns. So rooms that are used one after another are 32 rooms
 /// apart, and in different cache lines. Next to each other, a push and the walk of a taker would take the same line
-/// from each other at each element: in a model that took 1.5 to 2.2 times as long. The rooms behind the last whole block
-/// of 32 rows are in blocks of 16 and of 8 rows, and less than 64 of them in no block. On one thread with 1,000,000
-/// rooms the order took 1.12 times as long, so a stack of more than `MAX_CROSSWISE` rooms does not have it.
+/// from each other at each element: in a model that took 1.5 to 2.2 times as long. The rooms behind the last whole
+/// block of 32 rows are in blocks of 16 and of 8 rows, and less than 64 of them in no block. On one thread with
+/// 1,000,000 rooms the order took 1.12 times as long, so a stack of more than `MAX_CROSSWISE` rooms does not have it.
 fn crosswise(rooms: usize, place: usize) -> usize
     requires { (place < rooms) × (rooms ≤ MAX_ROOMS) }
     ensures { result ≡ spec.crosswise rooms place }

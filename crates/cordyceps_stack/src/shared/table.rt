@@ -39,8 +39,9 @@ impl<E> TableRule<Slot<E>, SeatView<E>, usize> for Rule {
 /// The words and slots of the table.
 ///
 /// The word `HEAD` is 0, or 1 more than the room that was pushed last. Slot `r` has the link of room `r`, and its
-/// element if the room is in use. The word `POOL` is 0, or has the first, the last and the number of the free rooms that
-/// no party has (`pack`). No step writes the word `QUIET`. The other words fill up cache lines, and no step uses them.
+/// element if the room is in use. The word `POOL` is 0, or has the first, the last and the number of the free rooms
+/// that no party has (`pack`). No step writes the word `QUIET`. The other words fill up cache lines, and no step uses
+/// them.
 pub(crate) type Words<E> = Shared<Slot<E>, SeatView<E>, usize, Rule>;
 
 /// The table, which owns its memory.
