@@ -1,14 +1,16 @@
 -- Fingers of a chain that changes.
-use Rattle.std.proofs.Common.{◌≡◌, ℕ, ◌+◌, ◌-◌, ◌<◌, ◌≤◌, List, [], ◌∷◌, ◌++◌, length, take, drop, slice_get, Some, sym, ap, ◌∙◌, subst, arith, length-append, length-drop}
+use Rattle.std.proofs.Common.{◌≡◌, ℕ, zero, suc, refl, ◌+◌, ◌-◌, ◌<◌, ◌≤◌, List, [], ◌∷◌, ◌++◌, length, take, drop, slice_get, Some, sym, ap, ◌∙◌, subst, arith, length-append, length-drop}
 use Rattle.std.proofs.lemmas.List.{length-take, append-nil}
 use Rattle.std.proofs.Math.Seq.{take-append_seam}
 use denote.RawPtr.{Ptr}
+use Rattle.cordyceps_base.specs.declared.boxes.Address.{Address}
 use Rattle.cordyceps_base.specs.Element.{Element}
 use Rattle.cordyceps_base.specs.Nodes.{Nodes, spots, IsAt, with_item}
 use Rattle.cordyceps_base.proofs.Places.{spot_before, spot_pushed, spot_pulled, spots-with_item, length-with_item}
 use Rattle.cordyceps_list.specs.declared.finger.Finger.{Finger}
 use Rattle.cordyceps_list.specs.declared.finger.Fingers.{Fingers}
 use Rattle.cordyceps_list.specs.Fingers.{FingerFits, FingersFit}
+use Rattle.cordyceps_list.specs.Position.{StandsAt}
 
 module _ {X : Type 0} where
   -- the first nodes stay
@@ -75,3 +77,54 @@ module _ {X : Type 0} where
   fit_written c k w fs fit =
       let long = length-with_item c k w in
       record { front = fits_written c k w fs.front fit.front; back = λ on_front. fits_written c k w fs.back (fit.back (omega arith)) }
+
+  -- a cursor stays at its node, before which others were put in
+  pub stands_pushed : (c d more : Nodes X) (p : Address) (k : ℕ) → d ≡ take k c ++ (more ++ drop k c) → StandsAt c p k → StandsAt d p (k + length more)
+  stands_pushed c d more p k is at =
+      record {
+        within = omega (arith, at.within, ap length is, length-append (take k c) (more ++ drop k c), length-append more (drop k c), length-take k c, length-drop k c);
+        on = fits_pushed c d more (record { address = p; index = k + length more }) k is at.within refl at.on;
+      }
+
+  -- after which others are now
+  pub stands_kept : (c d more : Nodes X) (p : Address) (k : ℕ) → k < length c → d ≡ take (k + 1) c ++ more → StandsAt c p k → StandsAt d p k
+  stands_kept c d more p k inside is at =
+      record {
+        within = omega (arith, inside, ap length is, length-append (take (k + 1) c) more, length-take (k + 1) c);
+        on = fits_kept c d (record { address = p; index = k }) (k + 1) more at.on (omega arith) (omega (arith, inside)) is;
+      }
+
+  -- after which none is now
+  pub stands_last : (c d : Nodes X) (p : Address) (k : ℕ) → k < length c → d ≡ take (k + 1) c → StandsAt c p k → StandsAt d p k
+  stands_last c d p k inside is at = stands_kept c d [] p k inside (is ∙ sym (append-nil (take (k + 1) c))) at
+
+  -- where its node was taken out, it is at the next one
+  pub stands_next : (c d : Nodes X) (p : Address) (k : ℕ) → k < length c → d ≡ take k c ++ drop (k + 1) c → (k + 1 < length c → IsAt c (k + 1) p) → StandsAt d p k
+  stands_next c d p k inside is next =
+      record {
+        within = omega (arith, inside, ap length is, length-append (take k c) (drop (k + 1) c), length-take k c);
+        on = fits_next c d (record { address = p; index = k }) k inside is refl next;
+      }
+
+  spot_first : (c : Nodes X) (k : ℕ) (p : Ptr) → slice_get (spots c) k ≡ Some p → slice_get (spots (drop k c)) 0 ≡ Some p
+  spot_first [] zero p at = at
+  spot_first [] (suc k) p at = absurd cc
+  spot_first (n ∷ c) zero p at = at
+  spot_first (n ∷ c) (suc k) p at = spot_first c k p at
+
+  -- its node is the first one now
+  pub stands_first : (c d : Nodes X) (p : Address) (k : ℕ) → d ≡ drop k c → StandsAt c p k → StandsAt d p 0
+  stands_first c d p k is at =
+      let long = ap length is ∙ length-drop k c in
+      record {
+        within = omega arith;
+        on = λ some. subst (λ (e : Nodes X). IsAt e 0 p) (sym is) (spot_first c k p.ptr (at.on (omega arith)));
+      }
+
+  -- a written value moves no node
+  pub stands_written : (c : Nodes X) (k : ℕ) (w : X) (p : Address) (i : ℕ) → StandsAt c p i → StandsAt (with_item c k w) p i
+  stands_written c k w p i at =
+      record {
+        within = omega (arith, at.within, length-with_item c k w);
+        on = fits_written c k w (record { address = p; index = i }) at.on;
+      }

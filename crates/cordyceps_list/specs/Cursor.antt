@@ -5,17 +5,23 @@ use Rattle.std.specs.Borrow.{LendsSo, MutBor, Fml, GName}
 use denote.RattleType.{RattleType}
 use denote.Ref.{NamedLft}
 use Rattle.cordyceps_base.specs.Element.{Elements, with_value}
-use Rattle.cordyceps_list.specs.declared.cursor_mut.CursorMut.{CursorMut}
+use Rattle.cordyceps_list.specs.declared.cursor_mut.CursorMut.{CursorMut as CursorOver}
+use Rattle.cordyceps_list.specs.Position.{Position}
 use Rattle.cordyceps_list.specs.contracts.cursor_mut.CursorMut.{the_row}
+use Rattle.cordyceps_list.specs.contracts.owned.OwnedCursor.{the_row as nodes_row}
+
+-- a cursor with the nodes that it owns, of which a contract sees the elements and the cursor's place
+abbrev pub CursorMut : Type 0 → Type 0
+CursorMut X = CursorOver X (Position X)
 
 module _ {X : Type 0} where
   -- the list's elements
   abbrev pub elements : CursorMut X → Elements X
-  elements c = c.list.now
+  elements c = c.nodes.elements
 
   -- the cursor's place among them
   abbrev pub place : CursorMut X → ℕ
-  place c = c.index
+  place c = c.nodes.place
 
   -- the loan of the list
   abbrev pub lender : CursorMut X → GName
@@ -31,5 +37,5 @@ module _ (κ : NamedLft) (R : RattleType) where
   -- once the loan ends, the value at place k is the last one written, and the cursor stands at j
   abbrev pub LendsAndStands : MutBor (CursorMut R.Denot) → ℕ → ℕ → Option (MutBor R.Denot) → Fml
   LendsAndStands c k j r =
-      LendsSo (the_row κ R) R c r (λ n w. OnSome r (Stands c.now n (with_value (elements c.now) k w) j)) (λ n.
+      LendsSo (the_row κ R (nodes_row R)) R c r (λ n w. OnSome r (Stands c.now n (with_value (elements c.now) k w) j)) (λ n.
       IfNone r (Stands c.now n (elements c.now) (place c.now)))

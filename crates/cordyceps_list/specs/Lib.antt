@@ -3,6 +3,7 @@ pub mod Lending
 pub mod GrowsBy
 pub mod Left
 pub mod Cursor
+pub mod Owned
 pub mod IterMut
 pub mod Position
 pub mod Walks

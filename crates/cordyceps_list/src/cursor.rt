@@ -4,8 +4,10 @@ ghost use Rattle.std.specs.Iterator.{at_most, UpTo};
 ghost use Rattle.std.specs.Iterator.SizeHint.{IsWithinCount};
 ghost use Rattle.cordyceps_base.specs.Element.{values};
 ghost use Rattle.cordyceps_list.specs.Places.{next_place, prev_place};
-ghost use Rattle.cordyceps_list.specs.Position.{GivesAndMoves};
+ghost use Rattle.cordyceps_base.specs.Nodes.{elements};
+ghost use Rattle.cordyceps_list.specs.Position.{GivesAndMoves, StandsAt};
 
+use crate::finger::Finger;
 use crate::list::{Links, List};
 use cordyceps_base::boxes::Address;
 use cordyceps_base::double_chain::DoubleChain;
@@ -61,6 +63,20 @@ impl<'a, T> Clone for Cursor<'a, T> {
             address: self.address,
             index: self.index,
         })
+    }
+}
+
+impl<'a, T> Cursor<'a, T> {
+    /// Returns a cursor at the place of a finger.
+    pub(crate) fn at_finger(chain: &'a DoubleChain<T>, at: Finger) -> Cursor<'a, T>
+        requires { StandsAt chain.now at.address at.index }
+        ensures { result ≡ record { elements = elements chain.now; place = at.index } }
+    {
+        Cursor {
+            chain,
+            address: at.address,
+            index: at.index,
+        }
     }
 }
 

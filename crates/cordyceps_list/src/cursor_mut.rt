@@ -8,13 +8,16 @@ ghost use Rattle.cordyceps_base.specs.Element.{values};
 
 use crate::cursor::{Cursor, place_after, place_before};
 use crate::list::{Links, List};
+use crate::owned::{OwnedCursor, OwnsNodes};
 use cordyceps_base::linked::Linked;
-use std::mem;
 
 /// A cursor that reads and changes a list. A contract sees the elements and the cursor's place.
 ///
 /// A place is an index from 0 to the length. The length is the null place, which has no element: it is after the last
 /// element and before the first. The cursor borrows the list until it ends.
+///
+/// Until it is dropped the cursor owns the list's nodes. A cursor that is forgotten, by `mem::forget`, leaves the list
+/// empty, and its nodes are not freed. `N` is what owns them, and has a default that no caller has to write.
 ///
 /// # Examples
 /// From `tour::take_the_second` of `cordyceps_uses`:
@@ -23,23 +26,21 @@ use std::mem;
 /// cursor.move_next();
 /// Ok(cursor.remove_current())
 /// ```
-pub struct CursorMut<'a, T> {
+pub struct CursorMut<'a, T, N: OwnsNodes<T> = OwnedCursor<T>> {
     list: &'a mut List<T>,
-    index: usize,
-    ghost inside: { index ≤ length list.now },
+    nodes: N,
 }
 
-impl<T> Drop for CursorMut<'_, T> {
-    ghost use Rattle.cordyceps_list.specs.Cursor.{elements};
-
+impl<T: Drop, N: OwnsNodes<T>> Drop for CursorMut<'_, T, N> {
     /// Ends the cursor. The list then has the cursor's elements.
     ///
     /// # Complexity
     /// O(1).
     fn drop(self)
-        ensures { self.exit.0.now ≡ elements self.entry }
+        ensures { self.exit.0.now ≡ N.owned self.entry.nodes }
     {
-        let CursorMut { list: _, index: _ } = self;
+        let CursorMut { list, nodes } = self;
+        list.put_back(nodes.into_chain());
     }
 }
 
@@ -56,8 +57,8 @@ impl<T: Linked<Links<T>>> List<T> {
         ensures elements { elements result ≡ self.old }
         ensures place { place result ≡ length self.old }
     {
-        let index = self.len();
-        CursorMut { list: self, index }
+        let nodes = OwnedCursor::at_null(self.chain.take());
+        CursorMut { list: self, nodes }
     }
 
     /// Returns a cursor at the first element, or at the null place if the list is empty.
@@ -69,10 +70,8 @@ impl<T: Linked<Links<T>>> List<T> {
         ensures elements { elements result ≡ self.old }
         ensures place { place result ≡ 0 }
     {
-        CursorMut {
-            list: self,
-            index: 0,
-        }
+        let nodes = OwnedCursor::at_front(self.chain.take());
+        CursorMut { list: self, nodes }
     }
 
     /// Returns a cursor at the last element, or at the null place if the list is empty.
@@ -84,8 +83,8 @@ impl<T: Linked<Links<T>>> List<T> {
         ensures elements { elements result ≡ self.old }
         ensures place { place result ≡ length self.old - 1 }
     {
-        let index = self.len().saturating_sub(1);
-        CursorMut { list: self, index }
+        let nodes = OwnedCursor::at_back(self.chain.take());
+        CursorMut { list: self, nodes }
     }
 }
 
@@ -95,22 +94,12 @@ impl<'a, T: Linked<Links<T>>> CursorMut<'a, T> {
     ghost use Rattle.cordyceps_list.specs.Filter.{RemovesFirst};
     ghost use Rattle.cordyceps_list.specs.Walks.{MayAsk};
 
-    /// Returns a cursor at a place. Requires that the place is at most the length.
-    pub(crate) fn at_place(list: &'a mut List<T>, index: usize) -> CursorMut<'a, T>
-        requires { index ≤ length list.old }
-        ensures same_reference { lender result ≡ list.entry.ghost_name }
-        ensures elements { elements result ≡ list.old }
-        ensures place { place result ≡ index }
-    {
-        CursorMut { list, index }
-    }
-
     /// Returns the cursor's place.
     pub(crate) fn place(&self) -> usize
         ensures value { result ≡ place self.now }
         ensures inside { result ≤ length (elements self.now) }
     {
-        self.index
+        self.nodes.place()
     }
 
     /// Returns the number of elements of the list.
@@ -120,7 +109,7 @@ impl<'a, T: Linked<Links<T>>> CursorMut<'a, T> {
     pub fn len(&self) -> usize
         ensures { result ≡ length (elements self.now) }
     {
-        self.list.len()
+        self.nodes.len()
     }
 
     /// Returns `true` if the list has no element.
@@ -130,18 +119,21 @@ impl<'a, T: Linked<Links<T>>> CursorMut<'a, T> {
     pub fn is_empty(&self) -> bool
         ensures { result ≡ (length (elements self.now) == 0) }
     {
-        self.list.is_empty()
+        self.len() == 0
     }
 
-    /// Returns the index of the cursor's element, or `None` at the null place.
+    /// Returns the index of the cursor's element, or `None` at the null place. The cursor's place is at most the
+    /// length.
     ///
     /// # Complexity
     /// O(1).
     pub fn index(&self) -> Option<usize>
-        ensures { result ≡ index_at (length (elements self.now)) (place self.now) }
+        ensures value { result ≡ index_at (length (elements self.now)) (place self.now) }
+        ensures within { place self.now ≤ length (elements self.now) }
     {
-        if self.index < self.list.len() {
-            Some(self.index)
+        let index = self.place();
+        if index < self.len() {
+            Some(index)
         } else {
             None
         }
@@ -156,8 +148,7 @@ impl<'a, T: Linked<Links<T>>> CursorMut<'a, T> {
         ensures { Stands self.old self.new (elements self.old)
             (next_place (length (elements self.old)) (place self.old)) }
     {
-        let len = self.len();
-        self.go_to(place_after(self.index, len));
+        self.nodes.move_next();
     }
 
     /// Moves the cursor to the previous place: from the first element to the null place, and from there to the last
@@ -169,17 +160,7 @@ impl<'a, T: Linked<Links<T>>> CursorMut<'a, T> {
         ensures { Stands self.old self.new (elements self.old)
             (prev_place (length (elements self.old)) (place self.old)) }
     {
-        let len = self.len();
-        self.go_to(place_before(self.index, len));
-    }
-
-    /// Moves the cursor to a place.
-    fn go_to(&mut self, index: usize)
-        requires { index ≤ length (elements self.old) }
-        ensures { Stands self.old self.new (elements self.old) index }
-    {
-        self.index = index;
-        self.list.stand_at(index);
+        self.nodes.move_prev();
     }
 
     /// Returns a reference to the value at the cursor, or `None` at the null place.
@@ -189,7 +170,7 @@ impl<'a, T: Linked<Links<T>>> CursorMut<'a, T> {
     pub fn current(&self) -> Option<&T>
         ensures { option_copied result ≡ slice_get (values (elements self.now)) (place self.now) }
     {
-        self.list.get_at(self.index)
+        self.as_cursor().current()
     }
 
     /// Returns a reference to the value at the next place, or `None` if that is the null place. At the null place it
@@ -201,7 +182,7 @@ impl<'a, T: Linked<Links<T>>> CursorMut<'a, T> {
         ensures { option_copied result
             ≡ slice_get (values (elements self.now)) (next_place (length (elements self.now)) (place self.now)) }
     {
-        self.list.get_at(place_after(self.index, self.list.len()))
+        self.as_cursor().peek_next()
     }
 
     /// Returns a reference to the value at the previous place, or `None` if that is the null place. At the null place
@@ -213,7 +194,7 @@ impl<'a, T: Linked<Links<T>>> CursorMut<'a, T> {
         ensures { option_copied result
             ≡ slice_get (values (elements self.now)) (prev_place (length (elements self.now)) (place self.now)) }
     {
-        self.list.get_at(place_before(self.index, self.list.len()))
+        self.as_cursor().peek_prev()
     }
 
     /// Returns a mutable reference to the value at the cursor, or `None` at the null place. The element keeps its
@@ -228,12 +209,11 @@ impl<'a, T: Linked<Links<T>>> CursorMut<'a, T> {
             result) }
         ensures value { option_copied_mut result ≡ slice_get (values (elements self.old)) (place self.old) }
     {
-        let here = self.index;
-        if here == self.list.len() {
+        if self.place() == self.len() {
             return None;
         }
-        let list = &mut *self.list;
-        Some(list.value_mut_at(here))
+        let nodes = &mut self.nodes;
+        Some(nodes.current_mut())
     }
 
     /// Returns a mutable reference to the value at the next place, or `None` if that is the null place. The element
@@ -249,12 +229,11 @@ impl<'a, T: Linked<Links<T>>> CursorMut<'a, T> {
         ensures value { option_copied_mut result
             ≡ slice_get (values (elements self.old)) (next_place (length (elements self.old)) (place self.old)) }
     {
-        let index = place_after(self.index, self.list.len());
-        if index >= self.list.len() {
+        if place_after(self.place(), self.len()) >= self.len() {
             return None;
         }
-        let list = &mut *self.list;
-        Some(list.value_mut_at(index))
+        let nodes = &mut self.nodes;
+        Some(nodes.peek_next_mut())
     }
 
     /// Returns a mutable reference to the value at the previous place, or `None` if that is the null place. The element
@@ -270,12 +249,11 @@ impl<'a, T: Linked<Links<T>>> CursorMut<'a, T> {
         ensures value { option_copied_mut result
             ≡ slice_get (values (elements self.old)) (prev_place (length (elements self.old)) (place self.old)) }
     {
-        let index = place_before(self.index, self.list.len());
-        if index >= self.list.len() {
+        if place_before(self.place(), self.len()) >= self.len() {
             return None;
         }
-        let list = &mut *self.list;
-        Some(list.value_mut_at(index))
+        let nodes = &mut self.nodes;
+        Some(nodes.peek_prev_mut())
     }
 
     /// Returns a mutable reference to the value at the cursor, and moves the cursor to the next place. At the null
@@ -290,13 +268,11 @@ impl<'a, T: Linked<Links<T>>> CursorMut<'a, T> {
             result) }
         ensures value { option_copied_mut result ≡ slice_get (values (elements self.old)) (place self.old) }
     {
-        let index = self.index;
-        if index == self.list.len() {
+        if self.place() == self.len() {
             return None;
         }
-        self.index = index + 1;
-        let list = &mut *self.list;
-        Some(list.value_mut_passing(index))
+        let nodes = &mut self.nodes;
+        Some(nodes.next_mut())
     }
 
     /// Inserts an element before the cursor's, at which the cursor stays. At the null place the element becomes the
@@ -310,9 +286,7 @@ impl<'a, T: Linked<Links<T>>> CursorMut<'a, T> {
             (take (place self.old) (elements self.old) ++ T.element handle ∷ drop (place self.old) (elements self.old))
             (place self.old + 1) }
     {
-        let index = self.index;
-        self.index += 1;
-        self.list.insert_at(index, handle);
+        self.nodes.insert_before(T::into_ptr(handle));
     }
 
     /// Inserts an element after the cursor's, at which the cursor stays. At the null place the element becomes the
@@ -322,6 +296,7 @@ impl<'a, T: Linked<Links<T>>> CursorMut<'a, T> {
     /// O(1).
     pub fn insert_after(&mut self, handle: T::Handle)
         requires { length (elements self.old) < usize.MAX }
+        ensures within { place self.old ≤ length (elements self.old) }
         ensures inside { place self.old < length (elements self.old)
             → Stands self.old self.new
             (take (place self.old + 1) (elements self.old) ++ T.element handle
@@ -329,11 +304,10 @@ impl<'a, T: Linked<Links<T>>> CursorMut<'a, T> {
         ensures null { place self.old ≡ length (elements self.old)
             → Stands self.old self.new (T.element handle ∷ elements self.old) (length (elements self.old) + 1) }
     {
-        if self.index < self.list.len() {
-            self.list.insert_after(self.index, handle);
+        if self.place() < self.len() {
+            self.nodes.insert_after(T::into_ptr(handle));
         } else {
-            self.list.insert_at(0, handle);
-            self.index += 1;
+            self.nodes.insert_first(T::into_ptr(handle));
         }
     }
 
@@ -347,7 +321,10 @@ impl<'a, T: Linked<Links<T>>> CursorMut<'a, T> {
             (take (place self.old) (elements self.old) ++ drop (place self.old + 1) (elements self.old))
             (place self.old) }
     {
-        self.list.take_at(self.index)
+        if self.place() == self.len() {
+            return None;
+        }
+        Some(T::from_ptr(self.nodes.remove_current()))
     }
 
     /// Inserts all elements of `list` before the cursor's, at which the cursor stays. At the null place they become the
@@ -361,9 +338,7 @@ impl<'a, T: Linked<Links<T>>> CursorMut<'a, T> {
             (take (place self.old) (elements self.old) ++ list ++ drop (place self.old) (elements self.old))
             (place self.old + length list) }
     {
-        let more = list.len();
-        self.list.splice_at(self.index, list);
-        self.index += more;
+        self.nodes.splice_before(list.into_chain());
     }
 
     /// Inserts all elements of `list` after the cursor's, at which the cursor stays. At the null place they become the
@@ -373,6 +348,7 @@ impl<'a, T: Linked<Links<T>>> CursorMut<'a, T> {
     /// O(1).
     pub fn splice_after(&mut self, list: List<T>)
         requires { length (elements self.old) + length list ≤ usize.MAX }
+        ensures within { place self.old ≤ length (elements self.old) }
         ensures inside { place self.old < length (elements self.old)
             → Stands self.old self.new
             (take (place self.old + 1) (elements self.old) ++ list ++ drop (place self.old + 1) (elements self.old))
@@ -380,12 +356,10 @@ impl<'a, T: Linked<Links<T>>> CursorMut<'a, T> {
         ensures null { place self.old ≡ length (elements self.old)
             → Stands self.old self.new (list ++ elements self.old) (length (elements self.old) + length list) }
     {
-        if self.index < self.list.len() {
-            self.list.splice_after(self.index, list);
+        if self.place() < self.len() {
+            self.nodes.splice_after(list.into_chain());
         } else {
-            let more = list.len();
-            self.list.splice_at(0, list);
-            self.index += more;
+            self.nodes.splice_first(list.into_chain());
         }
     }
 
@@ -395,6 +369,7 @@ impl<'a, T: Linked<Links<T>>> CursorMut<'a, T> {
     /// # Complexity
     /// O(1).
     pub fn split_after(&mut self) -> List<T>
+        ensures within { place self.old ≤ length (elements self.old) }
         ensures inside { place self.old < length (elements self.old)
             → (result ≡ drop (place self.old + 1) (elements self.old)) }
         ensures inside_stands { place self.old < length (elements self.old)
@@ -402,11 +377,10 @@ impl<'a, T: Linked<Links<T>>> CursorMut<'a, T> {
         ensures null { place self.old ≡ length (elements self.old) → (result ≡ elements self.old) }
         ensures null_stands { place self.old ≡ length (elements self.old) → Stands self.old self.new [] 0 }
     {
-        if self.index < self.list.len() {
-            return self.list.split_at(self.index + 1);
+        if self.place() < self.len() {
+            return List::from_chain(self.nodes.split_after());
         }
-        self.index = 0;
-        self.list.split_at(0)
+        List::from_chain(self.nodes.split_before())
     }
 
     /// Splits the list before the cursor's element, and returns the elements before it. The cursor stays at its
@@ -418,11 +392,8 @@ impl<'a, T: Linked<Links<T>>> CursorMut<'a, T> {
         ensures answer { result ≡ take (place self.old) (elements self.old) }
         ensures stands { Stands self.old self.new (drop (place self.old) (elements self.old)) 0 }
     {
-        let index = self.index;
-        self.index = 0;
-        let mut rest = self.list.split_at(index);
-        mem::swap(&mut *self.list, &mut rest);
-        rest
+        let front = self.nodes.split_before();
+        List::from_chain(front)
     }
 
     /// Removes the first element for which the predicate returns `true` and returns it, searching from the cursor's
@@ -443,22 +414,8 @@ impl<'a, T: Linked<Links<T>>> CursorMut<'a, T> {
             (elements self.new) (place self.new) last }
         ensures same_reference { lender self.new ≡ lender self.old }
     {
-        self.remove_first_by(&mut predicate)
-    }
-
-    /// Removes an element as `remove_first` does, by a predicate that the caller keeps.
-    pub(crate) fn remove_first_by<F: FnMut(&T) -> bool>(
-        &mut self,
-        predicate: &mut F,
-    ) -> Option<T::Handle>
-        requires { MayAsk F.FnMut (drop (place self.old) (values (elements self.old))) predicate.old }
-        ensures removes { RemovesFirst T.element (CalledAt F.FnMut) (elements self.old) (place self.old) predicate.old
-            result (elements self.new) (place self.new) predicate.new }
-        ensures same_reference { lender self.new ≡ lender self.old }
-    {
-        let found = self.list.first_passing(self.index, predicate);
-        self.index = found;
-        self.list.take_at(found)
+        self.nodes.go_to_passing(&mut predicate);
+        self.remove_current()
     }
 
     /// Returns a cursor that only reads, at the same place.
@@ -469,6 +426,6 @@ impl<'a, T: Linked<Links<T>>> CursorMut<'a, T> {
         ensures elements { result.elements ≡ elements self.now }
         ensures place { result.place ≡ place self.now }
     {
-        Cursor::at_place(&*self.list, self.index)
+        self.nodes.as_cursor()
     }
 }

@@ -1,7 +1,6 @@
 //! The iterator that removes the elements for which a predicate returns `true`.
 ghost use Rattle.std.specs.Prelude.{◌≡◌, ◌≤◌, length};
 
-use crate::cursor_mut::CursorMut;
 use crate::finger::Fingers;
 use crate::list::{Links, List};
 use cordyceps_base::linked::Linked;
@@ -96,10 +95,9 @@ impl<'a, T: Linked<Links<T>>, F: FnMut(&T) -> bool + Drop> Iterator for DrainFil
     /// # Complexity
     /// O(k), for k values that the predicate is called on.
     fn next(&mut self) -> Option<T::Handle> {
-        let mut cursor = CursorMut::at_place(&mut *self.list, self.index);
-        let removed = cursor.remove_first_by(&mut self.predicate);
-        self.index = cursor.place();
-        removed
+        let found = self.list.first_passing(self.index, &mut self.predicate);
+        self.index = found;
+        self.list.take_at(found)
     }
 
     /// Returns 0 and the length of the list as bounds.

@@ -13,25 +13,25 @@
 //! the next, and comparing all distances took longer than the rest of the call. Otherwise `seek_far` walks from the
 //! nearest end or finger, and leaves a finger there.
 //!
-//! A list keeps fingers since a cursor borrows it, and loses what it knew of addresses with the borrow. There are two,
-//! since an iterator that is used from both ends would move a single one to and fro. A push, `pop_front` and `append`
-//! take the fingers off; `pop_back` and a split need not. For its four words of fingers `append` takes longer than that
-//! of the Rust crate `cordyceps`.
+//! A list keeps fingers since an `IterMut` and a `DrainFilter` borrow it, and lose what they knew of addresses with
+//! each value that they lend or each call of the predicate. There are two, since an iterator that is used from both
+//! ends would move a single one to and fro. A push, `pop_front` and `append` take the fingers off; `pop_back` and a
+//! split need not. For its four words of fingers `append` takes longer than that of the Rust crate `cordyceps`.
 //!
-//! An edit leaves the front finger where the next call most often is, and takes the back finger off, so a guard's calls
-//! are at most two moves from a finger or an end. Moving both fingers along took two comparisons and two writes more. A
-//! removal writes the front finger's address alone, and an insertion its number.
+//! A removal leaves the front finger at the next node, and takes the back finger off, so a filter goes on without a
+//! search. Moving both fingers along took two comparisons and two writes more.
 //!
 //! A loop over a list contains no search and no call. A call that is given the list keeps its fingers in memory, and a
-//! short loop then takes twice as long. So `next` of `IterMut` and `CursorMut` leaves the front finger after the value
-//! that it lends, and the compiler drops the search. `seek`, `seek_within`, `stand_within`, and `remove_at` and
-//! `take_at` of the list, are `inline(always)`; otherwise two filters took 1.5 to 2.2 times the time of the Rust
-//! crate's, and a cursor's move 7 ns instead of 4.
+//! short loop then takes twice as long. So `next` of `IterMut` leaves the front finger after the value that it lends,
+//! and the compiler drops the search. `seek`, `seek_within`, `stand_within`, and `remove_at` and `take_at` of the list,
+//! are `inline(always)`; otherwise two filters took 1.5 to 2.2 times the time of the Rust crate's.
 //!
 //! A split walks on and back by different loops. One loop that asks at each node which way to go took 6.8 instructions
 //! a node; these take 1.9, since the compiler unrolls them.
 ghost use Rattle.std.specs.Prelude.{◌≡◌, ◌+◌, ◌-◌, ◌^◌, ◌<◌, ◌≤◌, ◌⊎◌, length, IfSome};
 ghost use Rattle.cordyceps_base.specs.Nodes.{IsAt};
+ghost use Rattle.cordyceps_list.specs.Places.{next_place, prev_place};
+ghost use Rattle.cordyceps_list.specs.Position.{StandsAt};
 
 use cordyceps_base::boxes::Address;
 use cordyceps_base::double_chain::DoubleChain;
@@ -49,7 +49,7 @@ impl Finger {
     ghost use Rattle.cordyceps_list.specs.Fingers.{IsOn, FingerFits};
 
     /// Returns a finger after the last of `len` nodes, on no node.
-    fn after_last(len: usize) -> Finger
+    pub(crate) fn after_last(len: usize) -> Finger
         ensures { result.index ≡ len }
     {
         Finger {
@@ -79,6 +79,61 @@ impl Finger {
         Finger {
             address: chain.tail(),
             index: chain.len() - 1,
+        }
+    }
+
+    /// Returns a finger on the first node, or on no node if the chain is empty.
+    pub(crate) fn at_front<T>(chain: &DoubleChain<T>) -> Finger
+        ensures stands { StandsAt chain.now result.address result.index }
+        ensures first { result.index ≡ 0 }
+    {
+        if chain.len() == 0 {
+            return Finger::after_last(0);
+        }
+        Finger::at_head(chain)
+    }
+
+    /// Returns a finger on the last node, or on no node if the chain is empty.
+    pub(crate) fn at_back<T>(chain: &DoubleChain<T>) -> Finger
+        ensures stands { StandsAt chain.now result.address result.index }
+        ensures last { result.index ≡ length chain.now - 1 }
+    {
+        if chain.len() == 0 {
+            return Finger::after_last(0);
+        }
+        Finger::at_tail(chain)
+    }
+
+    /// Returns the finger at the next place: after the last node comes the null place, and then the first node.
+    pub(crate) fn next<T>(self, chain: &DoubleChain<T>) -> Finger
+        requires { StandsAt chain.now self.address self.index }
+        ensures stands { StandsAt chain.now result.address result.index }
+        ensures place { result.index ≡ next_place (length chain.now) self.index }
+    {
+        if self.index == chain.len() {
+            return Finger::at_front(chain);
+        }
+        Finger {
+            address: chain.next(self.address, self.index),
+            index: self.index + 1,
+        }
+    }
+
+    /// Returns the finger at the previous place: before the first node comes the null place, and then the last node.
+    pub(crate) fn prev<T>(self, chain: &DoubleChain<T>) -> Finger
+        requires { StandsAt chain.now self.address self.index }
+        ensures stands { StandsAt chain.now result.address result.index }
+        ensures place { result.index ≡ prev_place (length chain.now) self.index }
+    {
+        if self.index == 0 {
+            return Finger::after_last(chain.len());
+        }
+        if self.index == chain.len() {
+            return Finger::at_tail(chain);
+        }
+        Finger {
+            address: chain.prev(self.address, self.index),
+            index: self.index - 1,
         }
     }
 

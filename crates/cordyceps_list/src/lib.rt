@@ -3,11 +3,11 @@
 //! Take a `List` where elements come and go at the ends, or at the place of a cursor. Where an element leaves or moves
 //! at any time, from wherever it is, take a `StableList` of `cordyceps_stable`.
 //!
-//! A list is a double chain and two fingers (`finger`). A `CursorMut` and an `IterMut` are guards: they borrow their
-//! list, keep places as numbers, and find nodes by the fingers. The contract of their `Drop` says that the list has the
-//! guard's elements. If a guard kept an address or borrowed the chain, its caller would not know the list afterwards;
-//! if it owned the nodes, forgetting it would empty the list. A `Cursor` and an `Iter` read alone, and have the address
-//! of their node. A `DrainFilter` has a place, a list and a predicate, and its `next` is a cursor's `remove_first`.
+//! A list is a double chain and two fingers (`finger`). A `CursorMut` and an `IterMut` are guards: the contract of
+//! their `Drop` says that the list has the guard's elements. A `CursorMut` takes the nodes out of its list until it is
+//! dropped (`owned`). An `IterMut` borrows its list, keeps places as numbers, and finds nodes by the fingers; with an
+//! address or a borrowed chain its caller would not know the list afterwards. A `Cursor` and an `Iter` read alone, and
+//! have the address of their node. A `DrainFilter` has a place, a list and a predicate.
 //!
 //! Proved: that each call does what it does on a plain sequence, at all lengths; how many links a split follows, by
 //! `try_split_off_in`. Only tested: that steps of a guard take few moves, and that a drop leaves no node.
@@ -25,3 +25,4 @@ pub mod iter;
 pub mod iter_mut;
 pub mod laws;
 pub mod list;
+mod owned;

@@ -60,6 +60,16 @@ impl<T> Model for List<T> {
     ghost invariant = { λ l. FingersFit l.chain l.fingers };
 }
 
+impl<T: Drop> List<T> {
+    /// Replaces the nodes of the list, and drops the old ones.
+    pub(crate) fn put_back(&mut self, chain: DoubleChain<T>)
+        ensures { self.new ≡ elements chain }
+    {
+        self.fingers.take_off(chain.len());
+        self.chain = chain;
+    }
+}
+
 impl<T: Linked<Links<T>>> Default for List<T> {
     ghost is_default = { λ l. l ≡ [] };
 
@@ -423,7 +433,7 @@ fn find<T>(chain: &DoubleChain<T>, id: u64) -> Option<Finger>
 
 /// Calls the predicate on the values from a finger's place on, up to the first `true`, and returns a finger there, or
 /// after the last node if there is none.
-fn first_passing<T, F: FnMut(&T) -> bool>(
+pub(crate) fn first_passing<T, F: FnMut(&T) -> bool>(
     chain: &DoubleChain<T>,
     from: Finger,
     predicate: &mut F,
@@ -526,94 +536,6 @@ impl<T: Linked<Links<T>>> List<T> {
         } else {
             None
         }
-    }
-
-    /// Inserts all elements of `other` at a place. Requires that the place is at most the length, and that the sum of
-    /// the lengths is at most `usize::MAX`.
-    pub(crate) fn splice_at(&mut self, index: usize, other: List<T>)
-        requires within { index ≤ length self.old }
-        requires fits { length self.old + length other ≤ usize.MAX }
-        ensures { self.new ≡ take index self.old ++ other ++ drop index self.old }
-    {
-        let List { chain, fingers: _ } = other;
-        let address = self.fingers.seek_within(&self.chain, index);
-        let more = chain.len();
-        self.fingers
-            .stand(address, index + more, self.chain.len() + more);
-        self.chain.splice(address, index, chain);
-    }
-
-    /// Inserts all elements of `other` after the one at an index. A finger stays on that one, so that a call there does
-    /// not walk through the new elements.
-    pub(crate) fn splice_after(&mut self, index: usize, other: List<T>)
-        requires inside { index < length self.old }
-        requires fits { length self.old + length other ≤ usize.MAX }
-        ensures { self.new ≡ take (index + 1) self.old ++ other ++ drop (index + 1) self.old }
-    {
-        let List { chain, fingers: _ } = other;
-        let address = self.fingers.seek(&self.chain, index);
-        let next = self.chain.next(address, index);
-        self.fingers
-            .stand(address, index, self.chain.len() + chain.len());
-        self.chain.splice(next, index + 1, chain);
-    }
-
-    /// Inserts an element at a place. Requires that the place is at most the length, and a length below `usize::MAX`.
-    pub(crate) fn insert_at(&mut self, index: usize, handle: T::Handle)
-        requires within { index ≤ length self.old }
-        requires fits { length self.old < usize.MAX }
-        ensures { self.new ≡ take index self.old ++ T.element handle ∷ drop index self.old }
-    {
-        let address = self.fingers.stand_within(&self.chain, index);
-        self.chain.link(address, index, T::into_ptr(handle));
-        self.fingers.front.index = index + 1;
-        self.fingers.take_back_off(self.chain.len());
-    }
-
-    /// Inserts an element after the one at an index, on which the front finger stays. Requires a length below
-    /// `usize::MAX`.
-    pub(crate) fn insert_after(&mut self, index: usize, handle: T::Handle)
-        requires inside { index < length self.old }
-        requires fits { length self.old < usize.MAX }
-        ensures { self.new ≡ take (index + 1) self.old ++ T.element handle ∷ drop (index + 1) self.old }
-    {
-        let address = self.fingers.stand_within(&self.chain, index);
-        let next = self.chain.next(address, index);
-        self.chain.link(next, index + 1, T::into_ptr(handle));
-        self.fingers.take_back_off(self.chain.len());
-    }
-
-    /// Moves a finger to a place, so that calls near it are O(1).
-    pub(crate) fn stand_at(&mut self, index: usize)
-        ensures { self.new ≡ self.old }
-    {
-        self.fingers.seek_within(&self.chain, index);
-    }
-
-    /// Returns a reference to the value at an index, or `None` if the index is not below the length.
-    pub(crate) fn get_at(&self, index: usize) -> Option<&T>
-        ensures { option_copied result ≡ slice_get (values self.now) index }
-    {
-        if index < self.chain.len() {
-            let mut fingers = self.fingers;
-            let address = fingers.seek(&self.chain, index);
-            Some(self.chain.get(address, index))
-        } else {
-            None
-        }
-    }
-
-    /// Splits the list at a place, and returns the elements from there on. Requires that the place is at most the
-    /// length.
-    pub(crate) fn split_at(&mut self, index: usize) -> List<T>
-        requires { index ≤ length self.old }
-        ensures kept { self.new ≡ take index self.old }
-        ensures split { result ≡ drop index self.old }
-    {
-        let address = self.fingers.seek_within(&self.chain, index);
-        let (front, rest) = self.chain.take().split(address, index);
-        self.chain.put(front);
-        List::from_chain(rest)
     }
 
     /// Calls the predicate on the values from a place on, up to the first `true`, and returns its index, or the length

@@ -6,8 +6,7 @@ use Rattle.std.proofs.lemmas.Bool.{cases_lt}
 use Rattle.std.proofs.lemmas.Bool.Decides.{nat_tests}
 use Rattle.cordyceps_base.specs.Runs.{after, replies_to}
 use Rattle.cordyceps_base.specs.Element.{Element, Elements, values, with_value}
-use Rattle.cordyceps_list.specs.declared.cursor_mut.CursorMut.{CursorMut}
-use Rattle.cordyceps_list.specs.Cursor.{Stands, elements, place}
+use Rattle.cordyceps_list.specs.Cursor.{CursorMut, Stands, elements, place}
 use Rattle.cordyceps_list.proofs.Lent.{same_value}
 use Rattle.cordyceps_tables.proofs.Places.{same_or_not, inside}
 use Rattle.cordyceps_commands.specs.declared.item.Item.{Item}

@@ -3,8 +3,7 @@ use Rattle.std.specs.Prelude.{◌≡◌, ℕ, ◌+◌, ◌-◌, true, not, ◌&&
 use Rattle.std.specs.Prelude.{Some, None, slice_get, slice_set, if◌then◌else◌, nat_eq, nat_lt, nat_le}
 use Rattle.cordyceps_base.specs.Element.{Element, Elements, values, with_value}
 use Rattle.cordyceps_base.specs.Runs.{after, replies_to}
-use Rattle.cordyceps_list.specs.declared.cursor_mut.CursorMut.{CursorMut}
-use Rattle.cordyceps_list.specs.Cursor.{Stands, elements, place, lender}
+use Rattle.cordyceps_list.specs.Cursor.{CursorMut, Stands, elements, place, lender}
 use Rattle.cordyceps_list.specs.Places.{next_place, prev_place, index_at}
 pub use Rattle.cordyceps_commands.specs.ListCommands.{OtherFits, EndsBlock, BlockFits}
 use Rattle.cordyceps_commands.specs.declared.item.Item.{Item}

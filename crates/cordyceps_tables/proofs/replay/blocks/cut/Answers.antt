@@ -5,4 +5,4 @@ pub returns-in-After : goal.returns-in-After
 returns-in-After c =
     let old = c.args.cursor.now in
     let s = c.split_after.ensures in
-    rw c.in-After.is (cuts_after old c.split_after.new.self c.split_after.result old.inside s.inside s.inside_stands s.null s.null_stands)
+    rw c.in-After.is (cuts_after old c.split_after.new.self c.split_after.result s.within s.inside s.inside_stands s.null s.null_stands)

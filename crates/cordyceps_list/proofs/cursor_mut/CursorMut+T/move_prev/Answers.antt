@@ -1,0 +1,5 @@
+use Rattle.std.proofs.Common.{rules}
+use Rattle.cordyceps_list.proofs.cursor_mut.CursorMut+T.move_prev.Goals as goal
+
+pub returns : goal.returns
+returns g c = search rules

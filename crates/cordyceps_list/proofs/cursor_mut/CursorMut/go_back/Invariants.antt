@@ -1,8 +1,0 @@
-use Rattle.std.proofs.Common.{◌+◌, ◌*◌, ◌%◌, length}
-use Rattle.cordyceps_list.specs.Cursor.{elements, place, Stands}
-use Rattle.cordyceps_list.proofs.cursor_mut.CursorMut.go_back.Given as goal
-
-abbrev pub invariant-loop : goal.invariant-loop
-invariant-loop g l =
-    let n = length (elements l.fn.self) in
-    Stands l.fn.self l.self (elements l.fn.self) ((place l.fn.self + l.counter * n) % (n + 1))

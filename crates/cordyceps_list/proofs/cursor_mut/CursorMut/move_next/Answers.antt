@@ -1,5 +1,0 @@
-use Rattle.std.proofs.Common.{rules}
-use Rattle.cordyceps_list.proofs.cursor_mut.CursorMut.move_next.Goals as goal
-
-pub returns : goal.returns
-returns g c = search rules
