@@ -12,7 +12,8 @@
 //!
 //! A [`TransferStack`] is shared by threads, without a lock: each pushes to it through a party of its own, and takes
 //! all its elements at once. An [`MpscQueue`] is shared in the same way: many put elements in, and one at a time takes
-//! them out, first in, first out.
+//! them out, first in, first out. A [`channel::channel`] has senders and a receiver over that queue, which wait, end,
+//! and say so.
 //!
 //! A [`stack::TransferCore`] and an [`mpsc_queue::QueueCore`] are the algorithms of the shared structures as plain
 //! values, whose steps are taken in any order.
@@ -28,6 +29,7 @@
 //! crate that uses lists alone names `cordyceps_base` and `cordyceps_list`, and has fewer libraries to prove.
 #![tactic(auto)]
 
+pub mod channel;
 pub mod clock_queue;
 pub mod list;
 pub mod mpsc_queue;

@@ -7,7 +7,7 @@
 //! element back. Take an `MpscQueue` of `cordyceps_queue` itself where no thread may sleep, where a thread takes
 //! elements out by batches, or where parties have rooms of their own.
 //!
-//! `pair` creates a channel, `sender` and `receiver` have its two sides, and `errors` what they return where nothing
+//! `pair` creates a channel, `laws` has calls in a row, `sender` and `receiver` have its two sides, and `errors` what they return where nothing
 //! goes through. `register` has the parties of senders that ended, `place` the place in which each is left, `bell` what
 //! threads sleep on, and `shared` what both sides share.
 //!
@@ -21,6 +21,7 @@
 
 mod bell;
 mod errors;
+pub mod laws;
 mod pair;
 mod place;
 mod receiver;

@@ -1,0 +1,3 @@
+//! Channels: senders and a receiver over the queue that threads share, which wait, end, and say so.
+
+pub use cordyceps_channel::{Disconnected, Receiver, Sender, TryRecvError, TrySendError, channel};
