@@ -124,6 +124,39 @@ def is_for_all(header):
     return bool(of) and all(re.search(rf"[<,]\s*{re.escape(it)}\s*[:,>]", parameters) for it in named)
 
 
+def named_by(header):
+    """How many arguments an `impl` names of the type that it is of.
+
+    >>> named_by("impl<'a, T: Linked<Links<T>>> CursorMut<'a, T> {\\n"), named_by("impl Steps {\\n")
+    (2, 0)
+    """
+    of = re.match(r"impl\s+\w+(<[^<>]*>)?", without_parameters(header))
+    return arguments_in(of[1] or "") if of else 0
+
+
+def declared_by(name, text):
+    """How many parameters a type of this name declares.
+
+    >>> declared_by("CursorMut", "pub struct CursorMut<'a, T, N: OwnsNodes<T> = OwnedCursor<T, u8>> {\\n}")
+    3
+    >>> declared_by("Steps", "pub struct Steps {\\n}")
+    0
+    """
+    found = re.search(rf"^(?:pub(?:\([a-z]+\))? )?(?:struct|enum|trait) {name}\b(<.*)?", text, re.M | re.S)
+    after = f"impl{found[1] or ''}" if found else "impl"
+    return arguments_in(after[len("impl") : len(after) - len(without_parameters(after)) + len("impl")])
+
+
+def arguments_in(text):
+    """How many arguments stand between the outer brackets of a text.
+
+    >>> [arguments_in(it) for it in ("", "<T>", "<'a, T, ByFn<T, F>>")]
+    [0, 1, 3]
+    """
+    depths = [text[:at].count("<") - text[:at].count(">") for at, it in enumerate(text) if it == ","]
+    return depths.count(1) + 1 if text else 0
+
+
 def is_generic(function, text):
     """Whether a function, or the `impl` or trait that it stands in, has parameters beside lifetimes.
 

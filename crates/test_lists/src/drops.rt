@@ -1,4 +1,5 @@
-//! The order in which lists, their iterators and a chain's cursor drop what they hold.
+//! The order in which lists, their iterators and a chain's cursor drop what they hold, and what a cursor that is
+//! forgotten leaves.
 ghost use Rattle.std.specs.Prelude.{◌≡◌};
 
 use crate::compared::{made, same};
@@ -10,6 +11,7 @@ use cordyceps_base::{list, stack};
 use cordyceps_list::list::List;
 use std::alloc::Global;
 use std::cell::Cell;
+use std::mem;
 use std::process::Abort;
 use std::rc::Rc;
 use test_support::nodes::node_of;
@@ -81,6 +83,20 @@ fn an_iterator_drops_what_is_left_in_order(rt: HostRuntime) {
     same(&rt, order.get(), 12345);
     drop(last);
     same(&rt, order.get(), 123456);
+}
+
+/// A cursor that is forgotten keeps the nodes, which are then never dropped. Its list is empty, and takes nodes again.
+#[test]
+fn a_forgotten_cursor_leaves_the_list_empty(rt: HostRuntime) {
+    let order = made(&rt, Rc::new(rt.alloc(), Cell::new(0u64)));
+    let mut list = noted_list(&rt, rt.alloc(), &order);
+    mem::forget(list.cursor_front_mut());
+    same(&rt, list.len(), 0);
+    has_place(&rt, list.len());
+    list.push_back(digit_node(&rt, rt.alloc(), 7, &order));
+    same(&rt, list.len(), 1);
+    drop(list);
+    same(&rt, order.get(), 7);
 }
 
 /// Moves a cursor over a chain of the digits 1 to 3 this often, and asserts that its drop frees all.
