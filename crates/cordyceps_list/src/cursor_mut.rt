@@ -1,4 +1,18 @@
 //! Cursors that change a list.
+//!
+//! ```text
+//! while the cursor is there            once it has been dropped
+//!
+//! list      no nodes                   list      o <-> o <-> o
+//!
+//! cursor    o <-> o <-> o
+//!                 ^
+//!           address and index
+//! ```
+//!
+//! `cursor_mut`, `cursor_front_mut` and `cursor_back_mut` take the nodes out of the list, and the cursor's drop puts
+//! them back. The cursor borrows the list for as long, so no other code sees the list without its nodes, unless the
+//! cursor is forgotten. `owned` has the cursor's steps, and says why a cursor owns the nodes.
 ghost use Rattle.std.specs.Prelude.{◌≡◌, ◌+◌, ◌-◌, ◌<◌, ◌≤◌, ◌==◌, [], ◌∷◌, ◌++◌, take, drop, length, slice_get, option_copied, option_map};
 ghost use Rattle.std.specs.Option.{option_copied_mut};
 ghost use Rattle.std.specs.Borrow.{sem};
@@ -65,6 +79,14 @@ impl<T: Linked<Links<T>>> List<T> {
     ///
     /// # Complexity
     /// O(1).
+    ///
+    /// # Examples
+    /// From `tour::take_the_second` of `cordyceps_uses`:
+    /// ```
+    /// let mut cursor = jobs.cursor_front_mut();
+    /// cursor.move_next();
+    /// Ok(cursor.remove_current())
+    /// ```
     pub fn cursor_front_mut(&mut self) -> CursorMut<'_, T>
         ensures same_reference { lender result ≡ self.entry.ghost_name }
         ensures elements { elements result ≡ self.old }
@@ -202,6 +224,15 @@ impl<'a, T: Linked<Links<T>>> CursorMut<'a, T> {
     ///
     /// # Complexity
     /// O(1).
+    ///
+    /// # Examples
+    /// From `replay::blocks::set` of `cordyceps_tables`:
+    /// ```
+    /// let Some(item) = cursor.current_mut() else {
+    ///     return nothing();
+    /// };
+    /// item.value = value;
+    /// ```
     #[tactic(auto, using(cordyceps_base::proofs::Places::length_with_value))]
     pub fn current_mut(&mut self) -> Option<&mut T>
         ensures* writes_back { sem 𝓛
@@ -280,6 +311,15 @@ impl<'a, T: Linked<Links<T>>> CursorMut<'a, T> {
     ///
     /// # Complexity
     /// O(1).
+    ///
+    /// # Examples
+    /// From `replay::blocks::insert` of `cordyceps_tables`:
+    /// ```
+    /// match side {
+    ///     Side::After => cursor.insert_after(node),
+    ///     Side::Before => cursor.insert_before(node),
+    /// }
+    /// ```
     pub fn insert_before(&mut self, handle: T::Handle)
         requires { length (elements self.old) < usize.MAX }
         ensures { Stands self.old self.new
@@ -315,6 +355,14 @@ impl<'a, T: Linked<Links<T>>> CursorMut<'a, T> {
     ///
     /// # Complexity
     /// O(1).
+    ///
+    /// # Examples
+    /// From `tour::take_the_second` of `cordyceps_uses`:
+    /// ```
+    /// let mut cursor = jobs.cursor_front_mut();
+    /// cursor.move_next();
+    /// Ok(cursor.remove_current())
+    /// ```
     pub fn remove_current(&mut self) -> Option<T::Handle>
         ensures answer { option_map T.element result ≡ slice_get (elements self.old) (place self.old) }
         ensures stands { Stands self.old self.new
@@ -332,6 +380,15 @@ impl<'a, T: Linked<Links<T>>> CursorMut<'a, T> {
     ///
     /// # Complexity
     /// O(1).
+    ///
+    /// # Examples
+    /// From `replay::blocks::put` of `cordyceps_tables`:
+    /// ```
+    /// match side {
+    ///     Side::After => cursor.splice_after(more),
+    ///     Side::Before => cursor.splice_before(more),
+    /// }
+    /// ```
     pub fn splice_before(&mut self, list: List<T>)
         requires { length (elements self.old) + length list ≤ usize.MAX }
         ensures { Stands self.old self.new
@@ -368,6 +425,15 @@ impl<'a, T: Linked<Links<T>>> CursorMut<'a, T> {
     ///
     /// # Complexity
     /// O(1).
+    ///
+    /// # Examples
+    /// From `replay::blocks::cut` of `cordyceps_tables`:
+    /// ```
+    /// match side {
+    ///     Side::After => cursor.split_after(),
+    ///     Side::Before => cursor.split_before(),
+    /// }
+    /// ```
     pub fn split_after(&mut self) -> List<T>
         ensures within { place self.old ≤ length (elements self.old) }
         ensures inside { place self.old < length (elements self.old)
@@ -404,6 +470,22 @@ impl<'a, T: Linked<Links<T>>> CursorMut<'a, T> {
     ///
     /// # Complexity
     /// O(k), for k values that the predicate is called on.
+    ///
+    /// # Examples
+    /// From `replay::blocks::remove_first` of `cordyceps_tables`:
+    /// ```
+    /// let mut turn = true;
+    /// let removed = cursor.remove_first(
+    ///     move |item: &Item| -> bool
+    ///         ensures answer { result ≡ passes filter turn.entry item.now }
+    ///         ensures turned { turn.exit ≡ not turn.entry }
+    ///     {
+    ///         let is = passes(filter, turn, item);
+    ///         turn = !turn;
+    ///         is
+    ///     },
+    /// );
+    /// ```
     pub fn remove_first<F: FnMut(&T) -> bool + Drop>(
         &mut self,
         mut predicate: F,

@@ -55,6 +55,16 @@ impl<T: Linked<Links<T>>> List<T> {
     ///
     /// # Complexity
     /// O(1), and O(n) for the whole iteration, for n elements.
+    ///
+    /// # Examples
+    /// From `examples::move_urgent` of `cordyceps_uses`:
+    /// ```
+    /// let mut out = jobs.drain_filter(move |job: &Job| job.rank <= most);
+    /// // `next` passes the jobs that stay, and returns the next one to move.
+    /// while let Some(job) = out.next() {
+    ///     urgent.push_back(job);
+    /// }
+    /// ```
     pub fn drain_filter<F: FnMut(&T) -> bool + Drop>(
         &mut self,
         predicate: F,

@@ -17,6 +17,15 @@ use std::marker::Model;
 ///
 /// # Complexity
 /// Each `next` and each `next_back` is O(1).
+///
+/// # Examples
+/// From `replay::walks::look` of `cordyceps_tables`:
+/// ```
+/// match turn {
+///     Turn::Next => items.next().copied(),
+///     Turn::NextBack => items.next_back().copied(),
+/// }
+/// ```
 #[derive(Drop)]
 pub struct Iter<'a, T> {
     chain: &'a DoubleChain<T>,
@@ -182,6 +191,15 @@ impl<'a, T: Linked<Links<T>>> IntoIterator for &'a List<T> {
 ///
 /// # Complexity
 /// Each `next` and each `next_back` is O(1). Dropping is O(n), for n elements that are left.
+///
+/// # Examples
+/// From `replay::walks::take` of `cordyceps_tables`:
+/// ```
+/// match turn {
+///     Turn::Next => items.next().map(Node::into_value),
+///     Turn::NextBack => items.next_back().map(Node::into_value),
+/// }
+/// ```
 #[derive(Drop)]
 pub struct IntoIter<T> {
     list: List<T>,

@@ -16,6 +16,15 @@ use cordyceps_base::linked::Linked;
 ///
 /// # Complexity
 /// Each `next` and each `next_back` is O(1).
+///
+/// # Examples
+/// From `replay::walks::bump` of `cordyceps_tables`:
+/// ```
+/// let mut items = list.iter_mut();
+/// while let Some(item) = items.next() {
+///     item.value = item.value.wrapping_add(by);
+/// }
+/// ```
 pub struct IterMut<'a, T> {
     list: &'a mut List<T>,
     front: usize,

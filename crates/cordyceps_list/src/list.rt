@@ -310,6 +310,14 @@ impl<T: Linked<Links<T>>> List<T> {
     ///
     /// # Complexity
     /// O(1).
+    ///
+    /// # Examples
+    /// From `laws::append_split_off` of `cordyceps_list`:
+    /// ```
+    /// let mut rest = list.split_off(index);
+    /// let shown = look(&*list, &rest);
+    /// list.append(&mut rest);
+    /// ```
     pub fn append(&mut self, other: &mut List<T>)
         requires { length self.old + length other.old ≤ usize.MAX }
         ensures joined { self.new ≡ self.old ++ other.old }
@@ -327,6 +335,14 @@ impl<T: Linked<Links<T>>> List<T> {
     ///
     /// # Complexity
     /// O(min(index, n - index)), for n elements: it walks from the nearer end.
+    ///
+    /// # Examples
+    /// From `laws::append_split_off` of `cordyceps_list`:
+    /// ```
+    /// let mut rest = list.split_off(index);
+    /// let shown = look(&*list, &rest);
+    /// list.append(&mut rest);
+    /// ```
     pub fn split_off(&mut self, index: usize) -> List<T>
         requires { index ≤ length self.old }
         ensures kept { self.new ≡ take index self.old }
@@ -343,6 +359,15 @@ impl<T: Linked<Links<T>>> List<T> {
     ///
     /// # Complexity
     /// O(min(index, n - index)), for n elements: it walks from the nearer end.
+    ///
+    /// # Examples
+    /// From `replay::lists::split` of `cordyceps_tables`:
+    /// ```
+    /// let Some(rest) = lists[list].try_split_off(index) else {
+    ///     return nothing();
+    /// };
+    /// lists[other] = rest;
+    /// ```
     pub fn try_split_off(&mut self, index: usize) -> Option<List<T>>
         ensures variant { IsSome result ↔ (index ≤ length self.old) }
         ensures some { IfSome result (λ rest. (self.new ≡ take index self.old) × (rest ≡ drop index self.old)) }
