@@ -10,13 +10,14 @@ use std::sync::Wait;
 use std::sync::atomic::{AtomicU64, Ordering};
 use std::thread;
 use std::thread::Threads;
+use std::time::{Clock, Duration};
 use test_support::counted::{Counted, Drops};
 
 /// How many elements each thread sends, where the receiver does not end first.
-const EACH: u64 = 300;
+const EACH: u64 = 60;
 
 /// After how many elements a thread rests.
-const PART: u64 = 100;
+const PART: u64 = 25;
 
 /// How far the first numbers of threads are apart.
 const FAR: u64 = 1_000_000_000;
@@ -54,15 +55,14 @@ struct Counts {
     back: AtomicU64,
 }
 
-/// Lets other threads run, until those that wait for this one sleep.
-fn rest() {
-    for _ in 0..200u64 {
-        thread::yield_now();
-    }
+/// Sleeps, so that threads that wait for this one sleep too. A yield would give the processor away for much longer, if
+/// other programs run on it.
+fn rest(rt: &impl Clock) {
+    thread::sleep(rt, Duration::from_micros(100));
 }
 
 /// Sends an element as soon as a try to send it finds a room, and returns whether it was sent.
-fn poll(sender: &mut Sender<Counted>, node: Handle) -> bool {
+fn poll(rt: &impl Clock, sender: &mut Sender<Counted>, node: Handle) -> bool {
     let mut node = node;
     for _ in 0..u64::MAX {
         match sender.try_send(node) {
@@ -70,16 +70,21 @@ fn poll(sender: &mut Sender<Counted>, node: Handle) -> bool {
             Err(TrySendError::Disconnected(_)) => return false,
             Err(TrySendError::Full(back)) => node = back,
         }
-        thread::yield_now();
+        rest(rt);
     }
     false
 }
 
 /// Sends an element, and returns whether it was sent.
-fn send<R: Abort + Wait>(rt: &R, sender: &mut Sender<Counted>, way: Way, node: Handle) -> bool {
+fn send<R: Abort + Wait + Clock>(
+    rt: &R,
+    sender: &mut Sender<Counted>,
+    way: Way,
+    node: Handle,
+) -> bool {
     match way {
         Way::Wait => sender.send(rt, node).is_ok(),
-        Way::Poll => poll(sender, node),
+        Way::Poll => poll(rt, sender, node),
         Way::Clone => {
             let mut other = made(rt, sender.try_clone(rt));
             let is_sent = other.send(rt, node).is_ok();
@@ -90,7 +95,7 @@ fn send<R: Abort + Wait>(rt: &R, sender: &mut Sender<Counted>, way: Way, node: H
 }
 
 /// Sends elements with the numbers from `first` on, until one comes back.
-fn send_all<R: Abort + Wait>(
+fn send_all<R: Abort + Wait + Clock>(
     rt: &R,
     alloc: Global,
     sender: Sender<Counted>,
@@ -101,7 +106,7 @@ fn send_all<R: Abort + Wait>(
     let mut sender = sender;
     for index in 0..plan.each {
         if index % PART == 0 {
-            rest();
+            rest(rt);
         }
         let node = element(rt, alloc, first.wrapping_add(index), &counts.drops);
         counts.made.fetch_add(1, Ordering::SeqCst);
@@ -110,11 +115,11 @@ fn send_all<R: Abort + Wait>(
             return;
         }
     }
-    rest();
+    rest(rt);
 }
 
 /// Receives an element, or returns `None` if all senders have ended.
-fn receive<R: Wait>(rt: &R, receiver: &mut Receiver<Counted>, way: Way) -> Option<Handle> {
+fn receive<R: Wait + Clock>(rt: &R, receiver: &mut Receiver<Counted>, way: Way) -> Option<Handle> {
     if !matches!(way, Way::Poll) {
         return receiver.recv(rt).ok();
     }
@@ -122,7 +127,7 @@ fn receive<R: Wait>(rt: &R, receiver: &mut Receiver<Counted>, way: Way) -> Optio
         match receiver.try_recv() {
             Ok(node) => return Some(node),
             Err(TryRecvError::Disconnected) => return None,
-            Err(TryRecvError::Empty) => thread::yield_now(),
+            Err(TryRecvError::Empty) => rest(rt),
         }
     }
     None
@@ -130,7 +135,7 @@ fn receive<R: Wait>(rt: &R, receiver: &mut Receiver<Counted>, way: Way) -> Optio
 
 /// Receives as many elements as are wanted, or until all senders have ended. Returns how many came, and whether those
 /// of each thread came in order.
-fn receive_all<R: Abort + Wait>(
+fn receive_all<R: Abort + Wait + Clock>(
     rt: &R,
     alloc: Global,
     receiver: Receiver<Counted>,
@@ -144,7 +149,7 @@ fn receive_all<R: Abort + Wait>(
     let mut in_order = true;
     for count in 0..plan.most {
         if count % PART == 0 {
-            rest();
+            rest(rt);
         }
         let Some(node) = receive(rt, &mut receiver, plan.way) else {
             return (count, in_order);
@@ -157,13 +162,13 @@ fn receive_all<R: Abort + Wait>(
             None => in_order = false,
         }
     }
-    rest();
+    rest(rt);
     (plan.most, in_order)
 }
 
 /// Starts a thread for each sender, and receives on this one. Asserts how many elements came and how many came back,
 /// and that each was dropped once.
-fn run<R: Abort + Threads + Wait + Sync>(rt: &R, alloc: Global, plan: Plan) {
+fn run<R: Abort + Threads + Wait + Clock + Sync>(rt: &R, alloc: Global, plan: Plan) {
     at_most(rt, plan.rooms, MAX_ROOMS);
     let (first, receiver) = made(rt, channel(alloc, plan.rooms));
     let mut sender = first;
@@ -207,7 +212,7 @@ fn run<R: Abort + Threads + Wait + Sync>(rt: &R, alloc: Global, plan: Plan) {
 }
 
 /// Runs plans of each number of threads.
-fn run_each<R: Abort + Threads + Wait + Sync>(
+fn run_each<R: Abort + Threads + Wait + Clock + Sync>(
     rt: &R,
     alloc: Global,
     way: Way,
@@ -246,7 +251,7 @@ fn a_receiver_is_told_when_nothing_was_sent(rt: HostRuntime) {
 #[test]
 fn senders_get_their_elements_back_when_the_receiver_ends(rt: HostRuntime) {
     for way in [Way::Wait, Way::Poll, Way::Clone] {
-        for (rooms, most) in [(0, 0), (1, 0), (1, 150), (2, 150), (256, 150), (4096, 150)] {
+        for (rooms, most) in [(0, 0), (1, 0), (1, 60), (2, 60), (256, 60), (4096, 60)] {
             run_each(&rt, rt.alloc(), way, rooms, FAR, most);
         }
     }
