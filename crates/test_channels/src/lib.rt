@@ -1,5 +1,6 @@
 //! Tests of channels: tables of calls on one thread and what each replies, with ends of either side and drops; threads
-//! that send to one through few rooms, while senders come and go or the receiver ends; and memory that is refused.
+//! that send to one through few rooms, while senders come and go or the receiver ends; memory that is refused; and what
+//! can be sent to a thread.
 #![tactic(auto)]
 
 #[cfg(test)]
@@ -12,3 +13,5 @@ mod crowds;
 mod memory;
 #[cfg(test)]
 mod one_thread;
+#[cfg(test)]
+mod travels;
