@@ -1,25 +1,51 @@
-//! The calls of a channel on one thread.
+//! The calls of a channel on one thread, and what they reply.
 
-use crate::compared::{made, same};
+use crate::compared::{at_most, made, same};
 use cordyceps_base::mpsc_queue::Links;
 use cordyceps_base::node::Node;
+use cordyceps_base::shared::MAX_ROOMS;
 use cordyceps_channel::{Disconnected, Receiver, Sender, TryRecvError, TrySendError, channel};
 use std::alloc::Global;
+use std::mem;
 use std::process::Abort;
+use std::sync::Wait;
 use test_support::counted::{Counted, Drops, counted_node};
 
 /// What a channel takes and returns.
 pub type Handle = Node<Counted, Links<Counted>>;
 
-/// What a try to send or to receive answered, with the number of the element.
-#[derive(Clone, Copy, PartialEq, Eq, Debug)]
-enum Answer {
-    Sent,
+/// A call of the receiver, or of the sender with a place. Those that send have the number of the element.
+#[derive(Clone, Copy)]
+pub enum Call {
+    TrySend(usize, u64),
+    Send(usize, u64),
+    /// Sends elements until no room is free, and counts them.
+    Fill(usize),
+    /// Clones the first sender into the place of the second one.
+    Clone(usize, usize),
+    EndSender(usize),
+    ForgetSender(usize),
+    TryRecv,
+    Recv,
+    /// Receives elements until none is there, and counts them.
+    Drain,
+    EndReceiver,
+    /// Counts the elements that were dropped.
+    Drops,
+}
+
+/// What a call replies, with the number of an element or a count.
+#[derive(Clone, Copy, PartialEq, Eq, Debug, Drop)]
+pub enum Reply {
+    Done,
     Full(u64),
+    /// The receiver has ended, and the element came back.
+    Back(u64),
     Received(u64),
     Empty,
     Disconnected,
-    Refused(u64),
+    Count(u64),
+    NotThere,
 }
 
 /// Returns an element of this number.
@@ -27,54 +53,155 @@ pub fn element(rt: &impl Abort, alloc: Global, number: u64, drops: &Drops) -> Ha
     made(rt, counted_node(alloc, number, number, drops))
 }
 
-/// Tries to send an element.
-fn send(sender: &mut Sender<Counted>, node: Handle) -> Answer {
-    match sender.try_send(node) {
-        Ok(()) => Answer::Sent,
-        Err(TrySendError::Full(node)) => Answer::Full(node.id()),
-        Err(TrySendError::Disconnected(node)) => Answer::Refused(node.id()),
+/// Returns what a call that tries to send replied.
+fn tried(sent: Result<(), TrySendError<Handle>>) -> Reply {
+    match sent {
+        Ok(()) => Reply::Done,
+        Err(TrySendError::Full(node)) => Reply::Full(node.id()),
+        Err(TrySendError::Disconnected(node)) => Reply::Back(node.id()),
     }
 }
 
-/// Tries to receive an element.
-fn receive(receiver: &mut Receiver<Counted>) -> Answer {
-    match receiver.try_recv() {
-        Ok(node) => Answer::Received(node.id()),
-        Err(TryRecvError::Empty) => Answer::Empty,
-        Err(TryRecvError::Disconnected) => Answer::Disconnected,
+/// The two sides of a channel. There are four places for senders.
+#[derive(Drop)]
+pub struct Sides {
+    senders: Vec<Option<Sender<Counted>>>,
+    receiver: Option<Receiver<Counted>>,
+    drops: Drops,
+}
+
+impl Sides {
+    /// Creates a channel, whose first sender has the place 0.
+    pub fn new(rt: &impl Abort, alloc: Global, rooms: usize) -> Sides {
+        at_most(rt, rooms, MAX_ROOMS);
+        let (first, receiver) = made(rt, channel(alloc, rooms));
+        let mut senders = Vec::new(alloc);
+        made(rt, senders.push(Some(first)));
+        for _ in 1..4u64 {
+            made(rt, senders.push(None));
+        }
+        Sides {
+            senders,
+            receiver: Some(receiver),
+            drops: made(rt, Drops::new(alloc)),
+        }
+    }
+
+    /// Makes a call of a sender.
+    fn by_sender<R: Abort + Wait>(
+        &mut self,
+        rt: &R,
+        alloc: Global,
+        at: usize,
+        call: Call,
+    ) -> Reply {
+        let Some(place) = self.senders.get_mut(at) else {
+            return Reply::NotThere;
+        };
+        let Some(mut sender) = place.take() else {
+            return Reply::NotThere;
+        };
+        let mut other = None;
+        let mut reply = Reply::Done;
+        match call {
+            Call::TrySend(_, number) => reply = tried(sender.try_send(element(
+                rt,
+                alloc,
+                number,
+                &self.drops,
+            ))),
+            Call::Send(_, number) => {
+                if let Err(Disconnected { value }) = sender.send(
+                    rt,
+                    element(rt, alloc, number, &self.drops),
+                ) {
+                    reply = Reply::Back(value.id());
+                }
+            }
+            Call::Clone(_, to) => other = Some((to, made(rt, sender.try_clone(rt)))),
+            Call::ForgetSender(_) => {
+                mem::forget(sender);
+                return reply;
+            }
+            _ => return reply,
+        }
+        *place = Some(sender);
+        if let Some((to, clone)) = other {
+            if let Some(place) = self.senders.get_mut(to) {
+                *place = Some(clone);
+            }
+        }
+        reply
+    }
+
+    /// Makes a call of the receiver.
+    fn by_receiver<R: Wait>(&mut self, rt: &R, call: Call) -> Reply {
+        let Some(receiver) = &mut self.receiver else {
+            return Reply::NotThere;
+        };
+        if let Call::Recv = call {
+            return match receiver.recv(rt) {
+                Ok(node) => Reply::Received(node.id()),
+                Err(Disconnected { value: () }) => Reply::Disconnected,
+            };
+        }
+        match receiver.try_recv() {
+            Ok(node) => Reply::Received(node.id()),
+            Err(TryRecvError::Empty) => Reply::Empty,
+            Err(TryRecvError::Disconnected) => Reply::Disconnected,
+        }
+    }
+
+    /// Sends elements until no room is free, and returns how many.
+    fn fill<R: Abort + Wait>(&mut self, rt: &R, alloc: Global, at: usize) -> u64 {
+        for count in 0..u64::MAX {
+            if self.by_sender(rt, alloc, at, Call::TrySend(at, count)) != Reply::Done {
+                return count;
+            }
+        }
+        u64::MAX
+    }
+
+    /// Receives elements until none is there, and returns how many.
+    fn drain<R: Wait>(&mut self, rt: &R) -> u64 {
+        for count in 0..u64::MAX {
+            if !matches!(self.by_receiver(rt, Call::TryRecv), Reply::Received(_)) {
+                return count;
+            }
+        }
+        u64::MAX
+    }
+
+    /// Makes a call, and returns what it replies.
+    fn call<R: Abort + Wait>(&mut self, rt: &R, alloc: Global, call: Call) -> Reply {
+        match call {
+            Call::TrySend(at, _)
+            | Call::Send(at, _)
+            | Call::Clone(at, _)
+            | Call::EndSender(at)
+            | Call::ForgetSender(at) => self.by_sender(rt, alloc, at, call),
+            Call::Fill(at) => Reply::Count(self.fill(rt, alloc, at)),
+            Call::TryRecv | Call::Recv => self.by_receiver(rt, call),
+            Call::Drain => Reply::Count(self.drain(rt)),
+            Call::EndReceiver => {
+                self.receiver = None;
+                Reply::Done
+            }
+            Call::Drops => Reply::Count(self.drops.count()),
+        }
+    }
+
+    /// Makes the calls of a table, and asserts what each replies.
+    pub fn replies<R: Abort + Wait>(&mut self, rt: &R, alloc: Global, lines: &[(Call, Reply)]) {
+        for (call, wanted) in lines {
+            same(rt, self.call(rt, alloc, *call), *wanted);
+        }
     }
 }
 
-#[test]
-fn elements_come_out_in_order_until_the_last_sender_has_ended(rt: HostRuntime) {
-    let alloc = rt.alloc();
-    let drops = made(&rt, Drops::new(alloc));
-    let (mut first, mut receiver) = made(&rt, channel(alloc, 2));
-    let mut second = made(&rt, first.try_clone(&rt));
-    let mut answers = Vec::new(alloc);
-    made(&rt, answers.push(receive(&mut receiver)));
-    made(&rt, answers.push(send(&mut first, element(&rt, alloc, 1, &drops))));
-    made(&rt, answers.push(send(&mut second, element(&rt, alloc, 2, &drops))));
-    made(&rt, answers.push(send(&mut second, element(&rt, alloc, 3, &drops))));
-    made(&rt, answers.push(receive(&mut receiver)));
-    drop(first);
-    made(&rt, answers.push(send(&mut second, element(&rt, alloc, 4, &drops))));
-    made(&rt, answers.push(receive(&mut receiver)));
-    drop(second);
-    made(&rt, answers.push(receive(&mut receiver)));
-    made(&rt, answers.push(receive(&mut receiver)));
-    made(&rt, answers.push(receive(&mut receiver)));
-    let wanted = [
-        Answer::Empty,
-        Answer::Sent,
-        Answer::Sent,
-        Answer::Full(3),
-        Answer::Received(1),
-        Answer::Sent,
-        Answer::Received(2),
-        Answer::Received(4),
-        Answer::Disconnected,
-        Answer::Disconnected,
-    ];
-    same(&rt, answers.as_slice() == wanted.as_slice(), true);
+/// Makes the calls of each table at a new channel of so many rooms.
+pub fn each_replies<R: Abort + Wait>(rt: &R, alloc: Global, tables: &[(usize, &[(Call, Reply)])]) {
+    for (rooms, lines) in tables {
+        Sides::new(rt, alloc, *rooms).replies(rt, alloc, lines);
+    }
 }

@@ -1,5 +1,6 @@
-//! Tests of channels: each call and each answer on one thread, ends of either side, drops, and threads that send to one
-//! through few rooms.
+//! Tests of channels: tables of calls on one thread and what each replies, with ends of either side and drops; threads
+//! that send to one through few rooms, while senders come and go or the receiver ends; memory that is refused; and what
+//! can be sent to a thread.
 #![tactic(auto)]
 
 #[cfg(test)]
@@ -8,3 +9,9 @@ mod calls;
 mod compared;
 #[cfg(test)]
 mod crowds;
+#[cfg(test)]
+mod memory;
+#[cfg(test)]
+mod one_thread;
+#[cfg(test)]
+mod travels;

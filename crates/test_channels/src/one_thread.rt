@@ -1,0 +1,187 @@
+//! Tables of calls on one thread.
+
+use crate::calls::{Call, Reply, Sides, each_replies};
+
+/// A call, and what it has to reply.
+type Line = (Call, Reply);
+
+/// A channel without rooms takes no element.
+const NO_ROOM: [Line; 9] = [
+    (Call::TryRecv, Reply::Empty),
+    (Call::TrySend(0, 1), Reply::Full(1)),
+    (Call::Clone(0, 1), Reply::Done),
+    (Call::TrySend(1, 2), Reply::Full(2)),
+    (Call::TryRecv, Reply::Empty),
+    (Call::EndReceiver, Reply::Done),
+    (Call::TrySend(0, 3), Reply::Back(3)),
+    (Call::Send(1, 4), Reply::Back(4)),
+    (Call::EndSender(0), Reply::Done),
+];
+
+/// The senders of a channel without rooms end.
+const NO_SENDER: [Line; 4] = [
+    (Call::EndSender(0), Reply::Done),
+    (Call::TryRecv, Reply::Disconnected),
+    (Call::Recv, Reply::Disconnected),
+    (Call::TryRecv, Reply::Disconnected),
+];
+
+/// Two senders share a room.
+const ONE_ROOM: [Line; 18] = [
+    (Call::TrySend(0, 1), Reply::Done),
+    (Call::TrySend(0, 2), Reply::Full(2)),
+    (Call::Clone(0, 1), Reply::Done),
+    (Call::TrySend(1, 3), Reply::Full(3)),
+    (Call::TryRecv, Reply::Received(1)),
+    (Call::TrySend(1, 4), Reply::Done),
+    (Call::TrySend(0, 5), Reply::Full(5)),
+    (Call::Recv, Reply::Received(4)),
+    (Call::Send(0, 6), Reply::Done),
+    (Call::EndSender(0), Reply::Done),
+    (Call::Recv, Reply::Received(6)),
+    (Call::TryRecv, Reply::Empty),
+    (Call::Send(1, 7), Reply::Done),
+    (Call::EndSender(1), Reply::Done),
+    (Call::TryRecv, Reply::Received(7)),
+    (Call::Recv, Reply::Disconnected),
+    (Call::TryRecv, Reply::Disconnected),
+    (Call::EndReceiver, Reply::Done),
+];
+
+/// Elements of two senders come out in the order in which they were sent, and the receiver ends while one is held.
+const TWO_ROOMS: [Line; 14] = [
+    (Call::TryRecv, Reply::Empty),
+    (Call::Clone(0, 1), Reply::Done),
+    (Call::TrySend(0, 1), Reply::Done),
+    (Call::Send(1, 2), Reply::Done),
+    (Call::TrySend(1, 3), Reply::Full(3)),
+    (Call::Recv, Reply::Received(1)),
+    (Call::EndSender(0), Reply::Done),
+    (Call::TrySend(1, 4), Reply::Done),
+    (Call::TryRecv, Reply::Received(2)),
+    (Call::Clone(1, 0), Reply::Done),
+    (Call::EndSender(1), Reply::Done),
+    (Call::EndReceiver, Reply::Done),
+    (Call::TrySend(0, 5), Reply::Back(5)),
+    (Call::Send(0, 6), Reply::Back(6)),
+];
+
+#[test]
+fn each_call_replies(rt: HostRuntime) {
+    let tables = [
+        (0, &NO_ROOM[..]),
+        (0, &NO_SENDER[..]),
+        (1, &ONE_ROOM[..]),
+        (2, &TWO_ROOMS[..]),
+    ];
+    each_replies(&rt, rt.alloc(), &tables);
+}
+
+/// The receiver ends last.
+const RECEIVER_LAST: [Line; 10] = [
+    (Call::Clone(0, 1), Reply::Done),
+    (Call::TrySend(0, 1), Reply::Done),
+    (Call::TrySend(1, 2), Reply::Done),
+    (Call::TrySend(0, 3), Reply::Done),
+    (Call::TryRecv, Reply::Received(1)),
+    (Call::EndSender(1), Reply::Done),
+    (Call::EndSender(0), Reply::Done),
+    (Call::Drops, Reply::Count(1)),
+    (Call::EndReceiver, Reply::Done),
+    (Call::Drops, Reply::Count(3)),
+];
+
+/// A sender ends last. An element that came back is dropped too.
+const SENDER_LAST: [Line; 11] = [
+    (Call::Clone(0, 1), Reply::Done),
+    (Call::TrySend(0, 1), Reply::Done),
+    (Call::TrySend(1, 2), Reply::Done),
+    (Call::EndReceiver, Reply::Done),
+    (Call::Drops, Reply::Count(0)),
+    (Call::TrySend(0, 3), Reply::Back(3)),
+    (Call::Drops, Reply::Count(1)),
+    (Call::EndSender(0), Reply::Done),
+    (Call::Drops, Reply::Count(1)),
+    (Call::EndSender(1), Reply::Done),
+    (Call::Drops, Reply::Count(3)),
+];
+
+/// The receiver is told of the end, and ends last.
+const TOLD_LAST: [Line; 8] = [
+    (Call::TrySend(0, 1), Reply::Done),
+    (Call::EndSender(0), Reply::Done),
+    (Call::Drops, Reply::Count(0)),
+    (Call::Recv, Reply::Received(1)),
+    (Call::Drops, Reply::Count(1)),
+    (Call::Recv, Reply::Disconnected),
+    (Call::EndReceiver, Reply::Done),
+    (Call::Drops, Reply::Count(1)),
+];
+
+#[test]
+fn each_element_is_dropped_once(rt: HostRuntime) {
+    let tables = [
+        (4, &RECEIVER_LAST[..]),
+        (4, &SENDER_LAST[..]),
+        (4, &TOLD_LAST[..]),
+    ];
+    each_replies(&rt, rt.alloc(), &tables);
+}
+
+/// A sender is forgotten, and so its channel has no end.
+const FORGOTTEN: [Line; 8] = [
+    (Call::Clone(0, 1), Reply::Done),
+    (Call::TrySend(1, 1), Reply::Done),
+    (Call::ForgetSender(1), Reply::Done),
+    (Call::EndSender(0), Reply::Done),
+    (Call::TryRecv, Reply::Received(1)),
+    (Call::TryRecv, Reply::Empty),
+    (Call::TryRecv, Reply::Empty),
+    (Call::Drops, Reply::Count(1)),
+];
+
+#[test]
+fn a_receiver_is_not_told_of_a_sender_that_is_forgotten(rt: HostRuntime) {
+    each_replies(&rt, rt.alloc(), &[(2, &FORGOTTEN[..])]);
+}
+
+// No request for memory but those of the nodes is made in the loop, which `tools/refusals` counts.
+#[test]
+fn senders_come_and_go_a_thousand_times(rt: HostRuntime) {
+    let mut sides = Sides::new(&rt, rt.alloc(), 2);
+    for number in 0..1_000u64 {
+        let lines = [
+            (Call::Clone(0, 1), Reply::Done),
+            (Call::EndSender(0), Reply::Done),
+            (Call::TrySend(1, number), Reply::Done),
+            (Call::Clone(1, 0), Reply::Done),
+            (Call::EndSender(1), Reply::Done),
+            (Call::Recv, Reply::Received(number)),
+        ];
+        sides.replies(&rt, rt.alloc(), &lines);
+    }
+    let ends = [
+        (Call::TryRecv, Reply::Empty),
+        (Call::EndSender(0), Reply::Done),
+        (Call::Recv, Reply::Disconnected),
+    ];
+    sides.replies(&rt, rt.alloc(), &ends);
+}
+
+// A sender takes up to one in 256 rooms at a time, and at most 64, and leaves all others.
+#[test]
+fn a_sender_leaves_most_rooms_to_others(rt: HostRuntime) {
+    for (rooms, taken) in [(2u64, 1u64), (511, 1), (512, 2), (32_768, 64)] {
+        let lines = [
+            (Call::TrySend(0, 1), Reply::Done),
+            (Call::Clone(0, 1), Reply::Done),
+            (Call::Fill(1), Reply::Count(rooms.wrapping_sub(taken))),
+            (Call::Fill(0), Reply::Count(taken.wrapping_sub(1))),
+            (Call::Drain, Reply::Count(rooms)),
+            (Call::TrySend(0, 2), Reply::Done),
+            (Call::EndSender(0), Reply::Done),
+            (Call::Fill(1), Reply::Count(rooms.wrapping_sub(1))),
+        ];
+        each_replies(&rt, rt.alloc(), &[(rooms as usize, &lines[..])]);
+    }
+}
