@@ -1,9 +1,9 @@
 -- What a receiver knows that finds nothing where its party is whole.
-use Rattle.std.proofs.Common.{◌≡◌, List, [], ◌∷◌, ◌++◌, refl, sym, ap, ◌∙◌, append_assoc}
+use Rattle.std.proofs.Common.{◌≡◌, List, [], ◌∷◌, ◌++◌, sym, ap, ◌∙◌, append_assoc}
 use Rattle.std.specs.Prelude.{Err}
 use Rattle.std.proofs.lemmas.List.{append-nil}
 use Rattle.std.proofs.lemmas.List.Concat.{flat_map-append}
-use Rattle.cordyceps_shared.specs.Histories.{plain, own}
+use Rattle.cordyceps_shared.specs.Histories.{plain}
 use Rattle.cordyceps_shared.specs.Shares.{Name, whole}
 use Rattle.cordyceps_shared.specs.Standings.{name_of}
 use Rattle.cordyceps_shared.proofs.Adding.{plain_own, whole_adds}
@@ -11,7 +11,7 @@ use Rattle.cordyceps_queue.specs.declared.cores.steps.TryDequeueError.{TryDequeu
 use Rattle.cordyceps_queue.specs.declared.cores.steps.TryDequeueError.TheVariants as error
 use Rattle.cordyceps_queue.specs.History.{Event, Take, Look, Empty, Free, actor, comes, goes, came, went}
 use Rattle.cordyceps_queue.specs.Shared.Calls.{PartyOf, Legal, Dequeues, IsCertain}
-use Rattle.cordyceps_channel.specs.Channels.{received, IsOver}
+use Rattle.cordyceps_channel.specs.Channels.{IsOver}
 
 module _ {E : Type 0} where
   finds_all : (u w : PartyOf E) → u.share ≡ whole → Dequeues (Err error.Empty) u w → IsOver w

@@ -3,7 +3,7 @@ use Rattle.std.proofs.Common.{◌≡◌, ℕ, zero, suc, ◌+◌, ◌<◌, Bool,
 use Rattle.std.specs.declared.snapshot.Snapshot.{Snapshot}
 use Rattle.std.proofs.lemmas.List.{append-nil, length-append}
 use Rattle.atomic_table.specs.Seated.{TableId}
-use Rattle.cordyceps_shared.specs.Shares.{Name, whole, keeps_half, gives_half, join_shares}
+use Rattle.cordyceps_shared.specs.Shares.{Name, keeps_half, gives_half, join_shares}
 use Rattle.cordyceps_shared.specs.Histories.{own}
 use Rattle.cordyceps_shared.specs.Knowing.{without_marks}
 use Rattle.cordyceps_shared.specs.Standings.{Absorbs, GivesBack, new_party, keeping, giving}

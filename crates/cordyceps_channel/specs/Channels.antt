@@ -1,11 +1,11 @@
 -- What the senders and the receiver of a channel promise.
-use Rattle.std.specs.Prelude.{◌≡◌, ℕ, zero, suc, ◌+◌, List, [], ◌∷◌, ◌++◌, length, Bool, true, false}
+use Rattle.std.specs.Prelude.{◌≡◌, ℕ, zero, suc, List, [], ◌∷◌, ◌++◌, length, Bool, true, false}
 use Rattle.atomic_table.specs.Seated.{TableId}
 use Rattle.cordyceps_shared.specs.Histories.{plain, own}
 use Rattle.cordyceps_shared.specs.Knowing.{IsPrefixOf}
 use Rattle.cordyceps_shared.specs.Shares.{Name, whole, keeps_half, gives_half}
-use Rattle.cordyceps_queue.specs.History.{Event, came, went}
-use Rattle.cordyceps_queue.specs.Shared.Calls.{PartyOf, capacity}
+use Rattle.cordyceps_queue.specs.History.{came, went}
+use Rattle.cordyceps_queue.specs.Shared.Calls.{PartyOf, FindsFull, capacity}
 use Rattle.cordyceps_queue.specs.Shared.Moves.{Moves}
 use Rattle.cordyceps_channel.specs.declared.errors.TryRecvError.{TryRecvError}
 use Rattle.cordyceps_channel.specs.declared.errors.TryRecvError.TheVariants as nothing
@@ -39,10 +39,10 @@ module _ {E : Type 0} where
   abbrev pub SendsNothing : PartyOf E → PartyOf E → Type 0
   SendsNothing u w = Moves (λ x. x) [] [] u w
 
-  -- the sender sent nothing, and has e back
+  -- e comes back: the sender had no room, and found none in the pool; or the receiver had ended, and nothing was done
   abbrev pub HasBack : E → TrySendError E → PartyOf E → PartyOf E → Type 0
-  HasBack e (unsent.Full back) u w = (back ≡ e) × SendsNothing u w
-  HasBack e (unsent.Disconnected back) u w = (back ≡ e) × SendsNothing u w
+  HasBack e (unsent.Full back) u w = (back ≡ e) × FindsFull u w
+  HasBack e (unsent.Disconnected back) u w = (back ≡ e) × (w ≡ u)
 
   -- from u to w the receiver received these elements, in this order, and has seen more
   pub record Receives (es : List E) (u w : PartyOf E) : Type 0 where

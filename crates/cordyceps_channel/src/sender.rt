@@ -6,6 +6,7 @@
 //! and its own is whole again.
 ghost use Rattle.std.specs.Arc.{arc_value};
 ghost use Rattle.std.specs.Prelude.{◌≡◌, ◌<◌, true, false, IfOk, MatchResult};
+ghost use Rattle.cordyceps_queue.specs.Shared.Calls.{FindsFull};
 ghost use Rattle.cordyceps_channel.specs.Channels.{Sends, SendsNothing, HasBack, IsOpened, HasRegister, IsRegister};
 
 use crate::errors::{Disconnected, TrySendError};
@@ -101,12 +102,19 @@ impl<T: Linked<Links<T>>> Sender<T> {
     fn has_room(&mut self) -> bool
         ensures sends { SendsNothing self.old self.new }
         ensures room { result ≡ true → 0 < self.new.rooms }
+        ensures full { result ≡ false → FindsFull self.old self.new }
     {
         if self.party.rooms() > 0 {
             return true;
         }
         let shared = &self.shared;
-        shared.queue.refill_at_most(&mut self.party, shared.quantum) > 0
+        let taken = shared.queue.refill_at_most(&mut self.party, shared.quantum);
+        if taken == 0 {
+            return false;
+        }
+        // Another sender may have found the pool empty while this one had all of its rooms.
+        shared.freed.ring();
+        true
     }
 
     /// Sends an element, if a room is free.

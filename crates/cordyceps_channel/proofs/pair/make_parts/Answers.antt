@@ -1,4 +1,4 @@
-use Rattle.std.proofs.Common.{◌∙◌, ap, sym, subst}
+use Rattle.std.proofs.Common.{sym, subst}
 use Rattle.cordyceps_shared.specs.Standings.{GivesBack, keeping}
 use Rattle.cordyceps_channel.specs.Channels.{AreParties}
 use Rattle.cordyceps_channel.proofs.Registering.{are_parties}

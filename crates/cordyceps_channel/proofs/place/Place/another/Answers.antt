@@ -1,4 +1,4 @@
-use Rattle.std.proofs.Common.{[], rules, sym, ap, ◌∙◌}
+use Rattle.std.proofs.Common.{rules, sym, ap, ◌∙◌}
 use Rattle.cordyceps_channel.specs.Places.{in_hand}
 use Rattle.cordyceps_channel.proofs.Placing.{handle_copies}
 use Rattle.cordyceps_channel.proofs.place.Place.another.Goals as goal

@@ -1,4 +1,4 @@
-use Rattle.std.proofs.Common.{[], ◌∷◌, ℕ, Option, List, rules, sym, ap, ◌∙◌}
+use Rattle.std.proofs.Common.{rules}
 use mathlib.Core.Option.{none}
 use Rattle.atomic_table.specs.Table.{step}
 use Rattle.cordyceps_channel.proofs.Placing.{handle_opens}

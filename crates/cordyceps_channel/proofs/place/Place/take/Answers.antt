@@ -1,4 +1,4 @@
-use Rattle.std.proofs.Common.{◌≡◌, [], ◌∷◌, ℕ, Option, List, false, true, refl, rules, sym, ap, ◌∙◌, subst}
+use Rattle.std.proofs.Common.{◌≡◌, [], ◌∷◌, Option, false, true, rules, sym, ap, ◌∙◌, subst}
 use Rattle.std.specs.Prelude.{Some, None, MatchOption}
 use mathlib.Core.Option.{none}
 use Rattle.atomic_table.specs.Table.{step, rest}

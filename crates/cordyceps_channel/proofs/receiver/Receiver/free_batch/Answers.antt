@@ -1,6 +1,6 @@
 use Rattle.std.proofs.Common.{[], subst}
 use Rattle.cordyceps_channel.specs.Channels.{Receives}
-use Rattle.cordyceps_channel.proofs.Received.{moves_receives, receives_none, gives}
+use Rattle.cordyceps_channel.proofs.Received.{moves_receives, gives}
 use Rattle.cordyceps_channel.proofs.receiver.Receiver.free_batch.Goals as goal
 
 pub returns-clause-received : goal.returns-clause-received

@@ -1,4 +1,4 @@
-use Rattle.std.proofs.Common.{[], ◌∷◌, ◌∙◌, sym, ap, subst}
+use Rattle.std.proofs.Common.{[], ◌∷◌, ◌∙◌, ap, subst}
 use Rattle.std.specs.Prelude.{Ok, Err}
 use Rattle.cordyceps_queue.proofs.SharedTheory.PartyMoves.{moves_dequeue}
 use Rattle.cordyceps_channel.specs.Channels.{Receives}

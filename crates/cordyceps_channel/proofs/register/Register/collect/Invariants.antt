@@ -1,4 +1,4 @@
-use Rattle.std.proofs.Common.{ℕ, length}
+use Rattle.std.proofs.Common.{length}
 use Rattle.cordyceps_channel.specs.Channels.{IsRegister}
 use Rattle.cordyceps_channel.proofs.register.Register.collect.Given as goal
 

@@ -1,4 +1,4 @@
-use Rattle.std.proofs.Common.{[], ◌∷◌, ◌∙◌, subst, sym}
+use Rattle.std.proofs.Common.{◌∙◌, subst, sym}
 use Rattle.cordyceps_queue.proofs.SharedTheory.PartyMoves.{moves_enqueue}
 use Rattle.cordyceps_queue.proofs.SharedTheory.Sending.{then_enqueues}
 use Rattle.cordyceps_channel.specs.Channels.{SendsNothing}
