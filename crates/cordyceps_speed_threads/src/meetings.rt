@@ -4,7 +4,7 @@ use crate::seats::{AtBatches, AtConsumer, AtInbox, AtQueue, AtSegments, AtStack}
 use crate::threads::{Counted, Plan, measure};
 use cordyceps_queue::mpsc_queue::MpscQueue;
 use cordyceps_speed_rows::fault::Fault;
-use cordyceps_speed_rows::stacks::StackNode;
+use cordyceps_speed_rows::nodes::StackNode;
 use cordyceps_stack::stack::{MAX_ROOMS, Stack, TransferStack};
 use crossbeam_queue::SegQueue;
 use std::alloc::Global;

@@ -5,7 +5,7 @@ use crate::threads::Seat;
 use cordyceps_commands::Item;
 use cordyceps_queue::mpsc_queue;
 use cordyceps_queue::mpsc_queue::{Consumer, MpscQueue};
-use cordyceps_speed_rows::stacks::StackNode;
+use cordyceps_speed_rows::nodes::StackNode;
 use cordyceps_stack::stack;
 use cordyceps_stack::stack::{Inbox, Stack, TransferStack};
 use crossbeam_queue::SegQueue;
@@ -30,10 +30,6 @@ impl<'a> Seat for AtStack<'a> {
             stack: self.stack,
             party,
         }
-    }
-
-    fn for_taker(self) -> AtStack<'a> {
-        self
     }
 
     fn put<R: Wait>(&mut self, rt: &R, element: StackNode) -> Result<(), StackNode> {
@@ -72,10 +68,6 @@ impl<'a> Seat for AtBatches<'a> {
             batch: Stack::new(),
             waiting: 0,
         }
-    }
-
-    fn for_taker(self) -> AtBatches<'a> {
-        self
     }
 
     fn put<R: Wait>(&mut self, rt: &R, element: StackNode) -> Result<(), StackNode> {
@@ -169,10 +161,6 @@ impl<'a> Seat for AtQueue<'a> {
         }
     }
 
-    fn for_taker(self) -> AtQueue<'a> {
-        self
-    }
-
     fn put<R: Wait>(&mut self, _rt: &R, element: StackNode) -> Result<(), StackNode> {
         match self.queue.try_enqueue(&mut self.party, element.into_kind()) {
             Ok(()) => Ok(()),
@@ -248,10 +236,6 @@ pub struct AtSegments<'a>(pub &'a SegQueue<StackNode>);
 impl<'a> Seat for AtSegments<'a> {
     fn split(&mut self, _rooms: usize) -> AtSegments<'a> {
         AtSegments(self.0)
-    }
-
-    fn for_taker(self) -> AtSegments<'a> {
-        self
     }
 
     fn put<R: Wait>(&mut self, rt: &R, element: StackNode) -> Result<(), StackNode> {

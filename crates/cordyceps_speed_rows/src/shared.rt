@@ -1,0 +1,265 @@
+//! Collections that threads share, by one party that is alone, and free lists. A look at the party's rooms comes before
+//! each push.
+ghost use Rattle.std.specs.Prelude.{◌≡◌};
+
+use crate::fault::Fault;
+use crate::nodes::StackNode;
+use crate::passages::Act::{Pass, Put, Take, Unpack};
+use crate::passages::{Act, Passage, show};
+use crate::table::Step::{Off, On};
+use crate::table::{Row, Table, added};
+use crate::vectors::{keep, with_room};
+use cordyceps_base::mpsc_queue::Links;
+use cordyceps_base::node::Node;
+use cordyceps_base::stack;
+use cordyceps_commands::Item;
+use cordyceps_queue::mpsc_queue;
+use cordyceps_queue::mpsc_queue::{Batch, MpscQueue};
+use cordyceps_single::stack::Stack;
+use cordyceps_stack::stack::{MAX_ROOMS, Party, TransferStack};
+use freelist::{FreeList, Local};
+use std::time::Clock;
+
+const TRANSFERS: [Row<Act>; 2] = [
+    ("TransferStack: try_push", "one", &[On(Put), Off(Take)]),
+    (
+        "TransferStack: take_all",
+        "an element's share, and its pop",
+        &[Off(Put), On(Take)],
+    ),
+];
+
+const QUEUES: [Row<Act>; 3] = [
+    ("MpscQueue: enqueue", "one", &[On(Put), Off(Take)]),
+    ("MpscQueue: try_dequeue", "one", &[Off(Put), On(Take)]),
+    ("MpscQueue: one by one", "either", &[On(Pass)]),
+];
+
+const CONSUMERS: [Row<Act>; 1] = [("Consumer: try_dequeue", "one", &[Off(Put), On(Take)])];
+
+const BATCHES: [Row<Act>; 1] = [(
+    "Consumer: take_linked(64)",
+    "an element's share, the batch not gone through",
+    &[Off(Put), On(Take), Off(Unpack)],
+)];
+
+const LOCALS: [Row<Act>; 2] = [
+    ("FreeList: put", "one", &[On(Put), Off(Take)]),
+    ("FreeList: get", "one", &[Off(Put), On(Take)]),
+];
+
+const REMOTES: [Row<Act>; 1] = [("FreeList: put_remote", "one", &[On(Put), Off(Take)])];
+
+/// How many elements a batch has at most.
+const BATCH: usize = 64;
+
+/// What goes into a queue, and comes out.
+type QueueNode = Node<Item, Links<Item>>;
+
+/// A party at its stack, and what it took and did not hand out yet.
+#[derive(Drop)]
+struct AtStack {
+    stack: TransferStack<Item>,
+    party: Party<Item>,
+    taken: Stack<Item>,
+    ghost seated: { party.table ≡ stack },
+}
+
+impl Passage<stack::Links<Item>> for AtStack {
+    fn push(&mut self, node: StackNode) {
+        if self.party.rooms() > 0 {
+            drop(self.stack.try_push(&mut self.party, node));
+        }
+    }
+
+    fn pop(&mut self) -> Option<StackNode> {
+        if self.taken.is_empty() {
+            self.taken = self.stack.take_all(&mut self.party);
+        }
+        self.taken.pop()
+    }
+}
+
+/// A party at its queue.
+#[derive(Drop)]
+struct AtQueue {
+    queue: MpscQueue<Item>,
+    party: mpsc_queue::Party<Item>,
+    ghost seated: { party.table ≡ queue.table },
+}
+
+impl Passage<Links<Item>> for AtQueue {
+    fn push(&mut self, node: QueueNode) {
+        if self.party.rooms() > 0 {
+            self.queue.enqueue(&mut self.party, node);
+        }
+    }
+
+    /// Takes the right to dequeue, and gives it back.
+    fn pop(&mut self) -> Option<QueueNode> {
+        self.queue.try_dequeue(&mut self.party).ok()
+    }
+}
+
+/// A party at its queue that takes the right to dequeue once for all elements.
+#[derive(Drop)]
+struct Consuming(AtQueue);
+
+impl Passage<Links<Item>> for Consuming {
+    fn push(&mut self, node: QueueNode) {
+        self.0.push(node);
+    }
+
+    fn pop(&mut self) -> Option<QueueNode> {
+        self.0.pop()
+    }
+
+    fn take_all(&mut self, nodes: &mut Vec<QueueNode>, count: usize) {
+        let AtQueue { queue, party } = &mut self.0;
+        let other = queue.split(party, 0);
+        match queue.try_consume(other) {
+            Ok(mut consumer) => {
+                for _ in 0..count {
+                    if let Ok(node) = consumer.try_dequeue() {
+                        keep(nodes, node);
+                    }
+                }
+                queue.absorb(party, consumer.release());
+            }
+            Err(other) => queue.absorb(party, other),
+        }
+    }
+}
+
+/// The same in batches, which wait until they are gone through.
+#[derive(Drop)]
+struct Batching {
+    at: AtQueue,
+    batches: Vec<Batch<Item>>,
+}
+
+impl Passage<Links<Item>> for Batching {
+    fn push(&mut self, node: QueueNode) {
+        self.at.push(node);
+    }
+
+    fn pop(&mut self) -> Option<QueueNode> {
+        self.at.pop()
+    }
+
+    fn take_all(&mut self, _nodes: &mut Vec<QueueNode>, count: usize) {
+        let AtQueue { queue, party } = &mut self.at;
+        let other = queue.split(party, 0);
+        match queue.try_consume(other) {
+            Ok(mut consumer) => {
+                for _ in 0..count.div_ceil(BATCH) {
+                    if let Ok(batch) = consumer.take_linked(BATCH) {
+                        keep(&mut self.batches, batch);
+                    }
+                }
+                queue.absorb(party, consumer.release());
+            }
+            Err(other) => queue.absorb(party, other),
+        }
+    }
+
+    fn unpack(&mut self, nodes: &mut Vec<QueueNode>) {
+        while let Some(batch) = self.batches.pop() {
+            for node in batch {
+                keep(nodes, node);
+            }
+        }
+    }
+}
+
+/// The owner of a free list, by its local part.
+#[derive(Drop)]
+struct Owner<'a>(Local<'a, Item>);
+
+impl<'a> Passage<stack::Links<Item>> for Owner<'a> {
+    fn push(&mut self, node: StackNode) {
+        self.0.put(node);
+    }
+
+    fn pop(&mut self) -> Option<StackNode> {
+        self.0.get()
+    }
+}
+
+/// Another party at a free list, and blocks that a local part got.
+#[derive(Drop)]
+struct Other {
+    list: FreeList<Item>,
+    party: Party<Item>,
+    taken: Stack<Item>,
+    ghost seated: { party.table ≡ list },
+}
+
+impl Passage<stack::Links<Item>> for Other {
+    fn push(&mut self, node: StackNode) {
+        if self.party.rooms() > 0 {
+            drop(self.list.put_remote(&mut self.party, node));
+        }
+    }
+
+    /// The first get of a local part takes all that is shared.
+    fn pop(&mut self) -> Option<StackNode> {
+        if self.taken.is_empty() {
+            let mut local = self.list.local(self.list.split(&mut self.party, 0));
+            local.take_shared();
+            let (taken, other) = local.finish();
+            self.taken = taken;
+            self.list.absorb(&mut self.party, other);
+        }
+        self.taken.pop()
+    }
+}
+
+/// A new queue, and the party that has all of its rooms.
+fn queue_of<R: Clock + Print>(table: &Table<'_, R>, count: usize) -> Result<AtQueue, Fault> {
+    match MpscQueue::new(table.alloc, count.min(mpsc_queue::MAX_ROOMS)) {
+        Ok((queue, party)) => Ok(AtQueue { queue, party }),
+        Err(_) => Err(Fault::Memory),
+    }
+}
+
+/// Measures stacks that threads share, and shows them. Returns a number over what came out.
+pub fn show_transfers<R: Clock + Print>(table: &Table<'_, R>, count: usize) -> Result<u64, Fault> {
+    let Ok((stack, party)) = TransferStack::new(table.alloc, count.min(MAX_ROOMS)) else {
+        return Err(Fault::Memory);
+    };
+    let taken = Stack::new();
+    let at = AtStack {
+        stack,
+        party,
+        taken,
+    };
+    show(table, count, at, &TRANSFERS)
+}
+
+/// Measures queues that threads share, and shows them. Returns a number over what came out.
+pub fn show_queues<R: Clock + Print>(table: &Table<'_, R>, count: usize) -> Result<u64, Fault> {
+    let singly = show(table, count, queue_of(table, count)?, &QUEUES)?;
+    let consuming = Consuming(queue_of(table, count)?);
+    let consumed = show(table, count, consuming, &CONSUMERS)?;
+    let batching = Batching {
+        at: queue_of(table, count)?,
+        batches: with_room(table.alloc, count.div_ceil(BATCH))?,
+    };
+    let taken = show(table, count, batching, &BATCHES)?;
+    Ok(added(added(singly, consumed), taken))
+}
+
+/// Measures free lists, and shows them. Returns a number over what came out.
+pub fn show_free_lists<R: Clock + Print>(table: &Table<'_, R>, count: usize) -> Result<u64, Fault> {
+    let Ok((list, party)) = FreeList::new(table.alloc, 0) else {
+        return Err(Fault::Memory);
+    };
+    let own = show(table, count, Owner(list.local(party)), &LOCALS)?;
+    let Ok((list, party)) = FreeList::new(table.alloc, count.min(MAX_ROOMS)) else {
+        return Err(Fault::Memory);
+    };
+    let taken = Stack::new();
+    let other = Other { list, party, taken };
+    Ok(added(own, show(table, count, other, &REMOTES)?))
+}
