@@ -2,7 +2,6 @@
 //! rounds and shows them as rows of a table.
 #![tactic(auto)]
 
-pub mod by_spots;
 pub mod cost;
 pub mod fault;
 pub mod lists;

@@ -17,6 +17,7 @@ use cordyceps_many::multi_list::MultiList;
 use cordyceps_many::node::MultiNode;
 use cordyceps_stable::stable_list::Spot;
 use std::alloc::Global;
+use std::marker::Model;
 use std::time::Clock;
 
 /// Two lists of values that share their nodes.
@@ -44,6 +45,16 @@ fn fill(alloc: Global, count: usize) -> Result<(Lists, Vec<Spot>), Fault>
         push(&mut spots, at)?;
     }
     Ok((lists, spots))
+}
+
+/// Removes the first node of list 0 from both lists until none is left. Returns the sum of the values, modulo 2 to the
+/// 64.
+fn remove_all(lists: &mut Lists) -> u64 {
+    let mut sum: u64 = 0;
+    while let Some(node) = lists.take_first(0) {
+        sum = sum.wrapping_add(node.into_value());
+    }
+    sum
 }
 
 /// Links the nodes at these spots at the back of list 1, one after another.
@@ -132,9 +143,15 @@ struct Ordered {
     lists: Lists,
     first: Vec<Spot>,
     second: Vec<Spot>,
-    ghost first_there: { All (HasSpot lists.nodes) first.items },
-    ghost distinct: { AreDistinct first.items },
-    ghost second_there: { All (HasSpot lists.nodes) second.items },
+}
+
+impl Model for Ordered {
+    ghost Value = { Unit {0} };
+
+    ghost view = { λ o. tt };
+
+    ghost invariant = { λ o. All (HasSpot o.lists.nodes) o.first.items × AreDistinct o.first.items
+        × All (HasSpot o.lists.nodes) o.second.items };
 }
 
 impl Ordered {
@@ -207,7 +224,14 @@ const ROWS: [Row<Act>; 3] = [
 struct Made {
     lists: Lists,
     spots: Vec<Spot>,
-    ghost there: { All (HasSpot lists.nodes) spots.items },
+}
+
+impl Model for Made {
+    ghost Value = { Unit {0} };
+
+    ghost view = { λ m. tt };
+
+    ghost invariant = { λ m. All (HasSpot m.lists.nodes) m.spots.items };
 }
 
 impl Made {
@@ -218,15 +242,10 @@ impl Made {
         Ok(())
     }
 
-    /// Removes the first node of list 0 from both lists until none is left. Returns the sum of the values, modulo 2 to
-    /// the 64.
+    /// Removes all nodes. Returns the sum of their values, modulo 2 to the 64.
     fn remove_all(&mut self) -> u64 {
         self.spots.clear();
-        let mut sum: u64 = 0;
-        while let Some(node) = self.lists.take_first(0) {
-            sum = sum.wrapping_add(node.into_value());
-        }
-        sum
+        remove_all(&mut self.lists)
     }
 }
 

@@ -8,8 +8,10 @@ ghost use Rattle.cordyceps_stable.specs.Agreeing.{Agrees};
 ghost use Rattle.cordyceps_speed_rows.specs.Tables.{spot_of};
 
 use crate::fault::Fault;
-use crate::nodes::ListNode;
+use crate::nodes::{ListNode, mix};
+use crate::passages::Passage;
 use crate::spots::{Spots, empty_table, forget, is_free, note, spot_at};
+use cordyceps_base::list::Links;
 use cordyceps_clock::clock_queue::ClockQueue;
 use cordyceps_clock::times::Times;
 use cordyceps_commands::Item;
@@ -18,29 +20,13 @@ use cordyceps_single::sorted_list::Least;
 use cordyceps_stable::stable_list::StableList;
 use cordyceps_stable::stable_sorted_list::StableSortedList;
 use std::alloc::Global;
+use std::marker::Model;
 
-/// A collection whose elements are found by their numbers.
-pub trait ByNumber: Drop {
+/// A collection whose elements are found by their numbers. What is put in is dropped where its number has no place in
+/// the table that is empty.
+pub trait ByNumber: Passage<Links<Item>> {
     /// Makes an empty one, and a table with `count` places.
     fn new(alloc: Global, count: usize) -> Result<Self, Fault>;
-
-    /// Puts an element in, where its number has a place in the table that is empty, and drops it elsewhere.
-    fn put(&mut self, node: ListNode);
-
-    /// Takes the element with a number out, by its spot.
-    fn remove(&mut self, number: usize) -> Option<ListNode>;
-}
-
-/// One that keeps an order.
-pub trait InOrder: ByNumber {
-    /// Takes the element with the least value out.
-    fn pop_front(&mut self) -> Option<ListNode>;
-}
-
-/// One whose elements change their places.
-pub trait Moving: ByNumber {
-    /// Gives the element with a number another value, by its spot, or moves it to the front where there is no order.
-    fn update(&mut self, number: usize, value: u64);
 }
 
 /// A list, and the table of its spots.
@@ -48,7 +34,14 @@ pub trait Moving: ByNumber {
 pub struct NumberedList {
     spots: Spots,
     list: StableList<Item>,
-    ghost agrees: { Agrees (spot_of spots.items) list },
+}
+
+impl Model for NumberedList {
+    ghost Value = { Unit {0} };
+
+    ghost view = { λ n. tt };
+
+    ghost invariant = { λ n. Agrees (spot_of n.spots.items) n.list };
 }
 
 impl ByNumber for NumberedList {
@@ -57,8 +50,10 @@ impl ByNumber for NumberedList {
         let list = StableList::new();
         Ok(NumberedList { spots, list })
     }
+}
 
-    fn put(&mut self, node: ListNode) {
+impl Passage<Links<Item>> for NumberedList {
+    fn push(&mut self, node: ListNode) {
         let number = node.id() as usize;
         if is_free(&self.spots, number) && self.list.len() < usize::MAX {
             let spot = self.list.push_back(node);
@@ -71,10 +66,8 @@ impl ByNumber for NumberedList {
         forget(&mut self.spots, number);
         Some(self.list.remove(spot))
     }
-}
 
-impl Moving for NumberedList {
-    fn update(&mut self, number: usize, _value: u64) {
+    fn update(&mut self, number: usize, _seed: u64) {
         if let Some(spot) = spot_at(&self.spots, number) {
             self.list.move_to_front(spot);
         }
@@ -86,7 +79,14 @@ impl Moving for NumberedList {
 pub struct NumberedSorted {
     spots: Spots,
     list: StableSortedList<Item, Least>,
-    ghost agrees: { Agrees (spot_of spots.items) list.nodes },
+}
+
+impl Model for NumberedSorted {
+    ghost Value = { Unit {0} };
+
+    ghost view = { λ n. tt };
+
+    ghost invariant = { λ n. Agrees (spot_of n.spots.items) n.list.nodes };
 }
 
 impl ByNumber for NumberedSorted {
@@ -95,8 +95,10 @@ impl ByNumber for NumberedSorted {
         let list = StableSortedList::new_min();
         Ok(NumberedSorted { spots, list })
     }
+}
 
-    fn put(&mut self, node: ListNode) {
+impl Passage<Links<Item>> for NumberedSorted {
+    fn push(&mut self, node: ListNode) {
         let number = node.id() as usize;
         if is_free(&self.spots, number) && self.list.len() < usize::MAX {
             let spot = self.list.insert(node);
@@ -109,10 +111,8 @@ impl ByNumber for NumberedSorted {
         forget(&mut self.spots, number);
         Some(self.list.remove(spot))
     }
-}
 
-impl InOrder for NumberedSorted {
-    fn pop_front(&mut self) -> Option<ListNode> {
+    fn pop(&mut self) -> Option<ListNode> {
         let node = self.list.pop_front()?;
         let number = node.id() as usize;
         forget(&mut self.spots, number);
@@ -125,7 +125,14 @@ impl InOrder for NumberedSorted {
 pub struct NumberedHeap {
     spots: Spots,
     heap: StableHeap<Item, Least>,
-    ghost agrees: { Agrees (spot_of spots.items) (nodes_in heap) },
+}
+
+impl Model for NumberedHeap {
+    ghost Value = { Unit {0} };
+
+    ghost view = { λ n. tt };
+
+    ghost invariant = { λ n. Agrees (spot_of n.spots.items) (nodes_in n.heap) };
 }
 
 impl ByNumber for NumberedHeap {
@@ -134,8 +141,10 @@ impl ByNumber for NumberedHeap {
         let heap = StableHeap::new_min();
         Ok(NumberedHeap { spots, heap })
     }
+}
 
-    fn put(&mut self, node: ListNode) {
+impl Passage<Links<Item>> for NumberedHeap {
+    fn push(&mut self, node: ListNode) {
         let number = node.id() as usize;
         if is_free(&self.spots, number) && self.heap.len() < usize::MAX {
             let spot = self.heap.push(node);
@@ -148,20 +157,17 @@ impl ByNumber for NumberedHeap {
         forget(&mut self.spots, number);
         Some(self.heap.remove(spot))
     }
-}
 
-impl InOrder for NumberedHeap {
-    fn pop_front(&mut self) -> Option<ListNode> {
+    fn pop(&mut self) -> Option<ListNode> {
         let node = self.heap.pop_front()?;
         let number = node.id() as usize;
         forget(&mut self.spots, number);
         Some(node)
     }
-}
 
-impl Moving for NumberedHeap {
-    fn update(&mut self, number: usize, value: u64) {
+    fn update(&mut self, number: usize, seed: u64) {
         if let Some(spot) = spot_at(&self.spots, number) {
+            let value = mix(seed);
             self.heap.update(spot, |item| item.value = value);
         }
     }
@@ -190,7 +196,14 @@ impl Times<Item> for ByValue {
 pub struct NumberedClock {
     spots: Spots,
     queue: ClockQueue<Item, ByValue>,
-    ghost agrees: { Agrees (spot_of spots.items) queue.nodes },
+}
+
+impl Model for NumberedClock {
+    ghost Value = { Unit {0} };
+
+    ghost view = { λ n. tt };
+
+    ghost invariant = { λ n. Agrees (spot_of n.spots.items) n.queue.nodes };
 }
 
 impl ByNumber for NumberedClock {
@@ -199,9 +212,11 @@ impl ByNumber for NumberedClock {
         let queue = ClockQueue::new_with_times(ByValue);
         Ok(NumberedClock { spots, queue })
     }
+}
 
+impl Passage<Links<Item>> for NumberedClock {
     /// An element that is due before the one that came out last is dropped, too.
-    fn put(&mut self, node: ListNode) {
+    fn push(&mut self, node: ListNode) {
         let number = node.id() as usize;
         if is_free(&self.spots, number) {
             if let Ok(spot) = self.queue.try_push(node) {
@@ -215,23 +230,19 @@ impl ByNumber for NumberedClock {
         forget(&mut self.spots, number);
         Some(self.queue.remove(spot))
     }
-}
 
-impl InOrder for NumberedClock {
-    fn pop_front(&mut self) -> Option<ListNode> {
+    fn pop(&mut self) -> Option<ListNode> {
         let node = self.queue.pop_front()?;
         let number = node.id() as usize;
         forget(&mut self.spots, number);
         Some(node)
     }
-}
 
-impl Moving for NumberedClock {
     /// The element is removed, and put in again.
-    fn update(&mut self, number: usize, value: u64) {
+    fn update(&mut self, number: usize, seed: u64) {
         if let Some(mut node) = self.remove(number) {
-            node.get_mut().value = value;
-            self.put(node);
+            node.get_mut().value = mix(seed);
+            self.push(node);
         }
     }
 }

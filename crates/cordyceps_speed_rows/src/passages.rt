@@ -1,9 +1,8 @@
 //! Collections into which elements go one by one, and out of which they come again: those that one thread owns.
 
-use crate::by_spots;
 use crate::fault::Fault;
-use crate::nodes::{ListNode, StackNode, Values, nodes_of, sum_numbers};
-use crate::numbered::{ByValue, NumberedClock, NumberedHeap, NumberedList};
+use crate::nodes::{ListNode, StackNode, Values, nodes_of, numbers_below, shuffle, sum_numbers};
+use crate::numbered::{ByNumber, ByValue, NumberedClock, NumberedHeap, NumberedList};
 use crate::table::Step::{Off, On};
 use crate::table::{Bench, Row, Step, Table, added};
 use crate::vectors::keep;
@@ -23,7 +22,7 @@ use std::time::Clock;
 /// What a step does with a collection.
 #[derive(Clone, Copy)]
 pub enum Act {
-    /// Makes new elements with such values, which wait, the one with the number 0 last, and a new collection.
+    /// Makes new elements with such values in place of those that wait, the one with the number 0 last.
     Make(Values),
     /// Puts in all that wait, the last first.
     Put,
@@ -31,13 +30,21 @@ pub enum Act {
     Take,
     /// Puts each in, and takes one out before the next.
     Pass,
-    /// Goes through batches that were taken out.
+    /// Draws the order in which elements are met by their spots.
+    Shuffle,
+    /// Updates all by their spots.
+    Update,
+    /// Takes all out by their spots.
+    Remove,
+    /// Takes all out with the right to dequeue in hand.
+    Consume,
+    /// The same in batches.
+    ConsumeBatches,
+    /// Goes through the batches.
     Unpack,
 }
 
 const STACKS: [Row<Act>; 1] = [("Stack: push, pop", "either", &[On(Put), On(Take)])];
-
-const STABLES: [Row<Act>; 1] = [("StableList: push_back", "one", &[On(Put), Off(Take)])];
 
 const SORTEDS: [Row<Act>; 3] = [
     (
@@ -61,9 +68,30 @@ const PUSH: &[Step<Act>] = &[Off(Make(Random)), On(Put), Off(Take)];
 
 const POP: &[Step<Act>] = &[Off(Make(Random)), Off(Put), On(Take)];
 
+const UPDATE: &[Step<Act>] = &[Off(Put), Off(Shuffle), On(Update)];
+
+const REMOVE: &[Step<Act>] = &[Off(Make(Ascending)), Off(Put), Off(Shuffle), On(Remove)];
+
+const STABLES: [Row<Act>; 1] = [("StableList: push_back", "one", &[On(Put), Off(Take)])];
+
+/// By spots. The nodes go in again in the order in which they came out.
+const STABLE_SPOTS: [Row<Act>; 2] = [
+    (
+        "StableList: remove",
+        "one",
+        &[Off(Put), Off(Shuffle), On(Remove)],
+    ),
+    ("StableList: move_to_front", "one", UPDATE),
+];
+
 const HEAPS: [Row<Act>; 2] = [
     ("StableHeap: push, random", "one", PUSH),
     ("StableHeap: pop_front", "one", POP),
+];
+
+const HEAP_SPOTS: [Row<Act>; 2] = [
+    ("StableHeap: update, random", "one", UPDATE),
+    ("StableHeap: remove", "one", REMOVE),
 ];
 
 const CLOCKS: [Row<Act>; 2] = [
@@ -71,27 +99,40 @@ const CLOCKS: [Row<Act>; 2] = [
     ("ClockQueue: pop_front", "one", POP),
 ];
 
-/// A collection whose nodes have links of this kind.
+const CLOCK_SPOTS: [Row<Act>; 2] = [
+    ("ClockQueue: remove, try_push, random", "both", UPDATE),
+    ("ClockQueue: remove", "one", REMOVE),
+];
+
+/// A collection whose nodes have links of this kind. Where it has no such call, and no row asks for it, nothing is done.
 pub trait Passage<L: Kind>: Drop {
-    /// Makes it ready for new elements.
+    /// Makes it ready for new elements, where it is empty.
     fn renew(&mut self) {}
 
     /// Puts an element in.
     fn push(&mut self, node: Node<Item, L>);
 
     /// Takes an element out.
-    fn pop(&mut self) -> Option<Node<Item, L>>;
-
-    /// Takes `count` elements out.
-    fn take_all(&mut self, nodes: &mut Vec<Node<Item, L>>, count: usize) {
-        for _ in 0..count {
-            if let Some(node) = self.pop() {
-                keep(nodes, node);
-            }
-        }
+    fn pop(&mut self) -> Option<Node<Item, L>> {
+        None
     }
 
-    /// Goes through batches that were taken out.
+    /// Takes the element with a number out, by its spot.
+    fn remove(&mut self, _number: usize) -> Option<Node<Item, L>> {
+        None
+    }
+
+    /// Gives the element with a number another value, which is drawn from `seed`, by its spot. Where there is no order,
+    /// moves it to the front.
+    fn update(&mut self, _number: usize, _seed: u64) {}
+
+    /// Takes `count` elements out with the right to dequeue in hand.
+    fn consume(&mut self, _nodes: &mut Vec<Node<Item, L>>, _count: usize) {}
+
+    /// The same in batches.
+    fn consume_batches(&mut self, _count: usize) {}
+
+    /// Goes through the batches.
     fn unpack(&mut self, _nodes: &mut Vec<Node<Item, L>>) {}
 }
 
@@ -161,6 +202,10 @@ struct Passages<L: Kind, P> {
     count: usize,
     collection: P,
     nodes: Vec<Node<Item, L>>,
+    /// In which order the elements are met by their spots.
+    order: Vec<usize>,
+    /// The number from which the next update draws a value.
+    next: u64,
 }
 
 impl<L: Kind, P: Passage<L>> Passages<L, P> {
@@ -179,6 +224,15 @@ impl<L: Kind, P: Passage<L>> Passages<L, P> {
         }
     }
 
+    /// Takes all out, one after another.
+    fn take_all(&mut self) {
+        for _ in 0..self.count {
+            if let Some(node) = self.collection.pop() {
+                keep(&mut self.nodes, node);
+            }
+        }
+    }
+
     /// Puts each element in, and takes one out before the next.
     fn pass_all(&mut self) {
         for _ in 0..self.count {
@@ -186,6 +240,23 @@ impl<L: Kind, P: Passage<L>> Passages<L, P> {
                 self.collection.push(node);
             }
             if let Some(node) = self.collection.pop() {
+                keep(&mut self.nodes, node);
+            }
+        }
+    }
+
+    /// Updates all elements, in their order.
+    fn update_all(&mut self) {
+        for number in &self.order {
+            self.collection.update(*number, self.next);
+            self.next = self.next.wrapping_add(1);
+        }
+    }
+
+    /// Takes all elements out, in their order.
+    fn remove_all(&mut self) {
+        for number in &self.order {
+            if let Some(node) = self.collection.remove(*number) {
                 keep(&mut self.nodes, node);
             }
         }
@@ -199,7 +270,12 @@ impl<L: Kind, P: Passage<L>> Bench for Passages<L, P> {
         match act {
             Make(values) => self.make(values)?,
             Put => self.put_all(),
-            Take => self.collection.take_all(&mut self.nodes, self.count),
+            Take => self.take_all(),
+            Shuffle => shuffle(&mut self.order),
+            Update => self.update_all(),
+            Remove => self.remove_all(),
+            Consume => self.collection.consume(&mut self.nodes, self.count),
+            ConsumeBatches => self.collection.consume_batches(self.count),
             Pass => {
                 self.pass_all();
                 return Ok(self.count.saturating_mul(2));
@@ -210,6 +286,7 @@ impl<L: Kind, P: Passage<L>> Bench for Passages<L, P> {
     }
 
     fn seen(&mut self) -> Result<u64, Fault> {
+        self.remove_all();
         let mut seen: u64 = 0;
         for node in &self.nodes {
             seen = seen.rotate_left(5) ^ node.get().value;
@@ -230,6 +307,8 @@ pub fn show<R: Clock + Print, L: Kind, P: Passage<L>>(
         count,
         collection,
         nodes: nodes_of(table.alloc, count, Random)?,
+        order: numbers_below(table.alloc, count)?,
+        next: count as u64,
     };
     table.measure(bench, count, rows)
 }
@@ -250,22 +329,22 @@ pub fn show_sorteds<R: Clock + Print>(table: &Table<'_, R>, count: usize) -> Res
 pub fn show_stables<R: Clock + Print>(table: &Table<'_, R>, count: usize) -> Result<u64, Fault> {
     let list: StableList<Item> = StableList::new();
     let passed = show(table, count, list, &STABLES)?;
-    let met = by_spots::show::<R, NumberedList>(table, count, &by_spots::LISTS)?;
-    Ok(added(passed, met))
+    let numbered = NumberedList::new(table.alloc, count)?;
+    Ok(added(passed, show(table, count, numbered, &STABLE_SPOTS)?))
 }
 
 /// Measures heaps, and shows them. Returns a number over what came out.
 pub fn show_heaps<R: Clock + Print>(table: &Table<'_, R>, count: usize) -> Result<u64, Fault> {
     let heap: StableHeap<Item, Least> = StableHeap::new_min();
     let passed = show(table, count, heap, &HEAPS)?;
-    let met = by_spots::show::<R, NumberedHeap>(table, count, &by_spots::HEAPS)?;
-    Ok(added(passed, met))
+    let numbered = NumberedHeap::new(table.alloc, count)?;
+    Ok(added(passed, show(table, count, numbered, &HEAP_SPOTS)?))
 }
 
 /// Measures queues of times, and shows them. Returns a number over what came out.
 pub fn show_clocks<R: Clock + Print>(table: &Table<'_, R>, count: usize) -> Result<u64, Fault> {
     let queue: ClockQueue<Item, ByValue> = ClockQueue::new_with_times(ByValue);
     let passed = show(table, count, queue, &CLOCKS)?;
-    let met = by_spots::show::<R, NumberedClock>(table, count, &by_spots::CLOCKS)?;
-    Ok(added(passed, met))
+    let numbered = NumberedClock::new(table.alloc, count)?;
+    Ok(added(passed, show(table, count, numbered, &CLOCK_SPOTS)?))
 }

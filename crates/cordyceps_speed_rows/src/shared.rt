@@ -4,7 +4,7 @@ ghost use Rattle.std.specs.Prelude.{◌≡◌};
 
 use crate::fault::Fault;
 use crate::nodes::StackNode;
-use crate::passages::Act::{Pass, Put, Take, Unpack};
+use crate::passages::Act::{Consume, ConsumeBatches, Pass, Put, Take, Unpack};
 use crate::passages::{Act, Passage, show};
 use crate::table::Step::{Off, On};
 use crate::table::{Row, Table, added};
@@ -14,7 +14,7 @@ use cordyceps_base::node::Node;
 use cordyceps_base::stack;
 use cordyceps_commands::Item;
 use cordyceps_queue::mpsc_queue;
-use cordyceps_queue::mpsc_queue::{Batch, MpscQueue};
+use cordyceps_queue::mpsc_queue::{Batch, Consumer, MpscQueue};
 use cordyceps_single::stack::Stack;
 use cordyceps_stack::stack::{MAX_ROOMS, Party, TransferStack};
 use freelist::{FreeList, Local};
@@ -29,19 +29,17 @@ const TRANSFERS: [Row<Act>; 2] = [
     ),
 ];
 
-const QUEUES: [Row<Act>; 3] = [
+const QUEUES: [Row<Act>; 5] = [
     ("MpscQueue: enqueue", "one", &[On(Put), Off(Take)]),
     ("MpscQueue: try_dequeue", "one", &[Off(Put), On(Take)]),
     ("MpscQueue: one by one", "either", &[On(Pass)]),
+    ("Consumer: try_dequeue", "one", &[Off(Put), On(Consume)]),
+    (
+        "Consumer: take_linked(64)",
+        "an element's share, the batch not gone through",
+        &[Off(Put), On(ConsumeBatches), Off(Unpack)],
+    ),
 ];
-
-const CONSUMERS: [Row<Act>; 1] = [("Consumer: try_dequeue", "one", &[Off(Put), On(Take)])];
-
-const BATCHES: [Row<Act>; 1] = [(
-    "Consumer: take_linked(64)",
-    "an element's share, the batch not gone through",
-    &[Off(Put), On(Take), Off(Unpack)],
-)];
 
 const LOCALS: [Row<Act>; 2] = [
     ("FreeList: put", "one", &[On(Put), Off(Take)]),
@@ -80,12 +78,35 @@ impl Passage<stack::Links<Item>> for AtStack {
     }
 }
 
-/// A party at its queue.
+/// A party at its queue, and batches that were taken out.
 #[derive(Drop)]
 struct AtQueue {
     queue: MpscQueue<Item>,
     party: mpsc_queue::Party<Item>,
+    batches: Vec<Batch<Item>>,
     ghost seated: { party.table ≡ queue.table },
+}
+
+/// Tries to take `count` elements out.
+fn consume(consumer: &mut Consumer<'_, Item>, nodes: &mut Vec<QueueNode>, count: usize)
+    ensures { consumer.new.table ≡ consumer.old.table }
+{
+    for _ in 0..count {
+        if let Ok(node) = consumer.try_dequeue() {
+            keep(nodes, node);
+        }
+    }
+}
+
+/// Tries to take `count` batches out.
+fn consume_batches(consumer: &mut Consumer<'_, Item>, batches: &mut Vec<Batch<Item>>, count: usize)
+    ensures { consumer.new.table ≡ consumer.old.table }
+{
+    for _ in 0..count {
+        if let Ok(batch) = consumer.take_linked(BATCH) {
+            keep(batches, batch);
+        }
+    }
 }
 
 impl Passage<Links<Item>> for AtQueue {
@@ -99,90 +120,46 @@ impl Passage<Links<Item>> for AtQueue {
     fn pop(&mut self) -> Option<QueueNode> {
         self.queue.try_dequeue(&mut self.party).ok()
     }
-}
 
-/// A party at its queue that takes the right to dequeue once for all elements.
-#[derive(Drop)]
-struct Consuming(AtQueue);
-
-impl Passage<Links<Item>> for Consuming {
-    fn push(&mut self, node: QueueNode) {
-        self.0.push(node);
-    }
-
-    fn pop(&mut self) -> Option<QueueNode> {
-        self.0.pop()
-    }
-
-    fn take_all(&mut self, nodes: &mut Vec<QueueNode>, count: usize) {
-        let AtQueue { queue, party } = &mut self.0;
-        let other = queue.split(party, 0);
-        match queue.try_consume(other) {
+    fn consume(&mut self, nodes: &mut Vec<QueueNode>, count: usize) {
+        let other = self.queue.split(&mut self.party, 0);
+        match self.queue.try_consume(other) {
             Ok(mut consumer) => {
-                for _ in 0..count {
-                    if let Ok(node) = consumer.try_dequeue() {
-                        keep(nodes, node);
-                    }
-                }
-                queue.absorb(party, consumer.release());
+                consume(&mut consumer, nodes, count);
+                self.queue.absorb(&mut self.party, consumer.release());
             }
-            Err(other) => queue.absorb(party, other),
+            Err(other) => self.queue.absorb(&mut self.party, other),
         }
     }
-}
 
-/// The same in batches, which wait until they are gone through.
-#[derive(Drop)]
-struct Batching {
-    at: AtQueue,
-    batches: Vec<Batch<Item>>,
-}
-
-impl Passage<Links<Item>> for Batching {
-    fn push(&mut self, node: QueueNode) {
-        self.at.push(node);
-    }
-
-    fn pop(&mut self) -> Option<QueueNode> {
-        self.at.pop()
-    }
-
-    fn take_all(&mut self, _nodes: &mut Vec<QueueNode>, count: usize) {
-        let AtQueue { queue, party } = &mut self.at;
-        let other = queue.split(party, 0);
-        match queue.try_consume(other) {
+    fn consume_batches(&mut self, count: usize) {
+        let other = self.queue.split(&mut self.party, 0);
+        match self.queue.try_consume(other) {
             Ok(mut consumer) => {
-                for _ in 0..count.div_ceil(BATCH) {
-                    if let Ok(batch) = consumer.take_linked(BATCH) {
-                        keep(&mut self.batches, batch);
-                    }
-                }
-                queue.absorb(party, consumer.release());
+                consume_batches(&mut consumer, &mut self.batches, count.div_ceil(BATCH));
+                self.queue.absorb(&mut self.party, consumer.release());
             }
-            Err(other) => queue.absorb(party, other),
+            Err(other) => self.queue.absorb(&mut self.party, other),
         }
     }
 
     fn unpack(&mut self, nodes: &mut Vec<QueueNode>) {
-        while let Some(batch) = self.batches.pop() {
-            for node in batch {
+        while let Some(mut batch) = self.batches.pop() {
+            while let Some(node) = batch.next() {
                 keep(nodes, node);
             }
         }
     }
 }
 
-/// The owner of a free list, by its local part.
-#[derive(Drop)]
-struct Owner<'a>(Local<'a, Item>);
-
-impl<'a> Passage<stack::Links<Item>> for Owner<'a> {
+/// The owner of a free list.
+impl<'a> Passage<stack::Links<Item>> for Local<'a, Item> {
     fn push(&mut self, node: StackNode) {
-        self.0.put(node);
+        self.put(node);
     }
 
     fn pop(&mut self) -> Option<StackNode> {
-        self.0.get()
+        self.get()
     }
 }
 
@@ -215,14 +192,6 @@ impl Passage<stack::Links<Item>> for Other {
     }
 }
 
-/// A new queue, and the party that has all of its rooms.
-fn queue_of<R: Clock + Print>(table: &Table<'_, R>, count: usize) -> Result<AtQueue, Fault> {
-    match MpscQueue::new(table.alloc, count.min(mpsc_queue::MAX_ROOMS)) {
-        Ok((queue, party)) => Ok(AtQueue { queue, party }),
-        Err(_) => Err(Fault::Memory),
-    }
-}
-
 /// Measures stacks that threads share, and shows them. Returns a number over what came out.
 pub fn show_transfers<R: Clock + Print>(table: &Table<'_, R>, count: usize) -> Result<u64, Fault> {
     let Ok((stack, party)) = TransferStack::new(table.alloc, count.min(MAX_ROOMS)) else {
@@ -239,15 +208,17 @@ pub fn show_transfers<R: Clock + Print>(table: &Table<'_, R>, count: usize) -> R
 
 /// Measures queues that threads share, and shows them. Returns a number over what came out.
 pub fn show_queues<R: Clock + Print>(table: &Table<'_, R>, count: usize) -> Result<u64, Fault> {
-    let singly = show(table, count, queue_of(table, count)?, &QUEUES)?;
-    let consuming = Consuming(queue_of(table, count)?);
-    let consumed = show(table, count, consuming, &CONSUMERS)?;
-    let batching = Batching {
-        at: queue_of(table, count)?,
-        batches: with_room(table.alloc, count.div_ceil(BATCH))?,
+    let batches = with_room(table.alloc, count.div_ceil(BATCH))?;
+    let rooms = count.min(mpsc_queue::MAX_ROOMS);
+    let Ok((queue, party)) = MpscQueue::new(table.alloc, rooms) else {
+        return Err(Fault::Memory);
     };
-    let taken = show(table, count, batching, &BATCHES)?;
-    Ok(added(added(singly, consumed), taken))
+    let at = AtQueue {
+        queue,
+        party,
+        batches,
+    };
+    show(table, count, at, &QUEUES)
 }
 
 /// Measures free lists, and shows them. Returns a number over what came out.
@@ -255,7 +226,7 @@ pub fn show_free_lists<R: Clock + Print>(table: &Table<'_, R>, count: usize) -> 
     let Ok((list, party)) = FreeList::new(table.alloc, 0) else {
         return Err(Fault::Memory);
     };
-    let own = show(table, count, Owner(list.local(party)), &LOCALS)?;
+    let own = show(table, count, list.local(party), &LOCALS)?;
     let Ok((list, party)) = FreeList::new(table.alloc, count.min(MAX_ROOMS)) else {
         return Err(Fault::Memory);
     };

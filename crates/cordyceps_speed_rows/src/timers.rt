@@ -4,7 +4,7 @@
 
 use crate::fault::Fault;
 use crate::nodes::{ListNode, Values, mix, nodes_of, shuffle};
-use crate::numbered::{InOrder, NumberedClock, NumberedHeap, NumberedSorted};
+use crate::numbered::{ByNumber, NumberedClock, NumberedHeap, NumberedSorted};
 use crate::table::{Bench, Step, Table, added};
 use crate::vectors::{keep, with_room};
 use cordyceps_commands::Item;
@@ -42,7 +42,7 @@ struct WithSpots<C> {
     idle: Vec<ListNode>,
 }
 
-impl<C: InOrder> Timers for WithSpots<C> {
+impl<C: ByNumber> Timers for WithSpots<C> {
     fn new(alloc: Global, count: usize) -> Result<WithSpots<C>, Fault> {
         let idle = nodes_of(alloc, count, Values::Random)?;
         let running = C::new(alloc, count)?;
@@ -65,7 +65,7 @@ impl<C: InOrder> Timers for WithSpots<C> {
         };
         node.set_id(timer.id);
         *node.get_mut() = timer;
-        self.running.put(node);
+        self.running.push(node);
         true
     }
 
@@ -76,7 +76,7 @@ impl<C: InOrder> Timers for WithSpots<C> {
     }
 
     fn pop(&mut self) -> Option<Item> {
-        let node = self.running.pop_front()?;
+        let node = self.running.pop()?;
         let timer = *node.get();
         keep(&mut self.idle, node);
         Some(timer)
