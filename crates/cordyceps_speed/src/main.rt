@@ -57,7 +57,7 @@ const ROOMS: usize = 4_096;
 /// The same where they are few.
 const FEW_ROOMS: usize = 256;
 
-/// How many go into a queue, so that they are a whole number of batches, and into the local part of a free list.
+/// How many go into a queue, so that they are a whole number of batches, and into a free list.
 const BATCHES: usize = 1_024;
 
 /// Rows that can be asked for alone.
@@ -215,7 +215,8 @@ fn show_calls<R: Clock + Print>(table: &Table<'_, R>) -> Result<(), Fault> {
     written(println!(table.rt; "sum of what was seen: {sum}"))
 }
 
-/// Measures and shows some rows alone, with `count` elements or threads that put in.
+/// Measures and shows some rows alone, with `count` elements or threads that put in. Of a collection with rooms there
+/// are at most as many elements as it may have rooms.
 fn show_alone<R: Clock + Print + Threads + Wait + Sync>(
     table: &Table<'_, R>,
     rows: Rows,

@@ -1,5 +1,5 @@
 //! Collections that threads share, by one party that is alone, and free lists. A look at the party's rooms comes before
-//! each push.
+//! each push. There are at most as many elements as there may be rooms.
 ghost use Rattle.std.specs.Prelude.{◌≡◌};
 
 use crate::fault::Fault;
@@ -11,12 +11,13 @@ use crate::table::{Row, Table, added};
 use crate::vectors::{keep, with_room};
 use cordyceps_base::mpsc_queue::Links;
 use cordyceps_base::node::Node;
+use cordyceps_base::shared::MAX_ROOMS;
 use cordyceps_base::stack;
 use cordyceps_commands::Item;
 use cordyceps_queue::mpsc_queue;
 use cordyceps_queue::mpsc_queue::{Batch, Consumer, MpscQueue};
 use cordyceps_single::stack::Stack;
-use cordyceps_stack::stack::{MAX_ROOMS, Party, TransferStack};
+use cordyceps_stack::stack::{Party, TransferStack};
 use freelist::{FreeList, Local};
 use std::time::Clock;
 
@@ -194,7 +195,8 @@ impl Passage<stack::Links<Item>> for Other {
 
 /// Measures stacks that threads share, and shows them. Returns a number over what came out.
 pub fn show_transfers<R: Clock + Print>(table: &Table<'_, R>, count: usize) -> Result<u64, Fault> {
-    let Ok((stack, party)) = TransferStack::new(table.alloc, count.min(MAX_ROOMS)) else {
+    let count = count.min(MAX_ROOMS);
+    let Ok((stack, party)) = TransferStack::new(table.alloc, count) else {
         return Err(Fault::Memory);
     };
     let taken = Stack::new();
@@ -208,9 +210,9 @@ pub fn show_transfers<R: Clock + Print>(table: &Table<'_, R>, count: usize) -> R
 
 /// Measures queues that threads share, and shows them. Returns a number over what came out.
 pub fn show_queues<R: Clock + Print>(table: &Table<'_, R>, count: usize) -> Result<u64, Fault> {
+    let count = count.min(MAX_ROOMS);
     let batches = with_room(table.alloc, count.div_ceil(BATCH))?;
-    let rooms = count.min(mpsc_queue::MAX_ROOMS);
-    let Ok((queue, party)) = MpscQueue::new(table.alloc, rooms) else {
+    let Ok((queue, party)) = MpscQueue::new(table.alloc, count) else {
         return Err(Fault::Memory);
     };
     let at = AtQueue {
@@ -223,11 +225,12 @@ pub fn show_queues<R: Clock + Print>(table: &Table<'_, R>, count: usize) -> Resu
 
 /// Measures free lists, and shows them. Returns a number over what came out.
 pub fn show_free_lists<R: Clock + Print>(table: &Table<'_, R>, count: usize) -> Result<u64, Fault> {
+    let count = count.min(MAX_ROOMS);
     let Ok((list, party)) = FreeList::new(table.alloc, 0) else {
         return Err(Fault::Memory);
     };
     let own = show(table, count, list.local(party), &LOCALS)?;
-    let Ok((list, party)) = FreeList::new(table.alloc, count.min(MAX_ROOMS)) else {
+    let Ok((list, party)) = FreeList::new(table.alloc, count) else {
         return Err(Fault::Memory);
     };
     let taken = Stack::new();
