@@ -191,9 +191,8 @@ fn drain(list: &mut List<Item>, nodes: &mut Vec<ListNode>) {
 fn cut_part(nodes: &mut Vec<ListNode>) -> List<Item> {
     let mut part = List::new();
     for _ in 0..4 {
-        let _few = part.len();
         if let Some(node) = nodes.pop() {
-            part.push_front(node);
+            drop(part.try_push_front(node));
         }
     }
     part
