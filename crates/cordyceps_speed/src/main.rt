@@ -13,24 +13,19 @@
 //!
 //! The nodes are made before the clock starts: no call of the library that is measured takes memory. The clock is read
 //! outside of the loops over the elements. Elements that are not in a collection wait in a vector, so the time of a
-//! push has that of a pop from it, and the time of a pop that of a push to it. The row of vectors says what the two
-//! cost.
+//! push has that of a pop from it, and the time of a pop that of a push to it.
 #![tactic(auto)]
 
-use cordyceps_base::shared::MAX_ROOMS;
 use cordyceps_speed_rows::fault::Fault;
-use cordyceps_speed_rows::free_lists::show_free_lists;
 use cordyceps_speed_rows::lists::show_lists;
 use cordyceps_speed_rows::many::show_many;
 use cordyceps_speed_rows::maps::show_maps;
-use cordyceps_speed_rows::queues::show_queues;
-use cordyceps_speed_rows::sorteds::show_sorteds;
-use cordyceps_speed_rows::stable_sorteds::{show_by_spots, show_clocks, show_heaps, show_inserts};
-use cordyceps_speed_rows::stables::show_stables;
-use cordyceps_speed_rows::stacks::show_stacks;
-use cordyceps_speed_rows::table::{Shown, Table};
+use cordyceps_speed_rows::passages::{
+    show_clocks, show_heaps, show_sorteds, show_stables, show_stacks,
+};
+use cordyceps_speed_rows::shared::{show_free_lists, show_queues, show_transfers};
+use cordyceps_speed_rows::table::{Shown, Table, added, written};
 use cordyceps_speed_rows::timers::show_timers;
-use cordyceps_speed_rows::transfers::show_transfers;
 use cordyceps_speed_rows::vectors::push;
 use cordyceps_speed_threads::meetings::{Meeting, show_meeting};
 use std::alloc::Global;
@@ -62,11 +57,8 @@ const ROOMS: usize = 4_096;
 /// The same where they are few.
 const FEW_ROOMS: usize = 256;
 
-/// How many go into a queue, so that they are a whole number of batches, and into the local part of a free list.
+/// How many go into a queue, so that they are a whole number of batches, and into a free list.
 const BATCHES: usize = 1_024;
-
-/// How many blocks a free list has that are shared.
-const SHARED: usize = 64;
 
 /// Rows that can be asked for alone.
 #[derive(Clone, Copy)]
@@ -111,25 +103,15 @@ const ROWS: [(&str, Rows); 20] = [
     ("segments", Rows::At(Meeting::Segments, ROOMS)),
 ];
 
-/// What the program is asked for.
+/// What the program is asked for, with the number of rounds. Where threads meet, that is the number of milliseconds.
 #[derive(Clone, Copy)]
 enum Asked {
-    /// Calls on one thread.
-    Calls(Table),
-    /// Some rows alone, with a number of elements or of threads that put in. Where threads meet, the table's rounds are
-    /// milliseconds.
-    Alone(Rows, usize, Table),
-}
-
-/// A table of times, over as many rounds as a word says, if it is a number.
-fn read_rounds(word: &str) -> Option<Table> {
-    match word.parse::<u32>() {
-        Ok(rounds) => Some(Table {
-            rounds,
-            shown: Shown::Times,
-        }),
-        Err(_) => None,
-    }
+    /// How many calls are measured on one thread.
+    Counts,
+    /// How long they take.
+    Times(u32),
+    /// The same of some rows alone, with a number of elements or of threads that put in.
+    Alone(Rows, usize, u32),
 }
 
 /// Returns the rows that `word` names, or `None` if it names none.
@@ -144,20 +126,18 @@ fn read_rows(word: &str) -> Option<Rows> {
 
 /// What three words ask for, if they do: rows, a number of elements or threads, and one of rounds or milliseconds.
 fn read_alone(rows: &str, count: &str, rounds: &str) -> Option<Asked> {
-    match count.parse::<usize>() {
-        Ok(count) => Some(Asked::Alone(read_rows(rows)?, count, read_rounds(rounds)?)),
-        Err(_) => None,
+    let rows = read_rows(rows)?;
+    match (count.parse::<usize>(), rounds.parse::<u32>()) {
+        (Ok(count), Ok(rounds)) => Some(Asked::Alone(rows, count, rounds)),
+        _ => None,
     }
 }
 
 /// What the words after the program's name ask for, if they do.
 fn read(words: &[String]) -> Option<Asked> {
     match words {
-        [] => Some(Asked::Calls(Table {
-            rounds: ROUNDS,
-            shown: Shown::Counts,
-        })),
-        [rounds] => Some(Asked::Calls(read_rounds(rounds.as_str())?)),
+        [] => Some(Asked::Counts),
+        [rounds] => Some(Asked::Times(rounds.parse::<u32>().ok()?)),
         [rows, count, rounds] => read_alone(rows.as_str(), count.as_str(), rounds.as_str()),
         _ => None,
     }
@@ -179,119 +159,117 @@ fn ask(rt: &HostRuntime) -> Result<Asked, Fault> {
     read(words.as_slice()).ok_or(Fault::Usage)
 }
 
-/// Measures and shows the collections that one thread owns. Returns a number over what was seen.
-fn show_owned<R: Clock + Print>(rt: &R, alloc: Global, table: Table) -> Result<u64, Fault> {
-    let lists = show_lists(rt, alloc, table, ELEMENTS)?;
-    let stables = show_stables(rt, alloc, table, ELEMENTS)?;
-    let many = show_many(rt, alloc, table, ELEMENTS)?;
-    let maps = show_maps(rt, alloc, table, ELEMENTS)?;
-    let stacks = show_stacks(rt, alloc, table, ELEMENTS)?;
-    let sorteds = show_sorteds(rt, alloc, table, FEW)?;
-    let others = stables.wrapping_add(stacks).wrapping_add(sorteds);
-    let in_lists = lists.wrapping_add(many).wrapping_add(maps);
-    Ok(in_lists.wrapping_add(others))
-}
-
 /// How many go into heaps and queues of times, and how many timers run.
-fn sizes(table: Table) -> &'static [usize] {
-    match table.shown {
+fn sizes(shown: Shown) -> &'static [usize] {
+    match shown {
         Shown::Counts => &FEW_SIZES,
         Shown::Times => &SIZES,
     }
 }
 
-/// The same rounds, or fewer where many elements take long.
-fn rounds(table: Table, count: usize) -> Table {
-    match count {
-        0..=FEW => table,
-        0..=ELEMENTS => table.tenth(),
-        _ => table.tenth().tenth(),
-    }
+/// Measures and shows the collections that one thread owns. Returns a number over what was seen.
+fn show_owned<R: Clock + Print>(table: &Table<'_, R>) -> Result<u64, Fault> {
+    let lists = show_lists(table, ELEMENTS)?;
+    let stables = show_stables(table, ELEMENTS)?;
+    let many = show_many(table, ELEMENTS)?;
+    let maps = show_maps(table, ELEMENTS)?;
+    let stacks = show_stacks(table, ELEMENTS)?;
+    let sorteds = show_sorteds(table, FEW)?;
+    let in_order = added(stacks, sorteds);
+    Ok(added(added(lists, stables), added(added(many, maps), in_order)))
 }
 
 /// Measures and shows heaps and queues of times, and timers in them and in others. Returns a number over what was seen.
-fn show_heaped<R: Clock + Print>(rt: &R, alloc: Global, table: Table) -> Result<u64, Fault> {
+fn show_heaped<R: Clock + Print>(table: &Table<'_, R>) -> Result<u64, Fault> {
     let mut sum: u64 = 0;
-    for count in sizes(table) {
-        let fewer = rounds(table, *count);
-        let heaps = show_heaps(rt, alloc, fewer, *count)?;
-        let clocks = show_clocks(rt, alloc, fewer, *count)?;
-        sum = sum.wrapping_add(heaps).wrapping_add(clocks);
-    }
-    for count in sizes(table) {
-        let timers = show_timers(rt, alloc, rounds(table, *count), *count)?;
-        sum = sum.wrapping_add(timers);
+    for count in sizes(table.shown) {
+        // (fewer rounds where many elements take long)
+        let fewer = match *count {
+            0..=FEW => table.part(1),
+            0..=ELEMENTS => table.part(10),
+            _ => table.part(100),
+        };
+        sum = added(sum, show_heaps(&fewer, *count)?);
+        sum = added(sum, show_clocks(&fewer, *count)?);
+        sum = added(sum, show_timers(&fewer, *count)?);
     }
     Ok(sum)
 }
 
-/// Measures and shows sorted lists, heaps and queues of times, each with spots, and timers in them and in others.
-/// Returns a number over what was seen.
-fn show_spots<R: Clock + Print>(rt: &R, alloc: Global, table: Table) -> Result<u64, Fault> {
-    let inserts = show_inserts(rt, alloc, table, FEW)?;
-    let by_spots = show_by_spots(rt, alloc, table, ELEMENTS)?;
-    let heaped = show_heaped(rt, alloc, table)?;
-    Ok(inserts.wrapping_add(by_spots).wrapping_add(heaped))
-}
-
 /// Measures and shows the collections that threads share, each by one party that is alone. Returns a number over what
 /// was seen.
-fn show_shared<R: Clock + Print>(rt: &R, alloc: Global, table: Table) -> Result<u64, Fault> {
-    let transfers = show_transfers(rt, alloc, table, ELEMENTS)?;
-    let queues = show_queues(rt, alloc, table, BATCHES)?;
-    let lists = show_free_lists(rt, alloc, table, BATCHES, SHARED)?;
-    Ok(transfers.wrapping_add(queues).wrapping_add(lists))
+fn show_shared<R: Clock + Print>(table: &Table<'_, R>) -> Result<u64, Fault> {
+    let transfers = show_transfers(table, ELEMENTS)?;
+    let queues = show_queues(table, BATCHES)?;
+    let lists = show_free_lists(table, BATCHES)?;
+    Ok(added(added(transfers, queues), lists))
 }
 
 /// Measures and shows calls on one thread.
-fn show_calls<R: Clock + Print>(rt: &R, alloc: Global, table: Table) -> Result<(), Fault> {
-    table.head(rt)?;
-    let owned = show_owned(rt, alloc, table)?;
-    let spots = show_spots(rt, alloc, table)?;
-    let shared = show_shared(rt, alloc, table)?;
-    let sum = owned.wrapping_add(spots).wrapping_add(shared);
-    match println!(rt; "sum of what was seen: {sum}") {
-        Ok(()) => Ok(()),
-        Err(_) => Err(Fault::Write),
-    }
+fn show_calls<R: Clock + Print>(table: &Table<'_, R>) -> Result<(), Fault> {
+    table.head()?;
+    let owned = show_owned(table)?;
+    let heaped = show_heaped(table)?;
+    let shared = show_shared(table)?;
+    let sum = added(added(owned, heaped), shared);
+    written(println!(table.rt; "sum of what was seen: {sum}"))
 }
 
 /// Measures and shows some rows alone, with `count` elements or threads that put in. Of a collection with rooms there
 /// are at most as many elements as it may have rooms.
 fn show_alone<R: Clock + Print + Threads + Wait + Sync>(
-    rt: &R,
-    alloc: Global,
+    table: &Table<'_, R>,
     rows: Rows,
     count: usize,
-    table: Table,
 ) -> Result<(), Fault> {
     if let Rows::At(meeting, rooms) = rows {
-        return show_meeting(rt, alloc, (meeting, rooms), count, u64::from(table.rounds));
+        let milliseconds = u64::from(table.rounds);
+        return show_meeting(table.rt, table.alloc, (meeting, rooms), count, milliseconds);
     }
-    table.head(rt)?;
-    let rooms = count.min(MAX_ROOMS);
+    table.head()?;
     let _seen = match rows {
-        Rows::Lists => show_lists(rt, alloc, table, count)?,
-        Rows::Stables => show_stables(rt, alloc, table, count)?,
-        Rows::Many => show_many(rt, alloc, table, count)?,
-        Rows::Maps => show_maps(rt, alloc, table, count)?,
-        Rows::Stacks => show_stacks(rt, alloc, table, count)?,
-        Rows::Sorteds => show_sorteds(rt, alloc, table, count)?,
-        Rows::Heaps => show_heaps(rt, alloc, table, count)?,
-        Rows::Clocks => show_clocks(rt, alloc, table, count)?,
-        Rows::Timers => show_timers(rt, alloc, table, count)?,
-        Rows::Transfers => show_transfers(rt, alloc, table, rooms)?,
-        Rows::Queues => show_queues(rt, alloc, table, rooms)?,
-        Rows::FreeLists => show_free_lists(rt, alloc, table, count, SHARED)?,
+        Rows::Lists => show_lists(table, count)?,
+        Rows::Stables => show_stables(table, count)?,
+        Rows::Many => show_many(table, count)?,
+        Rows::Maps => show_maps(table, count)?,
+        Rows::Stacks => show_stacks(table, count)?,
+        Rows::Sorteds => show_sorteds(table, count)?,
+        Rows::Heaps => show_heaps(table, count)?,
+        Rows::Clocks => show_clocks(table, count)?,
+        Rows::Timers => show_timers(table, count)?,
+        Rows::Transfers => show_transfers(table, count)?,
+        Rows::Queues => show_queues(table, count)?,
+        Rows::FreeLists => show_free_lists(table, count)?,
         Rows::At(..) => 0,
     };
     Ok(())
 }
 
+/// Measures and shows what is asked for.
+fn show<R: Clock + Print + Threads + Wait + Sync>(
+    rt: &R,
+    alloc: Global,
+    asked: Asked,
+) -> Result<(), Fault> {
+    let (rounds, shown) = match asked {
+        Asked::Counts => (ROUNDS, Shown::Counts),
+        Asked::Times(rounds) | Asked::Alone(_, _, rounds) => (rounds, Shown::Times),
+    };
+    let table = Table {
+        rt,
+        alloc,
+        rounds,
+        shown,
+    };
+    match asked {
+        Asked::Alone(rows, count, _) => show_alone(&table, rows, count),
+        _ => show_calls(&table),
+    }
+}
+
 fn main(rt: HostRuntime) -> ExitCode {
     let shown = match ask(&rt) {
-        Ok(Asked::Calls(table)) => show_calls(&rt, rt.alloc(), table),
-        Ok(Asked::Alone(rows, count, table)) => show_alone(&rt, rt.alloc(), rows, count, table),
+        Ok(asked) => show(&rt, rt.alloc(), asked),
         Err(fault) => Err(fault),
     };
     match shown {

@@ -21,18 +21,15 @@ pub enum Fault {
 
 impl fmt::Display for Fault {
     fn fmt<W: fmt::Write>(&self, f: &mut fmt::Formatter<W>) -> fmt::Result {
-        match self {
+        f.write_str(match self {
             Fault::Usage => {
-                write!(
-                    f,
-                    "usage: cordyceps_speed [ROUNDS | ROWS COUNT ROUNDS | ROW PRODUCERS MILLISECONDS]"
-                )
+                "usage: cordyceps_speed [ROUNDS | ROWS COUNT ROUNDS | ROW PRODUCERS MILLISECONDS]"
             }
-            Fault::Clock => write!(f, "no time from the clock"),
-            Fault::Memory => write!(f, "out of memory"),
-            Fault::Sum => write!(f, "a sum of values is wrong"),
-            Fault::Threads => write!(f, "a thread could not be started"),
-            Fault::Write => write!(f, "write failed"),
-        }
+            Fault::Clock => "no time from the clock",
+            Fault::Memory => "out of memory",
+            Fault::Sum => "a sum of values is wrong",
+            Fault::Threads => "a thread could not be started",
+            Fault::Write => "write failed",
+        })
     }
 }

@@ -7,11 +7,11 @@ ghost use Rattle.cordyceps_base.specs.Spots.{AreDistinct};
 ghost use Rattle.cordyceps_many.specs.MultiList.{list_at};
 
 use crate::fault::Fault;
-use crate::nodes::{mix, shuffle};
-use crate::stables::numbers_below;
-use crate::stopwatch::Stopwatch;
-use crate::table::{Bench, Entry, Round, Table};
+use crate::nodes::{mix, numbers_below, shuffle};
+use crate::table::Step::{Off, On};
+use crate::table::{Bench, Row, Table, added};
 use crate::vectors::{push, with_room};
+use Act::*;
 use cordyceps_many::hooks::Two;
 use cordyceps_many::multi_list::MultiList;
 use cordyceps_many::node::MultiNode;
@@ -141,16 +141,11 @@ fn digest(lists: &Lists, i: usize) -> u64
 #[derive(Drop)]
 struct Ordered {
     lists: Lists,
-    /// No spot comes twice.
     first: Vec<Spot>,
     second: Vec<Spot>,
 }
 
 impl Model for Ordered {
-    ghost use Rattle.std.specs.Prelude.{All};
-    ghost use Rattle.cordyceps_base.specs.BySpot.{HasSpot};
-    ghost use Rattle.cordyceps_base.specs.Spots.{AreDistinct};
-
     ghost Value = { Unit {0} };
 
     ghost view = { λ o. tt };
@@ -199,113 +194,121 @@ impl Ordered {
     }
 }
 
-/// Kinds of call on lists that share their nodes.
+/// What a step does with lists that share their nodes.
 #[derive(Clone, Copy)]
-enum Calls {
+enum Act {
     /// Links in list 1, and unlinks.
     Link,
     /// Moves to the back of list 0.
     Touch,
-    /// Insertions of new nodes, which are also linked in list 1, and removals of these.
+    /// Makes new nodes in new lists, which are also linked in list 1.
     Make,
+    /// Draws the order in which these are removed.
+    Mix,
+    Remove,
 }
 
 /// What is measured.
-const KINDS: [Entry<Calls>; 3] = [
-    (
-        "MultiList: link_back, unlink",
-        Calls::Link,
-        "both, in list 1; the spots, in a Vec, in no order",
-    ),
-    (
-        "MultiList: move_to_back",
-        Calls::Touch,
-        "a move in list 0; the spots as for link_back",
-    ),
+const ROWS: [Row<Act>; 3] = [
+    ("MultiList: link_back, unlink", "both", &[On(Link)]),
+    ("MultiList: move_to_back", "one", &[On(Touch)]),
     (
         "MultiList: insert, link_back, remove",
-        Calls::Make,
-        "a node made, in both lists, and freed",
+        "all, and a node made and freed",
+        &[On(Make), Off(Mix), On(Remove)],
     ),
 ];
 
-/// Lists whose nodes stay, and what a round needs that makes its own.
+/// Lists whose nodes were made for a round, and the spots of these.
+#[derive(Drop)]
+struct Made {
+    lists: Lists,
+    spots: Vec<Spot>,
+}
+
+impl Model for Made {
+    ghost Value = { Unit {0} };
+
+    ghost view = { λ m. tt };
+
+    ghost invariant = { λ m. All (HasSpot m.lists.nodes) m.spots.items };
+}
+
+impl Made {
+    /// Moves the nodes at these places to the back of list 0, one after another.
+    fn mix(&mut self, alloc: Global, places: &[usize]) -> Result<(), Fault> {
+        let picked = pick(alloc, self.spots.as_slice(), places)?;
+        move_all(&mut self.lists, picked.as_slice());
+        Ok(())
+    }
+
+    /// Removes all nodes. Returns the sum of their values, modulo 2 to the 64.
+    fn remove_all(&mut self) -> u64 {
+        self.spots.clear();
+        remove_all(&mut self.lists)
+    }
+}
+
+/// Lists whose nodes stay, and lists whose nodes are made for a round.
 #[derive(Drop)]
 struct Many {
     alloc: Global,
     ordered: Ordered,
-    /// In which order nodes are removed that a round makes.
+    made: Made,
+    /// In which order the nodes of a round are removed.
     places: Vec<usize>,
     /// The sum of the values that were removed, modulo 2 to the 64.
     seen: u64,
 }
 
-/// Measures one round of nodes that are made and removed, in the order that these places have.
-fn make(rt: &impl Clock, alloc: Global, places: &[usize], seen: &mut u64) -> Result<Round, Fault> {
-    let mut stopwatch = Stopwatch::start(rt);
-    let (mut lists, spots) = fill(alloc, places.len())?;
-    let made = stopwatch.look(rt);
-    let picked = pick(alloc, spots.as_slice(), places)?;
-    move_all(&mut lists, picked.as_slice());
-    let _moved = stopwatch.look(rt);
-    *seen = seen.wrapping_add(remove_all(&mut lists));
-    let removed = stopwatch.look(rt);
-    Ok((places.len(), made.saturating_add(removed)))
-}
+impl Bench for Many {
+    type Step = Act;
 
-impl Bench<Calls> for Many {
-    fn round(self, rt: &impl Clock, calls: Calls) -> Result<(Many, Round), Fault> {
-        let mut many = self;
-        let Many {
-            alloc,
-            ordered,
-            places,
-            seen,
-        } = &mut many;
-        let mut stopwatch = Stopwatch::start(rt);
-        let round = match calls {
-            Calls::Link => {
-                ordered.link();
-                ordered.unlink();
-                (places.len(), stopwatch.look(rt))
+    fn step(&mut self, act: Act) -> Result<usize, Fault> {
+        let count = self.places.len();
+        match act {
+            Link => {
+                self.ordered.link();
+                self.ordered.unlink();
             }
-            Calls::Touch => {
-                ordered.touch();
-                (places.len().saturating_mul(2), stopwatch.look(rt))
+            Touch => {
+                self.ordered.touch();
+                return Ok(count.saturating_mul(2));
             }
-            Calls::Make => make(rt, *alloc, places.as_slice(), seen)?,
-        };
-        Ok((many, round))
+            Make => {
+                let (lists, spots) = fill(self.alloc, count)?;
+                self.made = Made { lists, spots };
+            }
+            Mix => self.made.mix(self.alloc, self.places.as_slice())?,
+            Remove => {
+                self.seen = added(self.seen, self.made.remove_all());
+                return Ok(0);
+            }
+        }
+        Ok(count)
     }
 
-    fn seen(&mut self, calls: Calls) -> Result<u64, Fault> {
-        match calls {
-            Calls::Link => {
-                self.ordered.link();
-                let seen = digest(&self.ordered.lists, 1);
-                self.ordered.unlink();
-                Ok(seen)
-            }
-            Calls::Touch => Ok(digest(&self.ordered.lists, 0)),
-            Calls::Make => Ok(self.seen),
-        }
+    fn seen(&mut self) -> Result<u64, Fault> {
+        self.ordered.link();
+        let linked = digest(&self.ordered.lists, 1);
+        self.ordered.unlink();
+        Ok(added(added(linked, digest(&self.ordered.lists, 0)), self.seen))
     }
 }
 
 /// Measures lists that share their nodes, and shows them. Returns a number over what came out and what was left.
-pub fn show_many<R: Clock + Print>(
-    rt: &R,
-    alloc: Global,
-    table: Table,
-    elements: usize,
-) -> Result<u64, Fault> {
-    let mut places = numbers_below(alloc, elements)?;
+pub fn show_many<R: Clock + Print>(table: &Table<'_, R>, count: usize) -> Result<u64, Fault> {
+    let mut places = numbers_below(table.alloc, count)?;
     shuffle(&mut places);
     let many = Many {
-        alloc,
-        ordered: Ordered::new(alloc, &mut places)?,
+        alloc: table.alloc,
+        ordered: Ordered::new(table.alloc, &mut places)?,
+        made: Made {
+            lists: Lists::new(),
+            spots: Vec::new(table.alloc),
+        },
         places,
         seen: 0,
     };
-    table.measure(rt, many, elements, &KINDS)
+    table.measure(many, count, &ROWS)
 }

@@ -5,11 +5,15 @@ use crate::fault::Fault;
 use crate::vectors::{keep, push, with_room};
 use cordyceps_base::list::Links;
 use cordyceps_base::node::{Kind, Node};
+use cordyceps_base::stack;
 use cordyceps_commands::Item;
 use std::alloc::Global;
 
 /// What goes into a list, and comes out.
 pub type ListNode = Node<Item, Links<Item>>;
+
+/// What goes into a stack, and comes out.
+pub type StackNode = Node<Item, stack::Links<Item>>;
 
 /// Returns the value of the node with this number: it is pseudo-random, and always the same.
 pub fn mix(id: u64) -> u64 {
@@ -19,29 +23,50 @@ pub fn mix(id: u64) -> u64 {
     value ^ (value >> 31)
 }
 
-/// A node.
-pub fn make_node<L: Kind>(alloc: Global, id: u64, value: u64) -> Result<Node<Item, L>, Fault> {
-    match Node::new(alloc, id, Item { value, id }) {
-        Ok(node) => Ok(node),
-        Err(_) => Err(Fault::Memory),
+/// Which value the node with a number has.
+#[derive(Clone, Copy)]
+pub enum Values {
+    /// That number.
+    Ascending,
+    /// The less, the greater the number.
+    Descending,
+    /// Pseudo-random.
+    Random,
+}
+
+impl Values {
+    /// Returns the value of the node with the number `id`, of `count` nodes.
+    pub fn of(self, count: usize, id: u64) -> u64 {
+        match self {
+            Values::Ascending => id,
+            Values::Descending => (count as u64).wrapping_sub(id),
+            Values::Random => mix(id),
+        }
     }
 }
 
-/// So many nodes that hold items, with numbers from 0 on.
-pub fn make_nodes<L: Kind>(alloc: Global, count: usize) -> Result<Vec<Node<Item, L>>, Fault>
+/// Makes nodes with such values, and with numbers from 0 on.
+pub fn nodes_of<L: Kind>(
+    alloc: Global,
+    count: usize,
+    values: Values,
+) -> Result<Vec<Node<Item, L>>, Fault>
     ensures { IfOk result (λ nodes. length nodes.items ≡ count) }
 {
     let mut nodes = with_room(alloc, count)?;
     for number in 0..count {
         let id = number as u64;
-        let node = make_node(alloc, id, mix(id))?;
-        push(&mut nodes, node)?;
+        let value = values.of(count, id);
+        match Node::new(alloc, id, Item { value, id }) {
+            Ok(node) => push(&mut nodes, node)?,
+            Err(_) => return Err(Fault::Memory),
+        }
     }
     Ok(nodes)
 }
 
-/// The sum of the numbers of `count` nodes, modulo 2 to the 64. Fails where one is missing: it was dropped, since
-/// memory was refused.
+/// Returns the sum of the numbers of `count` nodes, modulo 2 to the 64. Fails where one is missing: it was dropped,
+/// since memory was refused.
 pub fn sum_numbers<L: Kind>(nodes: &[Node<Item, L>], count: usize) -> Result<u64, Fault> {
     if nodes.len() != count {
         return Err(Fault::Memory);
@@ -53,11 +78,13 @@ pub fn sum_numbers<L: Kind>(nodes: &[Node<Item, L>], count: usize) -> Result<u64
     Ok(sum)
 }
 
-/// Moves all nodes to the end of another vector, the last first.
-pub fn move_all<L: Kind>(from: &mut Vec<Node<Item, L>>, to: &mut Vec<Node<Item, L>>) {
-    while let Some(node) = from.pop() {
-        keep(to, node);
+/// Returns the numbers below this one, in their order.
+pub fn numbers_below(alloc: Global, count: usize) -> Result<Vec<usize>, Fault> {
+    let mut numbers = with_room(alloc, count)?;
+    for number in 0..count {
+        keep(&mut numbers, number);
     }
+    Ok(numbers)
 }
 
 /// Puts the items into another order, the same each time.

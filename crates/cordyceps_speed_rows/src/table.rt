@@ -1,8 +1,10 @@
-//! The table that is printed: a row for each kind of call, which is measured in rounds.
+//! The table that is printed: a row for each kind of call, which is measured in rounds, and each round in steps.
+ghost use Rattle.std.specs.Prelude.{◌<◌};
 
-use crate::cost::{Cost, Tenths};
+use crate::cost::Cost;
 use crate::fault::Fault;
-use std::fmt;
+use crate::stopwatch::Stopwatch;
+use std::alloc::Global;
 use std::time::{Clock, Duration};
 
 /// What is shown of each kind of call.
@@ -14,122 +16,142 @@ pub enum Shown {
     Times,
 }
 
-/// The figures in a row.
+/// A step of a round.
 #[derive(Clone, Copy)]
-enum Figures {
-    /// How many calls were measured.
-    Count(u64),
-    /// How long one takes, on the mean and in the quickest round.
-    Times(Tenths, Tenths),
+pub enum Step<S> {
+    /// The clock is on: these calls are measured.
+    On(S),
+    /// The clock is off: this prepares them, or puts things back.
+    Off(S),
 }
 
-impl fmt::Display for Figures {
-    fn fmt<W: fmt::Write>(&self, f: &mut fmt::Formatter<W>) -> fmt::Result {
-        match self {
-            Figures::Count(count) => write!(f, "{count:>10}"),
-            Figures::Times(mean, least) => write!(f, " {mean} {least}"),
-        }
-    }
-}
-
-/// A kind of call that is to be measured: its name, which it is, and what is counted as one.
-pub type Entry<C> = (&'static str, C, &'static str);
-
-/// What a round measured: how many calls, and how long they took.
-pub type Round = (usize, Duration);
+/// A kind of call that is measured: its name, what is counted as one, and the steps of a round.
+pub type Row<S> = (&'static str, &'static str, &'static [Step<S>]);
 
 /// Returns the sum of two numbers, modulo 2 to the 64. No clause says so, which keeps the proofs of its callers short.
 pub fn added(sum: u64, more: u64) -> u64 {
     sum.wrapping_add(more)
 }
 
-/// Elements and the collections that they go into, at which kinds of call are measured.
-pub trait Bench<C>: Drop {
-    /// Measures one round of a kind of call. Only its loops over the elements are measured, not what prepares them.
-    fn round(self, rt: &impl Clock, calls: C) -> Result<(Self, Round), Fault>;
-
-    /// A number over what the rounds of a kind of call saw, or over what came out last. Fails where an element is
-    /// missing: it was dropped, since memory was refused.
-    fn seen(&mut self, calls: C) -> Result<u64, Fault>;
+/// Returns whether a line was written.
+pub fn written<T: Drop, E: Drop>(print: Result<T, E>) -> Result<(), Fault> {
+    match print {
+        Ok(_) => Ok(()),
+        Err(_) => Err(Fault::Write),
+    }
 }
 
-/// How many rounds are measured of each kind of call, and what is shown of them.
-#[derive(Clone, Copy)]
-pub struct Table {
+/// Elements and the collections that they go into, at which kinds of call are measured.
+pub trait Bench: Drop {
+    /// What a step can be.
+    type Step: Copy;
+
+    /// Takes a step. Returns how many calls it made, of those that its row counts.
+    fn step(&mut self, step: Self::Step) -> Result<usize, Fault>;
+
+    /// Returns a number over what the steps of a row saw, and over the elements that are left. Fails where an element
+    /// is missing: it was dropped, since memory was refused.
+    fn seen(&mut self) -> Result<u64, Fault>;
+}
+
+/// Takes the steps of a round, and counts the calls that are measured, and their time.
+fn round<B: Bench>(
+    rt: &impl Clock,
+    bench: &mut B,
+    steps: &[Step<B::Step>],
+    cost: &mut Cost,
+) -> Result<(), Fault> {
+    let mut calls: usize = 0;
+    let mut time = Duration::ZERO;
+    let mut stopwatch = Stopwatch::start(rt);
+    for step in steps {
+        match step {
+            Step::On(step) => {
+                stopwatch.look(rt);
+                let count = bench.step(*step)?;
+                time = time.saturating_add(stopwatch.look(rt));
+                calls = calls.saturating_add(count);
+            }
+            Step::Off(step) => {
+                bench.step(*step)?;
+            }
+        }
+    }
+    cost.add(calls, time);
+    Ok(())
+}
+
+/// What the rows of a table have in common.
+#[derive(Drop)]
+pub struct Table<'a, R> {
+    /// The runtime, which has the clock, and prints.
+    pub rt: &'a R,
+    /// What the elements are made in.
+    pub alloc: Global,
+    /// How many rounds are measured of each kind of call.
     pub rounds: u32,
+    /// What is shown of them.
     pub shown: Shown,
 }
 
-impl Table {
-    /// The same with a tenth of the rounds, for what takes long.
-    pub fn tenth(self) -> Table {
+impl<'a, R: Clock + Print> Table<'a, R> {
+    /// Returns the same with a part of the rounds, for what takes long.
+    pub fn part(&self, parts: u32) -> Table<'a, R>
+        requires { 0 < parts }
+    {
         Table {
-            rounds: self.rounds.div_ceil(10),
+            rt: self.rt,
+            alloc: self.alloc,
+            rounds: self.rounds.div_ceil(parts),
             shown: self.shown,
         }
     }
 
     /// Writes what the columns are.
-    pub fn head(self, rt: &impl Print) -> Result<(), Fault> {
-        let written = match self.shown {
-            Shown::Counts => {
-                println!(rt; "call                                elements  measured  what one is")
-            }
-            Shown::Times => {
-                println!(rt;
-                    "call                                elements   mean ns  least ns  what one is"
-                )
-            }
+    pub fn head(&self) -> Result<(), Fault> {
+        let figures = match self.shown {
+            Shown::Counts => "  measured",
+            Shown::Times => "   mean ns  least ns",
         };
-        if written.is_err() {
-            return Err(Fault::Write);
-        }
-        Ok(())
+        let name = "call";
+        written(println!(self.rt; "{name:<36}elements{figures}  what one is"))
     }
 
-    /// Writes the row of one kind of call: its name, this many elements in the collection, what it cost, and what is
-    /// counted as one.
-    pub fn row(
-        self,
-        rt: &impl Print,
-        name: &str,
-        elements: usize,
-        cost: &Cost,
-        what: &str,
-    ) -> Result<(), Fault> {
+    /// Writes a row: its name, this many elements in the collection, what its calls cost, and what is counted as one.
+    fn write(&self, name: &str, elements: usize, cost: &Cost, what: &str) -> Result<(), Fault> {
         if !cost.is_timed() {
             return Err(Fault::Clock);
         }
-        let figures = match self.shown {
-            Shown::Counts => Figures::Count(cost.operations),
-            Shown::Times => Figures::Times(cost.mean(), cost.quickest()),
-        };
-        match println!(rt; "{name:<36}{elements:>8}{figures}  {what}") {
-            Ok(()) => Ok(()),
-            Err(_) => Err(Fault::Write),
-        }
+        written(match self.shown {
+            Shown::Counts => {
+                let count = cost.operations;
+                println!(self.rt; "{name:<36}{elements:>8}{count:>10}  {what}")
+            }
+            Shown::Times => {
+                let mean = cost.mean();
+                let least = cost.quickest();
+                println!(self.rt; "{name:<36}{elements:>8} {mean} {least}  {what}")
+            }
+        })
     }
 
-    /// Measures kinds of call one after another, each with this many elements in the collection, and writes their rows.
-    /// Returns a number over what was seen.
-    pub fn measure<R: Clock + Print, C: Copy, B: Bench<C>>(
-        self,
-        rt: &R,
+    /// Measures rows one after another, each with this many elements in the collection, and writes them. Returns a
+    /// number over what was seen.
+    pub fn measure<B: Bench>(
+        &self,
         bench: B,
         elements: usize,
-        kinds: &[Entry<C>],
+        rows: &[Row<B::Step>],
     ) -> Result<u64, Fault> {
         let mut bench = bench;
         let mut sum: u64 = 0;
-        for (name, calls, what) in kinds {
+        for (name, what, steps) in rows {
             let mut cost = Cost::none();
             for _ in 0..self.rounds {
-                let (next, (count, time)) = bench.round(rt, *calls)?;
-                bench = next;
-                cost.add(count, time);
+                round(self.rt, &mut bench, steps, &mut cost)?;
             }
-            sum = added(sum, bench.seen(*calls)?);
-            self.row(rt, name, elements, &cost, what)?;
+            sum = added(sum, bench.seen()?);
+            self.write(name, elements, &cost, what)?;
         }
         Ok(sum)
     }

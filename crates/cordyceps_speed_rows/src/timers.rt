@@ -3,18 +3,15 @@
 //! they come out.
 
 use crate::fault::Fault;
-use crate::nodes::{ListNode, make_nodes, mix, shuffle};
-use crate::numbered::{ByNumber, Numbered};
-use crate::numbered_clock::NumberedClock;
-use crate::numbered_heap::NumberedHeap;
-use crate::stopwatch::Stopwatch;
-use crate::table::{Bench, Round, Table, added};
+use crate::nodes::{ListNode, Values, mix, nodes_of, shuffle};
+use crate::numbered::{ByNumber, NumberedClock, NumberedHeap, NumberedSorted};
+use crate::table::{Bench, Step, Table, added};
 use crate::vectors::{keep, with_room};
 use cordyceps_commands::Item;
 use std::alloc::Global;
 use std::cmp::Reverse;
 use std::collections::{BTreeMap, BinaryHeap};
-use std::time::{Clock, Duration};
+use std::time::Clock;
 
 /// Timers that run. One has a deadline, which is its value, and a number.
 trait Timers: Drop {
@@ -47,7 +44,7 @@ struct WithSpots<C> {
 
 impl<C: ByNumber> Timers for WithSpots<C> {
     fn new(alloc: Global, count: usize) -> Result<WithSpots<C>, Fault> {
-        let idle = make_nodes(alloc, count)?;
+        let idle = nodes_of(alloc, count, Values::Random)?;
         let running = C::new(alloc, count)?;
         Ok(WithSpots {
             alloc,
@@ -68,7 +65,7 @@ impl<C: ByNumber> Timers for WithSpots<C> {
         };
         node.set_id(timer.id);
         *node.get_mut() = timer;
-        self.running.insert(node);
+        self.running.push(node);
         true
     }
 
@@ -79,7 +76,7 @@ impl<C: ByNumber> Timers for WithSpots<C> {
     }
 
     fn pop(&mut self) -> Option<Item> {
-        let node = self.running.pop_front()?;
+        let node = self.running.pop()?;
         let timer = *node.get();
         keep(&mut self.idle, node);
         Some(timer)
@@ -149,180 +146,117 @@ impl Timers for InHeap {
     }
 }
 
-/// When the timers are due.
-#[derive(Clone, Copy)]
-enum Deadlines {
-    /// One of four timeouts after the start. From start to start the time is one more.
-    Timeouts,
-    /// At pseudo-random times.
-    Random,
-}
-
-impl Deadlines {
-    /// The deadline of the timer with a number.
-    fn of(self, number: u64) -> u64 {
-        let drawn = mix(number);
-        match self {
-            Deadlines::Timeouts => {
-                let timeout = match drawn % 4 {
-                    0 => 10,
-                    1 => 20,
-                    2 => 50,
-                    _ => 100,
-                };
-                number.wrapping_add(timeout)
-            }
-            Deadlines::Random => drawn,
-        }
-    }
-
-    /// What is counted as one.
-    fn what(self) -> &'static str {
-        match self {
-            Deadlines::Timeouts => "a timer, due after one of four timeouts",
-            Deadlines::Random => "a timer, due at any time",
-        }
-    }
-
-    /// Whether the deadlines mostly rise.
-    fn mostly_rise(self) -> bool {
-        match self {
-            Deadlines::Timeouts => true,
-            Deadlines::Random => false,
-        }
-    }
-}
-
-/// So many timers.
-fn timers_of(alloc: Global, count: usize, deadlines: Deadlines) -> Result<Vec<Item>, Fault> {
+/// Makes so many timers, which are due at pseudo-random times.
+fn timers_of(alloc: Global, count: usize) -> Result<Vec<Item>, Fault> {
     let mut timers = with_room(alloc, count)?;
     for number in 0..count {
         let id = number as u64;
-        let value = deadlines.of(id);
+        let value = mix(id);
         keep(&mut timers, Item { value, id });
     }
     Ok(timers)
 }
 
-/// Timers to start, and those of them that are cancelled, nine in ten, in an order of no kind.
-#[derive(Drop)]
-struct Plan {
-    started: Vec<Item>,
-    cancelled: Vec<Item>,
+/// What a step does with timers.
+#[derive(Clone, Copy)]
+enum Act {
+    Restart,
+    /// All are started, those that are to be cancelled are cancelled, and the others taken out.
+    Run,
 }
 
-impl Plan {
-    /// Plans for `count` timers.
-    fn new(alloc: Global, count: usize, deadlines: Deadlines) -> Result<Plan, Fault> {
-        let started = timers_of(alloc, count, deadlines)?;
-        let mut cancelled = timers_of(alloc, count, deadlines)?;
-        shuffle(&mut cancelled);
-        cancelled.truncate(count / 10 * 9);
-        Ok(Plan { started, cancelled })
-    }
+/// What a round does.
+const STEPS: [Step<Act>; 2] = [Step::Off(Act::Restart), Step::On(Act::Run)];
 
-    /// Measures that all of the timers are started, those that are to be cancelled are cancelled, and the others taken
-    /// out. Returns a number over these in their order, too.
-    fn run<T: Timers>(&self, rt: &impl Clock, timers: &mut T) -> Result<(u64, Duration), Fault> {
-        timers.restart()?;
-        let mut stopwatch = Stopwatch::start(rt);
-        for timer in &self.started {
-            if !timers.start(*timer) {
-                return Err(Fault::Memory);
-            }
-        }
-        for timer in &self.cancelled {
-            timers.cancel(*timer);
-        }
-        let mut sum: u64 = 0;
-        for _ in &self.started {
-            let Some(timer) = timers.pop() else {
-                break;
-            };
-            sum = sum.rotate_left(5) ^ timer.id;
-        }
-        Ok((sum, stopwatch.look(rt)))
-    }
-}
-
-/// Timers to start, and the collection that they go into.
+/// Timers to start, those of them that are cancelled, nine in ten, in an order of no kind, and the collection that they
+/// go into.
 #[derive(Drop)]
 struct Planned<T> {
-    plan: Plan,
+    started: Vec<Item>,
+    cancelled: Vec<Item>,
     timers: T,
     /// A number over the timers that came out last.
     seen: u64,
 }
 
-impl<T: Timers> Bench<()> for Planned<T> {
-    fn round(self, rt: &impl Clock, _calls: ()) -> Result<(Planned<T>, Round), Fault> {
-        let mut planned = self;
-        let count = planned.plan.started.len();
-        let (seen, time) = planned.plan.run(rt, &mut planned.timers)?;
-        planned.seen = seen;
-        Ok((planned, (count, time)))
+impl<T: Timers> Planned<T> {
+    /// Plans for `count` timers.
+    fn new(alloc: Global, count: usize) -> Result<Planned<T>, Fault> {
+        let mut cancelled = timers_of(alloc, count)?;
+        shuffle(&mut cancelled);
+        cancelled.truncate(count / 10 * 9);
+        Ok(Planned {
+            started: timers_of(alloc, count)?,
+            cancelled,
+            timers: T::new(alloc, count)?,
+            seen: 0,
+        })
     }
 
-    fn seen(&mut self, _calls: ()) -> Result<u64, Fault> {
+    /// Starts all of the timers, cancels those that are to be cancelled, and takes the others out.
+    fn run(&mut self) -> Result<(), Fault> {
+        for timer in &self.started {
+            if !self.timers.start(*timer) {
+                return Err(Fault::Memory);
+            }
+        }
+        for timer in &self.cancelled {
+            self.timers.cancel(*timer);
+        }
+        let mut seen: u64 = 0;
+        for _ in &self.started {
+            let Some(timer) = self.timers.pop() else {
+                break;
+            };
+            seen = seen.rotate_left(5) ^ timer.id;
+        }
+        self.seen = seen;
+        Ok(())
+    }
+}
+
+impl<T: Timers> Bench for Planned<T> {
+    type Step = Act;
+
+    fn step(&mut self, act: Act) -> Result<usize, Fault> {
+        match act {
+            Act::Restart => self.timers.restart()?,
+            Act::Run => self.run()?,
+        }
+        Ok(self.started.len())
+    }
+
+    fn seen(&mut self) -> Result<u64, Fault> {
         Ok(self.seen)
     }
 }
 
-/// Measures `count` timers with these deadlines in one collection, and shows them. Returns a number over those that
-/// came out last.
-fn show_in<R: Clock + Print, T: Timers>(
-    rt: &R,
-    alloc: Global,
-    table: Table,
+/// Measures `count` timers in one kind of collection, and shows them. Returns a number over those that came out last.
+fn show<R: Clock + Print, T: Timers>(
+    table: &Table<'_, R>,
     count: usize,
-    deadlines: Deadlines,
     name: &'static str,
 ) -> Result<u64, Fault> {
-    let planned: Planned<T> = Planned {
-        plan: Plan::new(alloc, count, deadlines)?,
-        timers: T::new(alloc, count)?,
-        seen: 0,
-    };
-    table.measure(rt, planned, count, &[(name, (), deadlines.what())])
+    let planned: Planned<T> = Planned::new(table.alloc, count)?;
+    table.measure(
+        planned,
+        count,
+        &[(name, "a timer, due at any time", &STEPS)],
+    )
 }
 
-/// How many timers with any deadlines are measured in a list, which walks to each. With more it would take seconds.
+/// How many timers are measured in a list, which walks to each. With more it would take seconds.
 const FEW: usize = 1_000;
 
-/// Measures `count` timers with these deadlines in each collection, and shows them. Returns the sum of numbers over
-/// those that came out last.
-fn show<R: Clock + Print>(
-    rt: &R,
-    alloc: Global,
-    table: Table,
-    count: usize,
-    deadlines: Deadlines,
-) -> Result<u64, Fault> {
+/// Measures `count` timers in each kind of collection, and shows them. Returns a number over those that came out last.
+pub fn show_timers<R: Clock + Print>(table: &Table<'_, R>, count: usize) -> Result<u64, Fault> {
     let mut sum: u64 = 0;
-    if count <= FEW || deadlines.mostly_rise() {
-        let name = "Timers: StableSortedList";
-        sum = show_in::<R, WithSpots<Numbered>>(rt, alloc, table, count, deadlines, name)?;
+    if count <= FEW {
+        sum = show::<R, WithSpots<NumberedSorted>>(table, count, "Timers: StableSortedList")?;
     }
-    let name = "Timers: StableHeap";
-    let heap = show_in::<R, WithSpots<NumberedHeap>>(rt, alloc, table, count, deadlines, name)?;
-    let name = "Timers: ClockQueue";
-    let clock = show_in::<R, WithSpots<NumberedClock>>(rt, alloc, table, count, deadlines, name)?;
-    let name = "Timers: BTreeMap";
-    let map = show_in::<R, BTreeMap<Item, ()>>(rt, alloc, table, count, deadlines, name)?;
-    let name = "Timers: BinaryHeap";
-    let binary = show_in::<R, InHeap>(rt, alloc, table, count, deadlines, name)?;
+    let heap = show::<R, WithSpots<NumberedHeap>>(table, count, "Timers: StableHeap")?;
+    let clock = show::<R, WithSpots<NumberedClock>>(table, count, "Timers: ClockQueue")?;
+    let map = show::<R, BTreeMap<Item, ()>>(table, count, "Timers: BTreeMap")?;
+    let binary = show::<R, InHeap>(table, count, "Timers: BinaryHeap")?;
     Ok(added(added(sum, heap), added(added(clock, map), binary)))
-}
-
-/// Measures `count` timers with deadlines that mostly rise, and as many with any, and shows them. Returns a number over
-/// those that came out last.
-pub fn show_timers<R: Clock + Print>(
-    rt: &R,
-    alloc: Global,
-    table: Table,
-    count: usize,
-) -> Result<u64, Fault> {
-    let rising = show(rt, alloc, table, count, Deadlines::Timeouts)?;
-    let random = show(rt, alloc, table, count, Deadlines::Random)?;
-    Ok(added(rising, random))
 }

@@ -1,10 +1,10 @@
 //! Collections at which threads meet: one takes what others put in.
 
-use crate::seats::{AtBatches, AtConsumer, AtInbox, AtQueue, AtSegments, AtStack};
+use crate::seats::{AtBatches, AtQueue, AtSegments, AtStack};
 use crate::threads::{Counted, Plan, measure};
 use cordyceps_queue::mpsc_queue::MpscQueue;
 use cordyceps_speed_rows::fault::Fault;
-use cordyceps_speed_rows::stacks::StackNode;
+use cordyceps_speed_rows::nodes::StackNode;
 use cordyceps_stack::stack::{MAX_ROOMS, Stack, TransferStack};
 use crossbeam_queue::SegQueue;
 use std::alloc::Global;
@@ -43,20 +43,25 @@ fn at_stack<R: Threads + Wait + Clock + Sync>(
     let Ok((stack, party)) = TransferStack::new(alloc, rooms) else {
         return Err(Fault::Memory);
     };
-    let stack = &stack;
-    let at = AtStack { stack, party };
-    match meeting {
-        Meeting::Batches => {
-            let seat = AtBatches {
-                at,
-                batch: Stack::new(),
-                waiting: 0,
-            };
-            measure(rt, alloc, plan, seat)
-        }
-        Meeting::Inbox => measure(rt, alloc, plan, AtInbox { at, inbox: None }),
-        _ => measure(rt, alloc, plan, at),
+    let with_inbox = match meeting {
+        Meeting::Inbox => true,
+        _ => false,
+    };
+    let at = AtStack {
+        stack: &stack,
+        party,
+        with_inbox,
+        inbox: None,
+    };
+    if let Meeting::Batches = meeting {
+        let seat = AtBatches {
+            at,
+            batch: Stack::new(),
+            waiting: 0,
+        };
+        return measure(rt, alloc, plan, seat);
     }
+    measure(rt, alloc, plan, at)
 }
 
 /// Measures a queue, whose taker keeps the right to dequeue, or takes it for each element.
@@ -70,11 +75,12 @@ fn at_queue<R: Threads + Wait + Clock + Sync>(
     let Ok((queue, party)) = MpscQueue::new(alloc, rooms) else {
         return Err(Fault::Memory);
     };
-    let queue = &queue;
-    let at = AtQueue { queue, party };
-    if keeps_right {
-        return measure(rt, alloc, plan, AtConsumer { at, consumer: None });
-    }
+    let at = AtQueue {
+        queue: &queue,
+        party,
+        keeps_right,
+        consumer: None,
+    };
     measure(rt, alloc, plan, at)
 }
 

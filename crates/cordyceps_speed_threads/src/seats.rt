@@ -5,7 +5,7 @@ use crate::threads::Seat;
 use cordyceps_commands::Item;
 use cordyceps_queue::mpsc_queue;
 use cordyceps_queue::mpsc_queue::{Consumer, MpscQueue};
-use cordyceps_speed_rows::stacks::StackNode;
+use cordyceps_speed_rows::nodes::StackNode;
 use cordyceps_stack::stack;
 use cordyceps_stack::stack::{Inbox, Stack, TransferStack};
 use crossbeam_queue::SegQueue;
@@ -19,20 +19,28 @@ const BATCH: usize = 64;
 pub struct AtStack<'a> {
     pub stack: &'a TransferStack<Item>,
     pub party: stack::Party<Item>,
+    /// Whether the thread that takes out has an inbox, and that.
+    pub with_inbox: bool,
+    pub inbox: Option<Inbox<'a, Item>>,
     ghost seated: { party.table ≡ stack.now },
 }
 
 impl<'a> Seat for AtStack<'a> {
     fn split(&mut self, rooms: usize) -> AtStack<'a> {
         let rooms = rooms.min(self.party.rooms());
-        let party = self.stack.split(&mut self.party, rooms);
         AtStack {
             stack: self.stack,
-            party,
+            party: self.stack.split(&mut self.party, rooms),
+            with_inbox: self.with_inbox,
+            inbox: None,
         }
     }
 
-    fn for_taker(self) -> AtStack<'a> {
+    fn for_taker(mut self) -> AtStack<'a> {
+        if self.with_inbox {
+            let party = self.stack.split(&mut self.party, 0);
+            self.inbox = Some(Inbox::new(self.stack, party));
+        }
         self
     }
 
@@ -45,12 +53,21 @@ impl<'a> Seat for AtStack<'a> {
     }
 
     fn take<R: Wait>(&mut self, _rt: &R, taken: &mut Vec<StackNode>) {
+        if let Some(inbox) = &mut self.inbox {
+            if let Some(node) = inbox.pop() {
+                drop(taken.push(node));
+            }
+            return;
+        }
         for node in self.stack.take_all(&mut self.party) {
             drop(taken.push(node));
         }
     }
 
     fn give_back(&mut self) -> bool {
+        if let Some(inbox) = &mut self.inbox {
+            return inbox.give_back();
+        }
         let rooms = self.party.rooms();
         self.stack.give_back(&mut self.party, rooms)
     }
@@ -72,10 +89,6 @@ impl<'a> Seat for AtBatches<'a> {
             batch: Stack::new(),
             waiting: 0,
         }
-    }
-
-    fn for_taker(self) -> AtBatches<'a> {
-        self
     }
 
     fn put<R: Wait>(&mut self, rt: &R, element: StackNode) -> Result<(), StackNode> {
@@ -105,71 +118,33 @@ impl<'a> Seat for AtBatches<'a> {
     }
 }
 
-/// A party at its stack, and the inbox of the thread that takes out.
-#[derive(Drop)]
-pub struct AtInbox<'a> {
-    pub at: AtStack<'a>,
-    pub inbox: Option<Inbox<'a, Item>>,
-}
-
-impl<'a> Seat for AtInbox<'a> {
-    fn split(&mut self, rooms: usize) -> AtInbox<'a> {
-        AtInbox {
-            at: self.at.split(rooms),
-            inbox: None,
-        }
-    }
-
-    fn for_taker(mut self) -> AtInbox<'a> {
-        let AtStack { stack, party } = self.at.split(0);
-        AtInbox {
-            at: self.at,
-            inbox: Some(Inbox::new(stack, party)),
-        }
-    }
-
-    fn put<R: Wait>(&mut self, rt: &R, element: StackNode) -> Result<(), StackNode> {
-        self.at.put(rt, element)
-    }
-
-    fn take<R: Wait>(&mut self, rt: &R, taken: &mut Vec<StackNode>) {
-        match &mut self.inbox {
-            Some(inbox) => {
-                if let Some(node) = inbox.pop() {
-                    drop(taken.push(node));
-                }
-            }
-            None => self.at.take(rt, taken),
-        }
-    }
-
-    fn give_back(&mut self) -> bool {
-        match &mut self.inbox {
-            Some(inbox) => inbox.give_back(),
-            None => self.at.give_back(),
-        }
-    }
-}
-
 /// A party at its queue.
 #[derive(Drop)]
 pub struct AtQueue<'a> {
     pub queue: &'a MpscQueue<Item>,
     pub party: mpsc_queue::Party<Item>,
+    /// Whether the thread that takes out keeps the right to dequeue, and its consumer.
+    pub keeps_right: bool,
+    pub consumer: Option<Consumer<'a, Item>>,
     ghost seated: { party.table ≡ queue.now.table },
 }
 
 impl<'a> Seat for AtQueue<'a> {
     fn split(&mut self, rooms: usize) -> AtQueue<'a> {
         let rooms = rooms.min(self.party.rooms());
-        let party = self.queue.split(&mut self.party, rooms);
         AtQueue {
             queue: self.queue,
-            party,
+            party: self.queue.split(&mut self.party, rooms),
+            keeps_right: self.keeps_right,
+            consumer: None,
         }
     }
 
-    fn for_taker(self) -> AtQueue<'a> {
+    fn for_taker(mut self) -> AtQueue<'a> {
+        if self.keeps_right {
+            let party = self.queue.split(&mut self.party, 0);
+            self.consumer = self.queue.try_consume(party).ok();
+        }
         self
     }
 
@@ -181,63 +156,22 @@ impl<'a> Seat for AtQueue<'a> {
     }
 
     fn take<R: Wait>(&mut self, _rt: &R, taken: &mut Vec<StackNode>) {
-        if let Ok(node) = self.queue.try_dequeue(&mut self.party) {
+        let tried = match &mut self.consumer {
+            Some(consumer) => consumer.try_dequeue(),
+            None => self.queue.try_dequeue(&mut self.party),
+        };
+        if let Ok(node) = tried {
             drop(taken.push(node.into_kind()));
         }
     }
 
     fn give_back(&mut self) -> bool {
+        if let Some(consumer) = &mut self.consumer {
+            let rooms = consumer.rooms();
+            return consumer.give_back(rooms);
+        }
         let rooms = self.party.rooms();
         self.queue.give_back(&mut self.party, rooms)
-    }
-}
-
-/// A party at its queue, and the consumer of the thread that takes out.
-#[derive(Drop)]
-pub struct AtConsumer<'a> {
-    pub at: AtQueue<'a>,
-    pub consumer: Option<Consumer<'a, Item>>,
-}
-
-impl<'a> Seat for AtConsumer<'a> {
-    fn split(&mut self, rooms: usize) -> AtConsumer<'a> {
-        AtConsumer {
-            at: self.at.split(rooms),
-            consumer: None,
-        }
-    }
-
-    fn for_taker(mut self) -> AtConsumer<'a> {
-        let AtQueue { queue, party } = self.at.split(0);
-        AtConsumer {
-            at: self.at,
-            consumer: queue.try_consume(party).ok(),
-        }
-    }
-
-    fn put<R: Wait>(&mut self, rt: &R, element: StackNode) -> Result<(), StackNode> {
-        self.at.put(rt, element)
-    }
-
-    fn take<R: Wait>(&mut self, rt: &R, taken: &mut Vec<StackNode>) {
-        match &mut self.consumer {
-            Some(consumer) => {
-                if let Ok(node) = consumer.try_dequeue() {
-                    drop(taken.push(node.into_kind()));
-                }
-            }
-            None => self.at.take(rt, taken),
-        }
-    }
-
-    fn give_back(&mut self) -> bool {
-        match &mut self.consumer {
-            Some(consumer) => {
-                let rooms = consumer.rooms();
-                consumer.give_back(rooms)
-            }
-            None => self.at.give_back(),
-        }
     }
 }
 
@@ -248,10 +182,6 @@ pub struct AtSegments<'a>(pub &'a SegQueue<StackNode>);
 impl<'a> Seat for AtSegments<'a> {
     fn split(&mut self, _rooms: usize) -> AtSegments<'a> {
         AtSegments(self.0)
-    }
-
-    fn for_taker(self) -> AtSegments<'a> {
-        self
     }
 
     fn put<R: Wait>(&mut self, rt: &R, element: StackNode) -> Result<(), StackNode> {

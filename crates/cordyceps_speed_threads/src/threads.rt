@@ -2,8 +2,7 @@
 //! them are at work.
 
 use cordyceps_speed_rows::fault::Fault;
-use cordyceps_speed_rows::nodes::make_nodes;
-use cordyceps_speed_rows::stacks::StackNode;
+use cordyceps_speed_rows::nodes::{StackNode, Values, nodes_of};
 use cordyceps_speed_rows::stopwatch::Stopwatch;
 use cordyceps_speed_rows::vectors::{push, with_room};
 use std::alloc::Global;
@@ -14,12 +13,14 @@ use std::time::{Clock, Duration};
 use std::{hint, thread};
 
 /// The place of a thread at a collection.
-pub trait Seat {
+pub trait Seat: Sized {
     /// A place for another thread, with `rooms` of the rooms, or all where there are fewer.
     fn split(&mut self, rooms: usize) -> Self;
 
     /// The same place for the thread that takes out, which may keep the right to do so.
-    fn for_taker(self) -> Self;
+    fn for_taker(self) -> Self {
+        self
+    }
 
     /// Puts an element in. It comes back where there is no room.
     fn put<R: Wait>(&mut self, rt: &R, element: StackNode) -> Result<(), StackNode>;
@@ -269,7 +270,7 @@ fn put<S: Seat, R: Wait>(rt: &R, seat: &mut S, ground: &Ground, element: StackNo
 fn jobs<S: Seat + Drop>(alloc: Global, plan: Plan, mut seat: S) -> Result<Vec<Job<S>>, Fault> {
     let mut jobs = with_room(alloc, plan.producers.saturating_add(1))?;
     for _ in 0..plan.producers {
-        let elements = make_nodes(alloc, plan.rooms)?;
+        let elements = nodes_of(alloc, plan.rooms, Values::Random)?;
         let job = Job {
             seat: seat.split(plan.rooms),
             elements,

@@ -1,0 +1,16 @@
+use Rattle.std.proofs.Common.{Some, ◌∙◌, ap, sym, subst}
+use Rattle.cordyceps_stable.specs.Agreeing.{IsUpdated}
+use Rattle.cordyceps_stable.proofs.Agreeing.{put_agrees}
+use Rattle.cordyceps_stable.proofs.Holding.{last_taken}
+use Rattle.cordyceps_speed_rows.specs.Tables.{spot_of}
+use Rattle.cordyceps_speed_rows.proofs.numbered.NumberedListPassageLinksItem.push.Goals as goal
+
+pub invariant_of-self : goal.invariant_of-self
+invariant_of-self c =
+    let table = c.self.inside.spots.items in
+    let spot = c.push_back-spot.result in
+    let after = spot_of c.note.new.spots.items in
+    let fresh = ap (λ n. spot_of table n) (sym c.id-number.ensures) ∙ c.is_free.ensures.free c.if-is_free.true in
+    let up = subst (λ n. IsUpdated (spot_of table) n (Some spot) after) c.id-number.ensures c.note.ensures in
+    let taken = last_taken c.push_back-spot.new.self c.self.inside.list spot c.args.node c.push_back-spot.ensures.holds in
+    put_agrees (spot_of table) after c.self.inside.list c.push_back-spot.new.self spot c.args.node c.self.invariant fresh up taken c.push_back-spot.ensures.distinct

@@ -1,8 +1,0 @@
-use Rattle.std.proofs.Common.{◌≡◌, ◌+◌, length, vec_len}
-use Rattle.cordyceps_speed_rows.proofs.stables.measure_pushes.Given as goal
-
-abbrev pub invariant-loop-node : goal.invariant-loop-node
-invariant-loop-node g l = length l.list + length l.nodes.items ≡ length l.fn.nodes.items
-
-abbrev pub decreases-loop-node : goal.decreases-loop-node
-decreases-loop-node g l = vec_len l.nodes

@@ -1,5 +1,0 @@
-use Rattle.std.proofs.Common.{vec_len}
-use Rattle.cordyceps_speed_rows.proofs.transfers.Transfers.push_all.Given as goal
-
-abbrev pub decreases-loop-node : goal.decreases-loop-node
-decreases-loop-node l = vec_len l.self.nodes

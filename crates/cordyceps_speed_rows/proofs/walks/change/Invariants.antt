@@ -1,6 +1,0 @@
-use Rattle.std.proofs.Common.{◌-◌}
-use Rattle.cordyceps_list.specs.IterMut.{from, to}
-use Rattle.cordyceps_speed_rows.proofs.walks.change.Given as goal
-
-abbrev pub decreases-loop-item : goal.decreases-loop-item
-decreases-loop-item g l = to l.items - from l.items
