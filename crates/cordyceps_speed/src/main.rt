@@ -80,7 +80,7 @@ enum Rows {
 }
 
 /// The words that ask for them.
-const ROWS: [(&str, Rows); 20] = [
+const ROWS: [(&str, Rows); 21] = [
     ("lists", Rows::Lists),
     ("stables", Rows::Stables),
     ("many", Rows::Many),
@@ -100,6 +100,7 @@ const ROWS: [(&str, Rows); 20] = [
     ("queue", Rows::At(Meeting::Queue, ROOMS)),
     ("queue_few", Rows::At(Meeting::Queue, FEW_ROOMS)),
     ("consumer", Rows::At(Meeting::Consumer, ROOMS)),
+    ("channel", Rows::At(Meeting::Channel, ROOMS)),
     ("segments", Rows::At(Meeting::Segments, ROOMS)),
 ];
 

@@ -1,7 +1,8 @@
 //! Collections at which threads meet: one takes what others put in.
 
-use crate::seats::{AtBatches, AtQueue, AtSegments, AtStack};
+use crate::seats::{AtBatches, AtChannel, AtQueue, AtSegments, AtStack};
 use crate::threads::{Counted, Plan, measure};
+use cordyceps_channel::channel;
 use cordyceps_queue::mpsc_queue::MpscQueue;
 use cordyceps_speed_rows::fault::Fault;
 use cordyceps_speed_rows::nodes::StackNode;
@@ -28,6 +29,8 @@ pub enum Meeting {
     Queue,
     /// A queue whose taker keeps the right to dequeue.
     Consumer,
+    /// A channel.
+    Channel,
     /// The queue of segments of the toolchain.
     Segments,
 }
@@ -84,6 +87,34 @@ fn at_queue<R: Threads + Wait + Clock + Sync>(
     measure(rt, alloc, plan, at)
 }
 
+/// Measures a channel.
+fn at_channel<R: Threads + Wait + Clock + Sync>(
+    rt: &R,
+    alloc: Global,
+    plan: Plan,
+) -> Result<Counted, Fault> {
+    let rooms = plan.all_rooms().min(MAX_ROOMS);
+    let Ok((mut sender, receiver)) = channel(alloc, rooms) else {
+        return Err(Fault::Memory);
+    };
+    let mut senders = Vec::new(alloc);
+    for _ in 0..plan.producers {
+        let Ok(other) = sender.try_clone(rt) else {
+            return Err(Fault::Memory);
+        };
+        if senders.push(other).is_err() {
+            return Err(Fault::Memory);
+        }
+    }
+    let seat = AtChannel {
+        sender: None,
+        receiver: Some(receiver),
+        senders,
+        alloc,
+    };
+    measure(rt, alloc, plan, seat)
+}
+
 /// Measures the queue of segments.
 fn at_segments<R: Threads + Wait + Clock + Sync>(
     rt: &R,
@@ -114,6 +145,7 @@ pub fn show_meeting<R: Threads + Wait + Clock + Sync + Print>(
         Meeting::Stack | Meeting::Batches | Meeting::Inbox => at_stack(rt, alloc, plan, meeting)?,
         Meeting::Queue => at_queue(rt, alloc, plan, false)?,
         Meeting::Consumer => at_queue(rt, alloc, plan, true)?,
+        Meeting::Channel => at_channel(rt, alloc, plan)?,
         Meeting::Segments => at_segments(rt, alloc, plan)?,
     };
     if counted.time == Duration::MAX {

@@ -1,7 +1,8 @@
-//! The collections at which threads meet: the library's two, and another beside them.
+//! The collections at which threads meet: the library's three, and another beside them.
 ghost use Rattle.std.specs.Prelude.{◌≡◌, length};
 
 use crate::threads::Seat;
+use cordyceps_channel::{Receiver, Sender, TrySendError};
 use cordyceps_commands::Item;
 use cordyceps_queue::mpsc_queue;
 use cordyceps_queue::mpsc_queue::{Consumer, MpscQueue};
@@ -9,6 +10,7 @@ use cordyceps_speed_rows::nodes::StackNode;
 use cordyceps_stack::stack;
 use cordyceps_stack::stack::{Inbox, Stack, TransferStack};
 use crossbeam_queue::SegQueue;
+use std::alloc::Global;
 use std::sync::Wait;
 
 /// How many elements are pushed at one step.
@@ -172,6 +174,52 @@ impl<'a> Seat for AtQueue<'a> {
         }
         let rooms = self.party.rooms();
         self.queue.give_back(&mut self.party, rooms)
+    }
+}
+
+/// A thread at a channel: a sender, or the receiver, with the senders of threads that have not begun.
+#[derive(Drop)]
+pub struct AtChannel {
+    pub sender: Option<Sender<Item>>,
+    pub receiver: Option<Receiver<Item>>,
+    pub senders: Vec<Sender<Item>>,
+    pub alloc: Global,
+}
+
+impl Seat for AtChannel {
+    fn split(&mut self, _rooms: usize) -> AtChannel {
+        AtChannel {
+            sender: self.senders.pop(),
+            receiver: None,
+            senders: Vec::new(self.alloc),
+            alloc: self.alloc,
+        }
+    }
+
+    fn put<R: Wait>(&mut self, _rt: &R, element: StackNode) -> Result<(), StackNode> {
+        let Some(sender) = &mut self.sender else {
+            return Err(element);
+        };
+        match sender.try_send(element.into_kind()) {
+            Ok(()) => Ok(()),
+            Err(TrySendError::Full(back) | TrySendError::Disconnected(back)) => {
+                Err(back.into_kind())
+            }
+        }
+    }
+
+    fn take<R: Wait>(&mut self, _rt: &R, taken: &mut Vec<StackNode>) {
+        let Some(receiver) = &mut self.receiver else {
+            return;
+        };
+        if let Ok(node) = receiver.try_recv() {
+            drop(taken.push(node.into_kind()));
+        }
+    }
+
+    /// The two sides of a channel give rooms back by themselves.
+    fn give_back(&mut self) -> bool {
+        true
     }
 }
 
