@@ -1,15 +1,16 @@
-//! The channel of Rust's std where threads meet, as shared.cc measures others. It is called as that program is:
+//! The channels of Rust's std where threads meet, as shared.cc measures others. It is called as that program is:
 //!
-//!   mpsc rows                                prints its row
+//!   mpsc rows                                prints its rows
 //!   mpsc ROW PEER PRODUCERS MILLISECONDS     prints how many elements came out in which time
 
 use std::sync::atomic::{AtomicBool, AtomicUsize, Ordering::SeqCst};
-use std::sync::mpsc::{channel, Receiver, Sender};
+use std::sync::mpsc::{channel, sync_channel, Receiver, Sender, SyncSender};
 use std::sync::Mutex;
 use std::time::{Duration, Instant};
 use std::{env, hint, mem, process, thread};
 
-const ROW: [&str; 2] = ["meet queue", "std mpsc"];
+const ROW: &str = "meet queue";
+const PEERS: [&str; 2] = ["std mpsc", "std sync_channel"];
 /// How many elements each producer begins with, and how many of them come back at a time.
 const EACH: usize = 4096;
 const QUARTER: usize = EACH / 4;
@@ -18,6 +19,22 @@ const WARM_UP: Duration = Duration::from_millis(100);
 const TRIES: usize = 128;
 
 type Element = Box<(u64, u64)>;
+
+/// The sending side of a channel without a bound, or with as many places as there are elements.
+#[derive(Clone)]
+enum Side {
+    Unbounded(Sender<Element>),
+    Bounded(SyncSender<Element>),
+}
+
+impl Side {
+    fn send(&self, it: Element) {
+        match self {
+            Side::Unbounded(sender) => sender.send(it).unwrap(),
+            Side::Bounded(sender) => sender.send(it).unwrap(),
+        }
+    }
+}
 
 /// Where threads meet, besides the channel.
 struct Ground {
@@ -42,11 +59,11 @@ impl Ground {
 }
 
 /// Puts elements in, and those that come back, until the run is over.
-fn produce(ground: &Ground, sender: Sender<Element>, mut elements: Vec<Element>) {
+fn produce(ground: &Ground, sender: Side, mut elements: Vec<Element>) {
     ground.meet();
     loop {
         for it in mem::take(&mut elements) {
-            sender.send(it).unwrap();
+            sender.send(it);
         }
         if ground.is_over.load(SeqCst) {
             return;
@@ -91,7 +108,7 @@ fn take_for(
 }
 
 /// How many elements one thread takes out in a window while others put them in. At the end each has to be somewhere.
-fn meet(producers: usize, window: Duration) -> (usize, Duration) {
+fn meet(is_bounded: bool, producers: usize, window: Duration) -> (usize, Duration) {
     let all = EACH * producers;
     let ground = Ground {
         threads: producers + 1,
@@ -99,7 +116,13 @@ fn meet(producers: usize, window: Duration) -> (usize, Duration) {
         is_over: AtomicBool::new(false),
         returned: Mutex::new(Vec::with_capacity(all)),
     };
-    let (sender, receiver) = channel();
+    let (sender, receiver) = if is_bounded {
+        let (sender, receiver) = sync_channel(all);
+        (Side::Bounded(sender), receiver)
+    } else {
+        let (sender, receiver) = channel();
+        (Side::Unbounded(sender), receiver)
+    };
     let mut taken = Vec::with_capacity(all);
     let counted = thread::scope(|scope| {
         for _ in 0..producers {
@@ -124,10 +147,10 @@ fn main() {
     let words: Vec<String> = env::args().skip(1).collect();
     let words: Vec<&str> = words.iter().map(String::as_str).collect();
     match words[..] {
-        ["rows"] => println!("{}\t{}", ROW[0], ROW[1]),
-        [row, peer, producers, window] if [row, peer] == ROW => {
+        ["rows"] => PEERS.iter().for_each(|peer| println!("{ROW}\t{peer}")),
+        [ROW, peer, producers, window] if PEERS.contains(&peer) => {
             let window = Duration::from_millis(window.parse().unwrap());
-            let (count, time) = meet(producers.parse().unwrap(), window);
+            let (count, time) = meet(peer == PEERS[1], producers.parse().unwrap(), window);
             println!("{count} elements in {} ns", time.as_nanos());
         }
         _ => {
