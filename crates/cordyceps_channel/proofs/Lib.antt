@@ -1,5 +1,7 @@
+mod Among
 mod Ending
 mod Placing
 mod Received
 mod Registering
+mod Taking
 mod Waiting

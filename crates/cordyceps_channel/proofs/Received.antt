@@ -1,5 +1,5 @@
 -- What a party sent and received in each call.
-use Rattle.std.proofs.Common.{◌≡◌, ℕ, List, [], ◌∷◌, ◌++◌, Bool, true, false, cond, ◌||◌, refl, sym, ap, ◌∙◌, append_assoc}
+use Rattle.std.proofs.Common.{◌≡◌, ℕ, List, [], ◌∷◌, ◌++◌, Bool, true, false, cond, ◌||◌, ◌≤◌, length, map, refl, sym, ap, ◌∙◌, subst, append_assoc, ⊎_elim, arith}
 use Rattle.std.proofs.lemmas.List.{map-id, append-nil}
 use Rattle.std.proofs.lemmas.List.Concat.{flat_map-append}
 use Rattle.cordyceps_shared.specs.Histories.{plain, own}
@@ -11,9 +11,11 @@ use Rattle.cordyceps_shared.proofs.HistoryMarks.{own_append}
 use Rattle.cordyceps_shared.proofs.Moving.{moves_none, moves_then, moves_given, moves_by}
 use Rattle.cordyceps_queue.specs.History.{Event, actor, goes, went}
 use Rattle.cordyceps_queue.specs.Shared.Calls.{PartyOf, Legal, GivesAllBack}
+use Rattle.cordyceps_queue.specs.Shared.Batches.{StopsAt, TakesLinked}
 use Rattle.cordyceps_queue.specs.Shared.Moves.{put_by, got_by, Moves}
-use Rattle.cordyceps_queue.proofs.SharedTheory.PartyMoves.{all_got}
-use Rattle.cordyceps_channel.specs.Channels.{received, Receives}
+use Rattle.cordyceps_queue.specs.Shared.Receipts.{Learns}
+use Rattle.cordyceps_queue.proofs.SharedTheory.PartyMoves.{all_got, moves_linked}
+use Rattle.cordyceps_channel.specs.Channels.{received, Receives, ReceivesBatch, Stays}
 
 module _ {E : Type 0} where
   went_append : (g h : List (Event Name E)) → went (g ++ h) ≡ went g ++ went h
@@ -95,3 +97,41 @@ module _ {E : Type 0} where
   -- a call after others that neither sent nor received
   pub nothing_then : {sent : List E} (u v w : PartyOf E) → Moves (λ (x : E). x) [] [] u v → Moves (λ (x : E). x) sent [] v w → Moves (λ (x : E). x) sent [] u w
   nothing_then {sent} u v w before m = moves_then (put_by (λ (x : E). x)) (got_by (λ (x : E). x)) [] [] sent [] u v w before m
+
+  -- ---- calls that receive nothing and keep the share
+  pub stays : (u : PartyOf E) → Stays u u
+  stays u = record { receives = receives_none u; share = refl }
+
+  pub moves_stays : {sent : List E} (u w : PartyOf E) → Moves (λ (x : E). x) sent [] u w → Stays u w
+  moves_stays u w m = record { receives = moves_receives u w [] m; share = m.acts.share }
+
+  pub stays_then : (u v w : PartyOf E) → Stays u v → Stays v w → Stays u w
+  stays_then u v w a b = record { receives = receives_then u v w [] [] a.receives b.receives; share = b.share ∙ a.share }
+
+  pub learns_moves : (told : List (Event Name E)) (u w : PartyOf E) → Learns told u w → Moves (λ (x : E). x) [] [] u w
+  learns_moves told u w l = moves_by (put_by (λ (x : E). x)) (got_by (λ (x : E). x)) (λ h. Legal h) actor u w [] l.adds
+
+  -- ---- several at a time
+  few_taken : (max : ℕ) (es : List E) (u w : PartyOf E) → StopsAt max es u w → length es ≤ max
+  few_taken max es u w s = ⊎_elim (λ a. omega (arith, a.0)) (λ r. ⊎_elim (λ b. omega (arith, b.0)) (λ d. omega (arith, d.0)) r) s
+
+  pub takes_receives : {A : Type 0} (f : E → A) (max : ℕ) (batch : List A) (es : List E) (u w : PartyOf E) → batch ≡ map f es → TakesLinked max es u w → ReceivesBatch f max batch u w
+  takes_receives f max batch es u w is t = record {
+    elements = es;
+    items = is;
+    some = t.some;
+    few = few_taken max es u w t.stops;
+    receives = subst (λ l. Receives l u w) (map-id es) (moves_receives u w (map (λ x. x) es) (moves_linked (λ x. x) max es u w t));
+  }
+
+  pub batch_then : {A : Type 0} (f : E → A) (max : ℕ) (batch : List A) (u v w : PartyOf E) → Receives [] u v → ReceivesBatch f max batch v w → ReceivesBatch f max batch u w
+  batch_then f max batch u v w before b = record { elements = b.elements; items = b.items; some = b.some; few = b.few; receives = receives_then u v w [] b.elements before b.receives }
+
+  pub then_stays : {A : Type 0} (f : E → A) (max : ℕ) (batch : List A) (u v w : PartyOf E) → ReceivesBatch f max batch u v → Stays v w → ReceivesBatch f max batch u w
+  then_stays f max batch u v w b after = record {
+    elements = b.elements;
+    items = b.items;
+    some = b.some;
+    few = b.few;
+    receives = subst (λ l. Receives l u w) (append-nil b.elements) (receives_then u v w b.elements [] b.receives after.receives);
+  }

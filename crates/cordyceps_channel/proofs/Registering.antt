@@ -8,7 +8,7 @@ use Rattle.cordyceps_shared.specs.Histories.{own}
 use Rattle.cordyceps_shared.specs.Knowing.{without_marks}
 use Rattle.cordyceps_shared.specs.Standings.{Absorbs, GivesBack, new_party, keeping, giving}
 use Rattle.cordyceps_shared.proofs.NameHalves.{halves_join}
-use Rattle.cordyceps_queue.specs.History.{Event, went}
+use Rattle.cordyceps_queue.specs.History.{went}
 use Rattle.cordyceps_queue.specs.Shared.Calls.{PartyOf, Legal, capacity}
 use Rattle.cordyceps_queue.specs.Shared.Moves.{Moves}
 use Rattle.cordyceps_channel.specs.Places.{PlaceOf}
@@ -42,6 +42,10 @@ module _ {E : Type 0} (table : TableId) where
 one_longer : {A : Type 0} (xs : List A) (x : A) → suc (length xs) ≡ length (xs ++ x ∷ [])
 one_longer xs x = omega (arith, length-append xs (x ∷ []))
 
+pub none_own : {X : Type 0} (xs : List (Bool × X)) → own (without_marks xs) ≡ []
+none_own [] = refl
+none_own (x ∷ xs) = none_own xs
+
 module _ {E : Type 0} (z : TableId) where
   -- a sender that received nothing in a call still has the party that its place waits for
   pub still_opened : {sent : List E} (u w : PartyOf E) (home : PlaceOf (Snapshot (PartyOf E))) → IsOpened z u home → Moves (λ x. x) sent [] u w → IsOpened z w home
@@ -72,10 +76,6 @@ module _ {E : Type 0} (z : TableId) where
     took = took;
     back = record { table = ap (λ v. v.table) (sym is); share = ap (λ v. gives_half v.share) (sym is); none = ap went (none_own u.seen) };
   }
-    where
-      none_own : (xs : List (Bool × Event Name E)) → own (without_marks xs) ≡ []
-      none_own [] = refl
-      none_own (x ∷ xs) = none_own xs
 
   -- one that came back was absorbed, which was split off last
   pub absorbs_last : (u o w : PartyOf E) (homes : List (PlaceOf (Snapshot (PartyOf E)))) (home : PlaceOf (Snapshot (PartyOf E))) → IsRegister z u (homes ++ home ∷ []) → ComesBack home.key.value o
@@ -94,8 +94,6 @@ module _ {E : Type 0} (z : TableId) where
       }
 
   -- the first two parties
-  pub are_parties : (n rooms : ℕ) (gave : Bool) (u : PartyOf E) → capacity z ≡ n → GivesBack rooms gave (new_party z n) u → AreParties n z (keeping 0 u) (giving 0 u)
-  are_parties n rooms true u are is = subst (λ (v : PartyOf E). AreParties n z (keeping 0 v) (giving 0 v)) (sym is)
-      record { rooms = are; register = record { table = refl; share = refl; none = refl; places = tt }; table = refl; share = refl; unseen = refl }
-  are_parties n rooms false u are is = subst (λ (v : PartyOf E). AreParties n z (keeping 0 v) (giving 0 v)) (sym is)
-      record { rooms = are; register = record { table = refl; share = refl; none = refl; places = tt }; table = refl; share = refl; unseen = refl }
+  pub are_parties : (n : ℕ) (u : PartyOf E) → capacity z ≡ n → GivesBack n true (new_party z n) u → AreParties n z (keeping 0 u) (giving 0 u)
+  are_parties n u are is = subst (λ (v : PartyOf E). AreParties n z (keeping 0 v) (giving 0 v)) (sym is)
+      record { rooms = are; register = record { table = refl; share = refl; none = refl; places = tt }; table = refl; share = refl; unseen = refl; roomless = (omega (arith), refl) }

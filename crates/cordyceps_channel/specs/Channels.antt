@@ -1,12 +1,15 @@
 -- What the senders and the receiver of a channel promise.
-use Rattle.std.specs.Prelude.{◌≡◌, ℕ, zero, suc, List, [], ◌∷◌, ◌++◌, length, Bool, true, false}
+use Rattle.std.specs.Prelude.{◌≡◌, ◌≢◌, ◌≤◌, ℕ, zero, suc, List, [], ◌∷◌, ◌++◌, length, map, Bool, true, false}
 use Rattle.atomic_table.specs.Seated.{TableId}
 use Rattle.cordyceps_shared.specs.Histories.{plain, own}
 use Rattle.cordyceps_shared.specs.Knowing.{IsPrefixOf}
 use Rattle.cordyceps_shared.specs.Shares.{Name, whole, keeps_half, gives_half}
 use Rattle.cordyceps_queue.specs.History.{came, went}
+use Rattle.cordyceps_shared.specs.Interleaving.{Interleaves}
 use Rattle.cordyceps_queue.specs.Shared.Calls.{PartyOf, FindsFull, capacity}
 use Rattle.cordyceps_queue.specs.Shared.Moves.{Moves}
+use Rattle.cordyceps_channel.specs.declared.errors.RecvTimeoutError.{RecvTimeoutError}
+use Rattle.cordyceps_channel.specs.declared.errors.RecvTimeoutError.TheVariants as in_time
 use Rattle.cordyceps_channel.specs.declared.errors.TryRecvError.{TryRecvError}
 use Rattle.cordyceps_channel.specs.declared.errors.TryRecvError.TheVariants as nothing
 use Rattle.cordyceps_channel.specs.declared.errors.TrySendError.{TrySendError}
@@ -56,17 +59,38 @@ module _ {E : Type 0} where
     pub alone : w.share ≡ whole
     pub all : received w ≡ came (plain w.seen)
 
+  -- the receiver received nothing, and has the same share
+  pub record Stays (u w : PartyOf E) : Type 0 where
+    pub receives : Receives [] u w
+    pub share : w.share ≡ u.share
+
+  -- these are among those, in this order
+  abbrev pub AreAmong : List E → List E → Type 0
+  AreAmong xs ys = (others : List E) × Interleaves xs others ys
+
+  -- the receiver received a batch: at least one element, and at most so many, of which f tells these items
+  pub record ReceivesBatch {A : Type 0} (f : E → A) (max : ℕ) (batch : List A) (u w : PartyOf E) : Type 0 where
+    pub elements : List E
+    pub items : batch ≡ map f elements
+    pub some : elements ≢ []
+    pub few : length elements ≤ max
+    pub receives : Receives elements u w
+
   -- the receiver received nothing, and, if the channel is disconnected, it is over
   abbrev pub FindsNone : TryRecvError → PartyOf E → PartyOf E → Type 0
   FindsNone nothing.Empty u w = Receives [] u w
   FindsNone nothing.Disconnected u w = Receives [] u w × IsOver w
 
+  abbrev pub FindsNoneInTime : RecvTimeoutError → PartyOf E → PartyOf E → Type 0
+  FindsNoneInTime in_time.Timeout u w = Receives [] u w
+  FindsNoneInTime in_time.Disconnected u w = Receives [] u w × IsOver w
+
   -- the first sender u and the receiver w of a new channel with n rooms
   pub record IsChannel (n : ℕ) (u w : PartyOf E) : Type 0 where
     pub table : w.table ≡ u.table
     pub rooms : capacity u.table ≡ n
-    pub unsent : received u ≡ []
-    pub unseen : w.seen ≡ []
+    pub unsent : sent u ≡ []
+    pub none : received w ≡ []
 
   -- ---- inside a channel
   -- the party is one that was split off the party u, and it has taken nothing out
@@ -100,6 +124,7 @@ module _ {E : Type 0} where
     pub table : w.table ≡ z
     pub share : w.share ≡ gives_half whole
     pub unseen : w.seen ≡ []
+    pub roomless : (u.rooms ≡ 0) × (w.rooms ≡ 0)
 
   -- the party of a sender, and the place, of the queue with table z, that it comes back to
   pub record IsOpened (z : TableId) (p : PartyOf E) (home : PlaceOf (Snapshot (PartyOf E))) : Type 0 where
@@ -112,9 +137,16 @@ module _ {E : Type 0} where
     pub table : register.key.value.table ≡ z
     pub took : register.took ≡ taken
 
+  -- a sender of the queue with table z: its handle of the register, its party, and the place that this comes back to
+  pub record IsSender (z : TableId) (place : PlaceOf (Snapshot (PartyOf E))) (p : PartyOf E)
+      (home : PlaceOf (Snapshot (PartyOf E))) : Type 0 where
+    pub table : p.table ≡ z
+    pub register : HasRegister z false place
+    pub opened : IsOpened z p home
+
   -- a receiver's party, and its handle of the register
-  pub record IsReceiver (z : TableId) (register : PlaceOf (Snapshot (PartyOf E))) (is_last : Bool) (p : PartyOf E) : Type 0
+  pub record IsReceiver (z : TableId) (place : PlaceOf (Snapshot (PartyOf E))) (is_last : Bool) (p : PartyOf E) : Type 0
     where
       pub table : p.table ≡ z
-      pub has : HasRegister z is_last register
+      pub register : HasRegister z is_last place
       pub share : p.share ≡ last_share is_last

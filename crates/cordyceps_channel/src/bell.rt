@@ -3,18 +3,19 @@
 use crossbeam_utils::Backoff;
 use std::sync::Wait;
 use std::sync::atomic::{AtomicU64, Ordering};
+use std::time::{Clock, Instant};
 
 /// The bits of a number of rings that a sleep compares.
-const HEARD: u64 = 0xffff_ffff;
+const LOW: u64 = 0xffff_ffff;
 
 /// How often a listener looks for a ring before it sleeps.
 const LOOKS: u32 = 20;
 
 /// A bell, for which threads sleep until another rings it.
 ///
-/// A thread that is about to sleep calls `listen`, then looks once more for what it waits for, and calls `sleep` only
-/// if that is not there. A thread that makes it come rings afterwards. All steps have one order, so either the look
-/// finds it, or the ring finds the listener and ends its sleep. This is tested, but no contract states it.
+/// A thread looks for what it waits for between two calls of `wait`: the first begins to listen, and the second sleeps.
+/// A thread that makes it come rings afterwards. All steps have one order, so either the look finds it, or the ring
+/// finds the listener and ends its sleep. This is tested, but no contract states it.
 #[derive(Drop)]
 pub(crate) struct Bell {
     rings: AtomicU64,
@@ -22,9 +23,18 @@ pub(crate) struct Bell {
     sleepers: AtomicU64,
 }
 
-/// How often a bell had rung when a thread began to listen.
+/// How often a bell had rung when a thread began to listen, or `None` if it does not listen.
 #[derive(Clone, Copy)]
-pub(crate) struct Heard(u64);
+pub(crate) struct Listening {
+    heard: Option<u64>,
+}
+
+impl Listening {
+    /// Does not listen yet.
+    pub fn new() -> Listening {
+        Listening { heard: None }
+    }
+}
 
 impl Bell {
     /// Creates a bell that nobody listens to.
@@ -46,36 +56,74 @@ impl Bell {
         }
     }
 
-    /// Begins to listen. The caller then calls `sleep` or `leave`, once.
-    pub fn listen(&self) -> Heard {
-        self.listeners.fetch_add(1, Ordering::SeqCst);
-        Heard(self.rings.load(Ordering::SeqCst))
-    }
-
-    /// Ends to listen.
-    pub fn leave(&self) {
-        self.listeners.fetch_sub(1, Ordering::SeqCst);
-    }
-
-    /// Waits until the bell has rung since `listen`, or returns for no reason, and ends to listen. It looks for a ring
-    /// some times, and then sleeps.
+    /// Begins to listen, if the thread does not, and returns at once. Otherwise it waits until the bell has rung since,
+    /// or returns for no reason, and ends to listen. It looks for a ring some times, and then sleeps. After a last
+    /// call the caller calls `leave`.
     ///
     /// # Waits
     /// For a ring.
-    pub fn sleep<R: Wait>(&self, rt: &R, heard: Heard) {
+    pub fn wait<R: Wait>(&self, rt: &R, listening: &mut Listening) {
+        let Some(heard) = listening.heard.take() else {
+            self.listen(listening);
+            return;
+        };
         if !self.is_heard(heard) {
             self.sleepers.fetch_add(1, Ordering::SeqCst);
-            self.rings.park(rt, (heard.0 & HEARD) as u32);
+            self.rings.park(rt, (heard & LOW) as u32);
             self.sleepers.fetch_sub(1, Ordering::SeqCst);
         }
-        self.leave();
+        self.listeners.fetch_sub(1, Ordering::SeqCst);
     }
 
-    /// Returns whether the bell has rung since `listen`. It looks up to `LOOKS` times.
-    fn is_heard(&self, heard: Heard) -> bool {
+    /// As `wait`, and no longer than until the deadline. Returns `false` if the deadline has passed, or if the clock
+    /// cannot be read.
+    ///
+    /// # Waits
+    /// For a ring, or for the deadline.
+    pub fn wait_until<R: Wait + Clock>(
+        &self,
+        rt: &R,
+        listening: &mut Listening,
+        deadline: Instant,
+    ) -> bool {
+        let Ok(now) = Instant::now(rt) else {
+            return false;
+        };
+        if now >= deadline {
+            return false;
+        }
+        let Some(heard) = listening.heard.take() else {
+            self.listen(listening);
+            return true;
+        };
+        if !self.is_heard(heard) {
+            let time = deadline.saturating_duration_since(now);
+            self.sleepers.fetch_add(1, Ordering::SeqCst);
+            self.rings.park_timeout(rt, (heard & LOW) as u32, time);
+            self.sleepers.fetch_sub(1, Ordering::SeqCst);
+        }
+        self.listeners.fetch_sub(1, Ordering::SeqCst);
+        true
+    }
+
+    /// Begins to listen.
+    fn listen(&self, listening: &mut Listening) {
+        self.listeners.fetch_add(1, Ordering::SeqCst);
+        listening.heard = Some(self.rings.load(Ordering::SeqCst));
+    }
+
+    /// Ends to listen, if the thread listens.
+    pub fn leave(&self, listening: Listening) {
+        if listening.heard.is_some() {
+            self.listeners.fetch_sub(1, Ordering::SeqCst);
+        }
+    }
+
+    /// Returns whether the bell has rung since. It looks up to `LOOKS` times.
+    fn is_heard(&self, heard: u64) -> bool {
         let backoff = Backoff::new();
         for _ in 0..LOOKS {
-            if self.rings.load(Ordering::SeqCst) != heard.0 {
+            if self.rings.load(Ordering::SeqCst) != heard {
                 return true;
             }
             backoff.snooze();

@@ -1,29 +1,64 @@
 //! Calls of a channel in a row, whose contracts are laws.
-ghost use Rattle.cordyceps_channel.specs.Channels.{IsOver};
+ghost use Rattle.std.specs.Prelude.{◌≡◌, IfOk};
+ghost use Rattle.cordyceps_channel.specs.Channels.{IsOver, Receives, AreAmong, sent, received};
 
 use crate::errors::Disconnected;
 use crate::receiver::Receiver;
+use crate::sender::Sender;
 use cordyceps_base::linked::Linked;
 use cordyceps_base::mpsc_queue::Links;
+use std::alloc::{AllocError, Global};
 use std::sync::Wait;
 
-/// Receives until all senders have ended, and returns how many elements came. By then each element that was ever sent
-/// has been received.
+/// Receives until all senders have ended, and returns the elements in the order in which they came. By then each
+/// element that was ever sent has been received.
+///
+/// # Errors
+/// If memory for the vector is refused, it returns `AllocError`, and what it had received is dropped.
 ///
 /// # Complexity
 /// O(n), for n elements, besides the tries of a thread that waits.
 ///
 /// # Waits
 /// Until all senders have ended.
-pub fn receive_all<T: Linked<Links<T>>, R: Wait>(rt: &R, receiver: &mut Receiver<T>) -> u64
-    ensures { IsOver receiver.new }
+pub fn receive_all<T: Linked<Links<T>>, R: Wait>(
+    rt: &R,
+    alloc: Global,
+    receiver: &mut Receiver<T>,
+) -> Result<Vec<T::Handle>, AllocError>
+    ensures { IfOk result (λ all. Receives all.items receiver.old receiver.new × IsOver receiver.new) }
 {
-    let mut count = 0u64;
+    let mut all = Vec::new(alloc);
     for _ in rt.forever() {
         match receiver.recv(rt) {
-            Ok(_element) => count = count.saturating_add(1),
-            Err(Disconnected { value: () }) => return count,
+            Ok(element) => all.push(element)?,
+            Err(Disconnected { value: () }) => return Ok(all),
         }
     }
     unreachable!()
+}
+
+/// Ends a sender, and receives until all others have ended too. What this sender sent is then among what the receiver
+/// received, in the order in which it was sent.
+///
+/// # Errors
+/// As `receive_all`.
+///
+/// # Complexity
+/// As `receive_all`.
+///
+/// # Waits
+/// Until all senders have ended.
+pub fn close_and_receive<T: Linked<Links<T>>, R: Wait>(
+    rt: &R,
+    alloc: Global,
+    sender: Sender<T>,
+    receiver: &mut Receiver<T>,
+) -> Result<Vec<T::Handle>, AllocError>
+    requires { sender.table ≡ receiver.old.table }
+    ensures all { IfOk result (λ all. Receives all.items receiver.old receiver.new × IsOver receiver.new) }
+    ensures order { IfOk result (λ _. AreAmong (sent sender) (received receiver.new)) }
+{
+    receiver.learn(sender.close());
+    receive_all(rt, alloc, receiver)
 }

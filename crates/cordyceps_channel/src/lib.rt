@@ -7,20 +7,24 @@
 //! element back. Take an `MpscQueue` of `cordyceps_queue` itself where no thread may sleep, where a thread takes
 //! elements out by batches, or where parties have rooms of their own.
 //!
-//! `pair` creates a channel, `laws` has calls in a row, `sender` and `receiver` have its two sides, and `errors` what they return where nothing
-//! goes through. `register` has the parties of senders that ended, `place` the place in which each is left, `bell` what
-//! threads sleep on, and `shared` what both sides share.
+//! `pair` creates a channel, `sender` and `receiver` have its two sides, with `batches` and `deadline`, and `errors` has
+//! what they return where nothing goes through. `laws` has calls in a row. `register` has the parties of senders that
+//! ended, `place` the place in which each is left, `taker` the receiver's party, `bell` what threads sleep on, and
+//! `shared` what both sides share.
 //!
 //! Proved: each element that a sender sends is put in once, or comes back; the receiver receives elements in the order
-//! in which they came in; and where it gets `Disconnected`, all senders have ended, and it has received each element
-//! that was ever sent. Only tested: that a call that waits returns when it should, and that drops leave no element.
+//! in which they came in; where it gets `Disconnected`, all senders have ended, and it has received each element that
+//! was ever sent; and what a sender sent whose receipt it learned is among these, in that sender's order. Only tested:
+//! that a call that waits returns when it should, and that drops leave no element.
 //!
 //! A room takes 24 bytes, with handles of one word, and each sender has a place, a table of one word and one slot.
 //! `try_send` is an enqueue and two loads, and where the sender has no room it takes some of the pool; `try_recv` is a
 //! try to dequeue. A call that has waited longer sleeps in the kernel.
 #![tactic(auto)]
 
+mod batches;
 mod bell;
+mod deadline;
 mod errors;
 pub mod laws;
 mod pair;
@@ -29,8 +33,10 @@ mod receiver;
 mod register;
 mod sender;
 mod shared;
+mod taker;
 
-pub use errors::{Disconnected, TryRecvError, TrySendError};
+pub use cordyceps_queue::mpsc_queue::{Batch, Receipt};
+pub use errors::{Disconnected, RecvTimeoutError, TryRecvError, TrySendError};
 pub use pair::channel;
 pub use receiver::Receiver;
 pub use sender::Sender;

@@ -2,11 +2,13 @@
 ghost use Rattle.std.specs.Prelude.{◌≤◌, IfOk};
 ghost use Rattle.cordyceps_channel.specs.Channels.{IsChannel, AreParties};
 
+use crate::bell::Bell;
 use crate::place::Place;
 use crate::receiver::Receiver;
 use crate::register::Register;
 use crate::sender::Sender;
 use crate::shared::Shared;
+use crate::taker::Taker;
 use cordyceps_base::linked::Linked;
 use cordyceps_base::mpsc_queue::Links;
 use cordyceps_base::shared::MAX_ROOMS;
@@ -29,7 +31,10 @@ fn make_parts<T: Linked<Links<T>>>(alloc: Global, rooms: usize) -> Result<Parts<
     ensures { IfOk result (λ made. AreParties rooms made.queue.table made.party made.receivers) }
 {
     let (queue, mut party) = MpscQueue::new(alloc, rooms)?;
-    queue.give_back(&mut party, rooms);
+    // The pool of a new queue has no rooms, so it takes these.
+    if !queue.give_back(&mut party, rooms) {
+        return Err(AllocError);
+    }
     let receivers = queue.split(&mut party, 0);
     Ok(Parts {
         queue,
@@ -56,6 +61,19 @@ pub fn channel<T: Linked<Links<T>>>(
     requires { rooms ≤ MAX_ROOMS }
     ensures { IfOk result (λ ends. IsChannel rooms ends.0 ends.1) }
 {
+    let bell = Arc::new(alloc, Bell::new())?;
+    channel_at(bell, alloc, rooms)
+}
+
+/// Creates a channel whose receiver listens to this bell.
+pub(crate) fn channel_at<T: Linked<Links<T>>>(
+    bell: Arc<Bell, Global>,
+    alloc: Global,
+    rooms: usize,
+) -> Result<(Sender<T>, Receiver<T>), AllocError>
+    requires { rooms ≤ MAX_ROOMS }
+    ensures { IfOk result (λ ends. IsChannel rooms ends.0 ends.1) }
+{
     let Parts {
         queue,
         party,
@@ -67,13 +85,15 @@ pub fn channel<T: Linked<Links<T>>>(
         party,
         homes: Vec::new(alloc),
     };
-    let opened = register.open(alloc, &queue)?;
+    let opened = register.split(alloc, &queue)?;
     place.put(register);
     let senders_place = place.another()?;
-    let shared = Arc::new(alloc, Shared::new(queue, alloc, rooms))?;
+    let queue = Arc::new(alloc, queue)?;
+    let taker = Taker::new(Arc::try_clone(&queue)?, receivers);
+    let shared = Arc::new(alloc, Shared::new(queue, bell, alloc, rooms))?;
     let senders_shared = Arc::try_clone(&shared)?;
     Ok((
         Sender::of(senders_shared, senders_place, opened),
-        Receiver::of(shared, place, receivers),
+        Receiver::of(shared, place, taker),
     ))
 }

@@ -3,17 +3,23 @@
 //! A receiver has a party of the queue. When it finds nothing and no sender is left, it absorbs the parties of all
 //! senders. Its party is then whole: nobody else can put an element in, so a try that finds nothing shows that each
 //! element that came in has gone out.
+//!
+//! `batches` has the calls that receive several elements, and `deadline` the one that waits for a limited time.
 ghost use Rattle.std.specs.Arc.{arc_value};
-ghost use Rattle.std.specs.Prelude.{◌≡◌, [], ◌∷◌, true, false, MatchOption, MatchResult};
+ghost use Rattle.std.specs.Prelude.{◌≡◌, [], ◌∷◌, true, false, MatchResult};
+ghost use Rattle.cordyceps_shared.specs.Histories.{plain};
+ghost use Rattle.cordyceps_shared.specs.Knowing.{IsPrefixOf};
 ghost use Rattle.cordyceps_shared.specs.Shares.{whole, gives_half};
-ghost use Rattle.cordyceps_channel.specs.Channels.{Receives, FindsNone, IsOver, HasRegister};
+ghost use Rattle.cordyceps_channel.specs.Channels.{Receives, FindsNone, IsOver, HasRegister, Stays};
 
+use crate::bell::Listening;
 use crate::errors::{Disconnected, TryRecvError};
 use crate::register::{Register, RegisterPlace};
 use crate::shared::Shared;
+use crate::taker::Taker;
 use cordyceps_base::linked::Linked;
 use cordyceps_base::mpsc_queue::Links;
-use cordyceps_queue::mpsc_queue::Party;
+use cordyceps_queue::mpsc_queue::Receipt;
 use std::alloc::Global;
 use std::marker::Model;
 use std::sync::atomic::Ordering;
@@ -30,9 +36,9 @@ use std::sync::{Arc, Wait};
 /// # Complexity
 /// Dropping a receiver is O(1), unless it is the last of the channel's two sides: then the queue is dropped too.
 pub struct Receiver<T: Linked<Links<T>>> {
-    shared: Arc<Shared<T>, Global>,
+    pub(crate) shared: Arc<Shared<T>, Global>,
     register: RegisterPlace<T>,
-    party: Party<T>,
+    pub(crate) taker: Taker<T>,
     is_last: bool,
 }
 
@@ -43,9 +49,10 @@ impl<T: Linked<Links<T>>> Model for Receiver<T> {
 
     ghost Value = { PartyOf T.Handle };
 
-    ghost view = { λ r. r.party };
+    ghost view = { λ r. r.taker.party };
 
-    ghost invariant = { λ r. IsReceiver (arc_value r.shared).queue.table r.register r.is_last r.party };
+    ghost invariant = { λ r.
+        IsReceiver (arc_value (arc_value r.shared).queue).table r.register r.is_last r.taker.party };
 }
 
 impl<T: Linked<Links<T>>> Drop for Receiver<T> {
@@ -57,78 +64,42 @@ impl<T: Linked<Links<T>>> Drop for Receiver<T> {
         let Receiver {
             shared,
             register,
-            party,
+            taker,
             is_last: _,
         } = self;
         shared.receiver_has_ended.store(true, Ordering::SeqCst);
         shared.freed.ring();
-        drop(party);
+        drop(taker);
         drop(register);
     }
 }
 
 impl<T: Linked<Links<T>>> Receiver<T> {
-    /// Makes a receiver of a party.
+    /// Makes a receiver of a taker.
     pub(crate) fn of(
         shared: Arc<Shared<T>, Global>,
         register: RegisterPlace<T>,
-        party: Party<T>,
+        taker: Taker<T>,
     ) -> Receiver<T>
-        requires register { HasRegister (arc_value shared).queue.table false register }
-        requires table { party.table ≡ (arc_value shared).queue.table }
-        requires share { party.share ≡ gives_half whole }
-        ensures { result ≡ party }
+        requires register { HasRegister (arc_value (arc_value shared).queue).table false register }
+        requires table { taker.party.table ≡ (arc_value (arc_value shared).queue).table }
+        requires share { taker.party.share ≡ gives_half whole }
+        ensures { result ≡ taker.party }
     {
         Receiver {
             shared,
             register,
-            party,
+            taker,
             is_last: false,
         }
     }
 
-    /// Frees the rooms that the receiver has, if they are a batch and the pool has none.
-    fn free_batch(&mut self)
-        ensures received { Receives [] self.old self.new }
-        ensures share { self.new.share ≡ self.old.share }
+    /// Frees a batch of rooms, if the receiver has one and the pool has no room.
+    pub(crate) fn free_batch(&mut self)
+        ensures { Stays self.old self.new }
     {
-        let rooms = self.party.rooms();
-        if rooms < self.shared.batch {
-            return;
-        }
-        if !self.shared.queue.give_back(&mut self.party, rooms) {
-            return;
-        }
-        self.shared.freed.ring();
-    }
-
-    /// Frees all rooms that the receiver has.
-    fn free_all(&mut self)
-        ensures received { Receives [] self.old self.new }
-        ensures share { self.new.share ≡ self.old.share }
-    {
-        if self.party.rooms() == 0 {
-            return;
-        }
-        if !self.shared.queue.give_all_back(&mut self.party) {
-            return;
-        }
-        self.shared.freed.ring();
-    }
-
-    /// Tries once to take an element out.
-    fn try_once(&mut self) -> Option<T::Handle>
-        ensures answer { MatchOption result
-            (Receives [] self.old self.new × (self.old.share ≡ whole → IsOver self.new))
-            (λ handle. Receives (handle ∷ []) self.old self.new) }
-        ensures share { self.new.share ≡ self.old.share }
-    {
-        match self.shared.queue.try_dequeue(&mut self.party) {
-            Ok(handle) => {
-                self.free_batch();
-                Some(handle)
-            }
-            Err(_why) => None,
+        if self.taker.give_back(self.shared.batch) {
+            self.shared.freed.ring();
         }
     }
 
@@ -152,9 +123,23 @@ impl<T: Linked<Links<T>>> Receiver<T> {
         }
         let Register { party, homes } = register;
         drop(homes);
-        self.shared.queue.absorb(&mut self.party, party);
+        self.taker.absorb(party);
         self.is_last = true;
         true
+    }
+
+    /// Returns whether all senders have ended, and frees all rooms if they have not.
+    pub(crate) fn is_end(&mut self) -> bool
+        ensures received { Receives [] self.old self.new }
+        ensures last { result ≡ true → self.new.share ≡ whole }
+    {
+        if self.gather() {
+            return true;
+        }
+        if self.taker.give_all() {
+            self.shared.freed.ring();
+        }
+        false
     }
 
     /// Receives the oldest element, if one is there.
@@ -172,15 +157,15 @@ impl<T: Linked<Links<T>>> Receiver<T> {
         ensures { MatchResult result (λ handle. Receives (handle ∷ []) self.old self.new)
             (λ why. FindsNone why self.old self.new) }
     {
-        if let Some(handle) = self.try_once() {
+        if let Some(handle) = self.taker.try_dequeue() {
+            self.free_batch();
             return Ok(handle);
         }
-        if !self.gather() {
-            self.free_all();
+        if !self.is_end() {
             return Err(TryRecvError::Empty);
         }
         // Elements may have come in between the try and the end of the last sender.
-        match self.try_once() {
+        match self.taker.try_dequeue() {
             Some(handle) => Ok(handle),
             None => Err(TryRecvError::Disconnected),
         }
@@ -200,32 +185,36 @@ impl<T: Linked<Links<T>>> Receiver<T> {
         ensures { MatchResult result (λ handle. Receives (handle ∷ []) self.old self.new)
             (λ _. Receives [] self.old self.new × IsOver self.new) }
     {
-        match self.try_recv() {
-            Ok(handle) => Ok(handle),
-            Err(TryRecvError::Disconnected) => Err(Disconnected { value: () }),
-            Err(TryRecvError::Empty) => self.wait_and_recv(rt),
-        }
-    }
-
-    /// Receives the oldest element as soon as one is there.
-    fn wait_and_recv<R: Wait>(&mut self, rt: &R) -> Result<T::Handle, Disconnected>
-        ensures { MatchResult result (λ handle. Receives (handle ∷ []) self.old self.new)
-            (λ _. Receives [] self.old self.new × IsOver self.new) }
-    {
+        let mut listening = Listening::new();
         for _ in rt.forever() {
-            let heard = self.shared.sent.listen();
             match self.try_recv() {
                 Ok(handle) => {
-                    self.shared.sent.leave();
+                    self.shared.sent.leave(listening);
                     return Ok(handle);
                 }
                 Err(TryRecvError::Disconnected) => {
-                    self.shared.sent.leave();
+                    self.shared.sent.leave(listening);
                     return Err(Disconnected { value: () });
                 }
-                Err(TryRecvError::Empty) => self.shared.sent.sleep(rt, heard),
+                Err(TryRecvError::Empty) => self.shared.sent.wait(rt, &mut listening),
             }
         }
         unreachable!()
+    }
+
+    /// Learns a receipt of a sender. The receiver has then seen all that the receipt tells. Requires that the receipt
+    /// is of this channel.
+    ///
+    /// # Complexity
+    /// O(1): two loads.
+    ///
+    /// # Waits
+    /// Never.
+    pub fn learn(&mut self, receipt: Receipt<T>)
+        requires { receipt.table ≡ self.old.table }
+        ensures received { Receives [] self.old self.new }
+        ensures told { IsPrefixOf receipt.told (plain self.new.seen) }
+    {
+        self.taker.learn(receipt);
     }
 }

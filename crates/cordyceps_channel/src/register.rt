@@ -14,8 +14,8 @@
 //! The receiver's party absorbs that one, and is whole. No count of senders is trusted for it: a party in each place
 //! shows that its sender has ended. A new sender takes over the party and the place of one that has ended, so there are
 //! as many places as there were senders at a time.
-ghost use Rattle.std.specs.Prelude.{◌≡◌, true, IfOk, IfSome};
-ghost use Rattle.cordyceps_channel.specs.Channels.{IsRegister, IsOpened, left_after};
+ghost use Rattle.std.specs.Prelude.{◌≡◌, [], true, IfOk, IfSome};
+ghost use Rattle.cordyceps_channel.specs.Channels.{IsRegister, IsOpened, left_after, sent};
 
 use crate::place::{Fits, Place};
 use cordyceps_base::linked::Linked;
@@ -82,11 +82,12 @@ impl<T: Linked<Links<T>>> Register<T> {
         Ok(None)
     }
 
-    /// Splits a new party off that of the register.
-    fn split(&mut self, alloc: Global, queue: &MpscQueue<T>) -> Result<Opened<T>, AllocError>
+    /// Splits a new party off that of the register. It has sent nothing.
+    pub fn split(&mut self, alloc: Global, queue: &MpscQueue<T>) -> Result<Opened<T>, AllocError>
         requires { IsRegister queue.now.table self.old.party self.old.homes.items }
         ensures register { IsRegister queue.now.table self.new.party self.new.homes.items }
         ensures opened { IfOk result (λ found. IsOpened queue.now.table found.party found.home) }
+        ensures unsent { IfOk result (λ found. sent found.party ≡ []) }
     {
         self.homes.try_reserve(1)?;
         let key = Snapshot::of(&self.party);

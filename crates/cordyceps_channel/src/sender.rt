@@ -6,15 +6,17 @@
 //! and its own is whole again.
 ghost use Rattle.std.specs.Arc.{arc_value};
 ghost use Rattle.std.specs.Prelude.{◌≡◌, ◌<◌, true, false, IfOk, MatchResult};
+ghost use Rattle.cordyceps_shared.specs.Histories.{plain};
 ghost use Rattle.cordyceps_queue.specs.Shared.Calls.{FindsFull};
 ghost use Rattle.cordyceps_channel.specs.Channels.{Sends, SendsNothing, HasBack, IsOpened, HasRegister, IsRegister};
 
+use crate::bell::Listening;
 use crate::errors::{Disconnected, TrySendError};
 use crate::register::{Home, Opened, Register, RegisterPlace};
-use crate::shared::Shared;
+use crate::shared::{Shared, give_all_back};
 use cordyceps_base::linked::Linked;
 use cordyceps_base::mpsc_queue::Links;
-use cordyceps_queue::mpsc_queue::Party;
+use cordyceps_queue::mpsc_queue::{Party, Receipt};
 use crossbeam_utils::Backoff;
 use std::alloc::{AllocError, Global};
 use std::marker::Model;
@@ -43,17 +45,14 @@ pub struct Sender<T: Linked<Links<T>>> {
 
 impl<T: Linked<Links<T>>> Model for Sender<T> {
     ghost use Rattle.std.specs.Arc.{arc_value};
-    ghost use Rattle.std.specs.Prelude.{◌≡◌, false};
     ghost use Rattle.cordyceps_queue.specs.Shared.Calls.{PartyOf};
-    ghost use Rattle.cordyceps_channel.specs.Channels.{IsOpened, HasRegister};
+    ghost use Rattle.cordyceps_channel.specs.Channels.{IsSender};
 
     ghost Value = { PartyOf T.Handle };
 
     ghost view = { λ s. s.party };
 
-    ghost invariant = { λ s. (s.party.table ≡ (arc_value s.shared).queue.table)
-        × HasRegister (arc_value s.shared).queue.table false s.register
-        × IsOpened (arc_value s.shared).queue.table s.party s.home };
+    ghost invariant = { λ s. IsSender (arc_value (arc_value s.shared).queue).table s.register s.party s.home };
 }
 
 impl<T: Linked<Links<T>>> Drop for Sender<T> {
@@ -68,7 +67,7 @@ impl<T: Linked<Links<T>>> Drop for Sender<T> {
             mut home,
             mut party,
         } = self;
-        shared.queue.give_all_back(&mut party);
+        give_all_back(&shared.queue, &mut party);
         shared.freed.ring();
         home.put(party);
         shared.senders.fetch_sub(1, Ordering::SeqCst);
@@ -84,8 +83,8 @@ impl<T: Linked<Links<T>>> Sender<T> {
         register: RegisterPlace<T>,
         opened: Opened<T>,
     ) -> Sender<T>
-        requires register { HasRegister (arc_value shared).queue.table false register }
-        requires opened { IsOpened (arc_value shared).queue.table opened.party opened.home }
+        requires register { HasRegister (arc_value (arc_value shared).queue).table false register }
+        requires opened { IsOpened (arc_value (arc_value shared).queue).table opened.party opened.home }
         ensures { result ≡ opened.party }
     {
         let Opened { party, home } = opened;
@@ -162,39 +161,54 @@ impl<T: Linked<Links<T>>> Sender<T> {
         ensures { MatchResult result (λ _. Sends handle self.old self.new)
             (λ why. (why.value ≡ handle) × SendsNothing self.old self.new) }
     {
-        match self.try_send(handle) {
-            Ok(()) => Ok(()),
-            Err(TrySendError::Disconnected(value)) => Err(Disconnected { value }),
-            Err(TrySendError::Full(value)) => self.wait_and_send(rt, value),
-        }
-    }
-
-    /// Sends an element as soon as a room is free.
-    fn wait_and_send<R: Wait>(
-        &mut self,
-        rt: &R,
-        handle: T::Handle,
-    ) -> Result<(), Disconnected<T::Handle>>
-        ensures { MatchResult result (λ _. Sends handle self.old self.new)
-            (λ why. (why.value ≡ handle) × SendsNothing self.old self.new) }
-    {
+        let mut listening = Listening::new();
         let mut handle = handle;
         for _ in rt.forever() {
-            let heard = self.shared.freed.listen();
             match self.try_send(handle) {
                 Ok(()) => {
-                    self.shared.freed.leave();
+                    self.shared.freed.leave(listening);
                     return Ok(());
                 }
                 Err(TrySendError::Disconnected(value)) => {
-                    self.shared.freed.leave();
+                    self.shared.freed.leave(listening);
                     return Err(Disconnected { value });
                 }
                 Err(TrySendError::Full(value)) => handle = value,
             }
-            self.shared.freed.sleep(rt, heard);
+            self.shared.freed.wait(rt, &mut listening);
         }
         unreachable!()
+    }
+
+    /// Returns a receipt, which tells the receiver what this sender has seen: its own elements, and others'.
+    ///
+    /// # Complexity
+    /// O(1): one load.
+    ///
+    /// # Waits
+    /// Never.
+    pub fn receipt(&mut self) -> Receipt<T>
+        ensures same { self.new ≡ self.old }
+        ensures receipt { (result.table ≡ self.old.table) × (result.told ≡ plain self.old.seen) }
+    {
+        self.shared.queue.receipt(&mut self.party)
+    }
+
+    /// Ends the sender, as its drop does, and returns its last receipt. A receiver that learns it knows all that this
+    /// sender sent.
+    ///
+    /// # Complexity
+    /// That of a drop.
+    ///
+    /// # Waits
+    /// Never.
+    pub fn close(self) -> Receipt<T>
+        ensures { (result.table ≡ self.table) × (result.told ≡ plain self.seen) }
+    {
+        let mut sender = self;
+        let receipt = sender.receipt();
+        drop(sender);
+        receipt
     }
 
     /// Returns another sender of the same channel. It takes over the party of one that has ended, if there is one.

@@ -1,12 +1,14 @@
 //! What senders and receiver of a channel share.
 
-ghost use Rattle.std.specs.Prelude.{◌≡◌};
+ghost use Rattle.std.specs.Prelude.{◌≡◌, [], true};
+ghost use Rattle.cordyceps_channel.specs.Channels.{SendsNothing};
 
 use crate::bell::Bell;
 use cordyceps_base::linked::Linked;
 use cordyceps_base::mpsc_queue::Links;
-use cordyceps_queue::mpsc_queue::MpscQueue;
+use cordyceps_queue::mpsc_queue::{MpscQueue, Party};
 use std::alloc::Global;
+use std::sync::Arc;
 use std::sync::atomic::{AtomicBool, AtomicU64};
 
 /// The most rooms that a sender takes at a time.
@@ -15,11 +17,14 @@ const MAX_QUANTUM: usize = 64;
 /// A sender takes at most one in so many rooms at a time, so that no 256 senders can have them all and send nothing.
 const SENDERS: usize = 256;
 
+/// How often a party tries to give all its rooms back. Each try in vain is several rooms given back by others.
+const TRIES: usize = 1000;
+
 /// What senders and receiver of a channel share.
 #[derive(Drop)]
 pub(crate) struct Shared<T: Linked<Links<T>>> {
-    /// The queue through which elements go.
-    pub queue: MpscQueue<T>,
+    /// The queue through which elements go. The receiver's consumer shares its ownership.
+    pub queue: Arc<MpscQueue<T>, Global>,
     /// The memory of new senders.
     pub alloc: Global,
     /// How many senders have not ended.
@@ -27,7 +32,7 @@ pub(crate) struct Shared<T: Linked<Links<T>>> {
     /// Whether the receiver has ended.
     pub receiver_has_ended: AtomicBool,
     /// Rings when an element is sent and when a sender ends.
-    pub sent: Bell,
+    pub sent: Arc<Bell, Global>,
     /// Rings when rooms become free and when the receiver ends.
     pub freed: Bell,
     /// How many rooms a sender takes at a time.
@@ -37,8 +42,13 @@ pub(crate) struct Shared<T: Linked<Links<T>>> {
 }
 
 impl<T: Linked<Links<T>>> Shared<T> {
-    /// Creates what is shared by a channel over this queue, of so many rooms.
-    pub fn new(queue: MpscQueue<T>, alloc: Global, rooms: usize) -> Shared<T>
+    /// Creates what is shared by a channel over this queue, of so many rooms, whose receiver listens to this bell.
+    pub fn new(
+        queue: Arc<MpscQueue<T>, Global>,
+        sent: Arc<Bell, Global>,
+        alloc: Global,
+        rooms: usize,
+    ) -> Shared<T>
         ensures { result.queue ≡ queue }
     {
         Shared {
@@ -46,10 +56,27 @@ impl<T: Linked<Links<T>>> Shared<T> {
             alloc,
             senders: AtomicU64::new(0),
             receiver_has_ended: AtomicBool::new(false),
-            sent: Bell::new(),
+            sent,
             freed: Bell::new(),
             quantum: (rooms / SENDERS).clamp(1, MAX_QUANTUM),
             batch: (rooms / 4).max(1),
         }
     }
+}
+
+/// Gives all rooms of a party to the pool, and returns whether it did. Only if others give rooms back at each of many
+/// tries, the party keeps its rooms.
+pub(crate) fn give_all_back<T: Linked<Links<T>>>(queue: &MpscQueue<T>, party: &mut Party<T>) -> bool
+    requires { party.old.table ≡ queue.now.table }
+    ensures { SendsNothing party.old party.new }
+{
+    if party.rooms() == 0 {
+        return false;
+    }
+    for _ in 0..TRIES {
+        if queue.give_all_back(party) {
+            return true;
+        }
+    }
+    false
 }

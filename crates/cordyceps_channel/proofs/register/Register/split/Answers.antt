@@ -1,7 +1,8 @@
 use Rattle.std.proofs.Common.{[], ◌∷◌, ◌++◌, ◌∙◌, subst, ap, sym, rules}
 use Rattle.cordyceps_shared.specs.Standings.{keeping}
-use Rattle.cordyceps_channel.specs.Channels.{IsRegister, IsOpened}
-use Rattle.cordyceps_channel.proofs.Registering.{still_register, split_opened}
+use Rattle.cordyceps_queue.specs.History.{came}
+use Rattle.cordyceps_channel.specs.Channels.{IsRegister, IsOpened, sent}
+use Rattle.cordyceps_channel.proofs.Registering.{none_own, still_register, split_opened}
 use Rattle.cordyceps_channel.proofs.register.Register.split.Goals as goal
 
 pub returns-clause-register : goal.returns-clause-register
@@ -24,3 +25,6 @@ returns-clause-opened g c =
     let z = c.args.queue.now.table in
     let o = split_opened z u c.another.new.self c.requires.table (search rules) (search rules) in
     subst (λ p. IsOpened z p c.another.new.self) (sym c.split-party.ensures.1) o
+
+pub returns-clause-unsent : goal.returns-clause-unsent
+returns-clause-unsent g c = ap (λ v. sent v) c.split-party.ensures.1 ∙ ap came (none_own c.args.self.now.party.seen)

@@ -10,7 +10,7 @@ invariant_of-self g c =
     let w = c.refill_at_most-taken.new.party in
     let m = moves_refill (λ x. x) c.refill_at_most-taken.result u w c.refill_at_most-taken.ensures.answer in
     let i = c.self.invariant in
-    (m.acts.table ∙ i.0, i.1, still_opened _ u w c.self.inside.home i.2 m)
+    record { table = m.acts.table ∙ i.table; register = i.register; opened = still_opened _ u w c.self.inside.home i.opened m }
 
 pub invariant_of-self-2 : goal.invariant_of-self-2
 invariant_of-self-2 g c =
@@ -18,7 +18,7 @@ invariant_of-self-2 g c =
     let w = c.refill_at_most-taken.new.party in
     let m = moves_refill (λ x. x) c.refill_at_most-taken.result u w c.refill_at_most-taken.ensures.answer in
     let i = c.self.invariant in
-    (m.acts.table ∙ i.0, i.1, still_opened _ u w c.self.inside.home i.2 m)
+    record { table = m.acts.table ∙ i.table; register = i.register; opened = still_opened _ u w c.self.inside.home i.opened m }
 
 pub returns-then-taken-eq0-clause-full : goal.returns-then-taken-eq0-clause-full
 returns-then-taken-eq0-clause-full g c = λ _.

@@ -1,9 +1,27 @@
-use Rattle.cordyceps_channel.proofs.Waiting.{back_full, sends_later}
+use Rattle.std.proofs.Common.{◌∙◌, subst, refl}
+use Rattle.cordyceps_channel.specs.Channels.{Sends}
+use Rattle.cordyceps_channel.proofs.Received.{nothing, nothing_then}
+use Rattle.cordyceps_channel.proofs.Waiting.{back_full, back_ended}
 use Rattle.cordyceps_channel.proofs.sender.Sender.send.Goals as goal
 
-pub returns-in-Err-Full : goal.returns-in-Err-Full
-returns-in-Err-Full g c =
+pub loop-init : goal.loop-init
+loop-init g c = (refl, nothing c.args.self.now)
+
+pub returns-in-Ok : goal.returns-in-Ok
+returns-in-Ok g c =
+    let (same, before) = c.loop.invariant in
+    subst (λ e. Sends e c.args.self.now c.try_send.new.self) same (nothing_then c.args.self.now c.loop.self c.try_send.new.self before c.in-Ok.ensures)
+
+pub returns-in-Err-Disconnected : goal.returns-in-Err-Disconnected
+returns-in-Err-Disconnected g c =
+    let (same, before) = c.loop.invariant in
+    let i = c.in-Err-Disconnected in
+    let h = back_ended c.loop.handle i.value i.field-0 c.loop.self c.try_send.new.self i.field-0-is i.ensures in
+    (h.0 ∙ same, nothing_then c.args.self.now c.loop.self c.try_send.new.self before h.1)
+
+pub loop-preserved : goal.loop-preserved
+loop-preserved g c =
+    let (same, before) = c.loop.invariant in
     let i = c.in-Err-Full in
-    let v = c.try_send.new.self in
-    let h = back_full c.args.handle i.value i.field-0 c.args.self.now v i.field-0-is i.ensures in
-    sends_later c.args.handle i.value c.wait_and_send.result c.args.self.now v c.wait_and_send.new.self h.0 h.1 c.wait_and_send.ensures
+    let h = back_full c.loop.handle i.value i.field-0 c.loop.self c.try_send.new.self i.field-0-is i.ensures in
+    (h.0 ∙ same, nothing_then c.args.self.now c.loop.self c.try_send.new.self before h.1)

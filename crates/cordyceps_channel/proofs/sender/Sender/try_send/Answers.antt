@@ -11,7 +11,7 @@ invariant_of-self g c =
     let w = c.enqueue.new.party in
     let m = moves_enqueue (λ x. x) c.args.handle u w c.enqueue.ensures in
     let i = c.self-2.invariant in
-    (m.acts.table ∙ i.0, i.1, still_opened _ u w c.self-2.inside.home i.2 m)
+    record { table = m.acts.table ∙ i.table; register = i.register; opened = still_opened _ u w c.self-2.inside.home i.opened m }
 
 pub returns : goal.returns
 returns g c =
