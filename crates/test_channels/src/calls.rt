@@ -4,11 +4,13 @@ use crate::compared::{at_most, made, same};
 use cordyceps_base::mpsc_queue::Links;
 use cordyceps_base::node::Node;
 use cordyceps_base::shared::MAX_ROOMS;
-use cordyceps_channel::{Disconnected, Receiver, Sender, TryRecvError, TrySendError, channel};
+use cordyceps_channel::{Batch, Disconnected, Receiver, RecvTimeoutError, Sender, TryRecvError, TrySendError};
+use cordyceps_channel::channel;
 use std::alloc::Global;
 use std::mem;
 use std::process::Abort;
 use std::sync::Wait;
+use std::time::{Clock, Duration, Instant};
 use test_support::counted::{Counted, Drops, counted_node};
 
 /// What a channel takes and returns.
@@ -27,6 +29,11 @@ pub enum Call {
     ForgetSender(usize),
     TryRecv,
     Recv,
+    /// Receives up to so many elements by a batch.
+    TryRecvBatch(usize),
+    RecvBatch(usize),
+    /// Receives an element within so many milliseconds.
+    RecvDeadline(u64),
     /// Receives elements until none is there, and counts them.
     Drain,
     EndReceiver,
@@ -42,7 +49,11 @@ pub enum Reply {
     /// The receiver has ended, and the element came back.
     Back(u64),
     Received(u64),
+    /// The first and the last of a batch.
+    Batch(u64, u64),
     Empty,
+    /// The deadline passed.
+    Timeout,
     Disconnected,
     Count(u64),
     NotThere,
@@ -59,6 +70,21 @@ fn tried(sent: Result<(), TrySendError<Handle>>) -> Reply {
         Ok(()) => Reply::Done,
         Err(TrySendError::Full(node)) => Reply::Full(node.id()),
         Err(TrySendError::Disconnected(node)) => Reply::Back(node.id()),
+    }
+}
+
+/// Returns the numbers of the first and the last element of a batch, which is not empty.
+fn ends_of(batch: Batch<Counted>) -> Reply {
+    let mut ends = None;
+    for node in batch {
+        ends = match ends {
+            None => Some((node.id(), node.id())),
+            Some((first, _)) => Some((first, node.id())),
+        };
+    }
+    match ends {
+        None => Reply::NotThere,
+        Some((first, last)) => Reply::Batch(first, last),
     }
 }
 
@@ -134,6 +160,38 @@ impl Sides {
         reply
     }
 
+    /// Makes a call of the receiver that receives several elements, or one within a time.
+    fn by_batches<R: Wait + Clock>(&mut self, rt: &R, call: Call) -> Reply {
+        let Some(receiver) = &mut self.receiver else {
+            return Reply::NotThere;
+        };
+        match call {
+            Call::TryRecvBatch(max) => match receiver.try_recv_batch(max.max(1)) {
+                Ok(batch) => ends_of(batch),
+                Err(TryRecvError::Empty) => Reply::Empty,
+                Err(TryRecvError::Disconnected) => Reply::Disconnected,
+            },
+            Call::RecvBatch(max) => match receiver.recv_batch(rt, max.max(1)) {
+                Ok(batch) => ends_of(batch),
+                Err(Disconnected { value: () }) => Reply::Disconnected,
+            },
+            Call::RecvDeadline(milliseconds) => {
+                let Ok(now) = Instant::now(rt) else {
+                    return Reply::NotThere;
+                };
+                let Some(deadline) = now.checked_add(Duration::from_millis(milliseconds)) else {
+                    return Reply::NotThere;
+                };
+                match receiver.recv_deadline(rt, deadline) {
+                    Ok(node) => Reply::Received(node.id()),
+                    Err(RecvTimeoutError::Timeout) => Reply::Timeout,
+                    Err(RecvTimeoutError::Disconnected) => Reply::Disconnected,
+                }
+            }
+            _ => Reply::NotThere,
+        }
+    }
+
     /// Makes a call of the receiver.
     fn by_receiver<R: Wait>(&mut self, rt: &R, call: Call) -> Reply {
         let Some(receiver) = &mut self.receiver else {
@@ -173,7 +231,7 @@ impl Sides {
     }
 
     /// Makes a call, and returns what it replies.
-    fn call<R: Abort + Wait>(&mut self, rt: &R, alloc: Global, call: Call) -> Reply {
+    fn call<R: Abort + Wait + Clock>(&mut self, rt: &R, alloc: Global, call: Call) -> Reply {
         match call {
             Call::TrySend(at, _)
             | Call::Send(at, _)
@@ -182,6 +240,9 @@ impl Sides {
             | Call::ForgetSender(at) => self.by_sender(rt, alloc, at, call),
             Call::Fill(at) => Reply::Count(self.fill(rt, alloc, at)),
             Call::TryRecv | Call::Recv => self.by_receiver(rt, call),
+            Call::TryRecvBatch(_) | Call::RecvBatch(_) | Call::RecvDeadline(_) => {
+                self.by_batches(rt, call)
+            }
             Call::Drain => Reply::Count(self.drain(rt)),
             Call::EndReceiver => {
                 self.receiver = None;
@@ -192,7 +253,7 @@ impl Sides {
     }
 
     /// Makes the calls of a table, and asserts what each replies.
-    pub fn replies<R: Abort + Wait>(&mut self, rt: &R, alloc: Global, lines: &[(Call, Reply)]) {
+    pub fn replies<R: Abort + Wait + Clock>(&mut self, rt: &R, alloc: Global, lines: &[(Call, Reply)]) {
         for (call, wanted) in lines {
             same(rt, self.call(rt, alloc, *call), *wanted);
         }
@@ -200,7 +261,7 @@ impl Sides {
 }
 
 /// Makes the calls of each table at a new channel of so many rooms.
-pub fn each_replies<R: Abort + Wait>(rt: &R, alloc: Global, tables: &[(usize, &[(Call, Reply)])]) {
+pub fn each_replies<R: Abort + Wait + Clock>(rt: &R, alloc: Global, tables: &[(usize, &[(Call, Reply)])]) {
     for (rooms, lines) in tables {
         Sides::new(rt, alloc, *rooms).replies(rt, alloc, lines);
     }

@@ -3,21 +3,26 @@
 use crate::calls::{Handle, element};
 use crate::compared::{at_most, made, same};
 use cordyceps_base::shared::MAX_ROOMS;
-use cordyceps_channel::{Disconnected, Receiver, Sender, TryRecvError, TrySendError, channel};
+use cordyceps_channel::{Batch, Receiver, RecvTimeoutError, Sender, TryRecvError, TrySendError, channel};
 use std::alloc::Global;
 use std::process::Abort;
 use std::sync::Wait;
 use std::sync::atomic::{AtomicU64, Ordering};
 use std::thread;
 use std::thread::Threads;
-use std::time::{Clock, Duration};
+use std::time::{Clock, Duration, Instant};
 use test_support::counted::{Counted, Drops};
+use test_support::draws::Draws;
 
 /// How many elements each thread sends, where the receiver does not end first.
 const EACH: u64 = 60;
 
 /// After how many elements a thread rests.
 const PART: u64 = 25;
+
+/// How many plans are drawn, and the start of the sequence.
+const RUNS: u64 = 200;
+const START: u64 = 1;
 
 /// How far the first numbers of threads are apart.
 const FAR: u64 = 1_000_000_000;
@@ -31,7 +36,14 @@ enum Way {
     Poll,
     /// By those that wait, and each element by another sender, a clone of the one before, which then ends.
     Clone,
+    /// By those that wait, and out in batches of up to three.
+    Batch,
+    /// By those that wait, and out by calls with a deadline of a tenth of a millisecond.
+    Deadline,
 }
+
+/// The ways of the calls that wait.
+const WAYS: [Way; 5] = [Way::Wait, Way::Poll, Way::Clone, Way::Batch, Way::Deadline];
 
 /// What threads do at a channel.
 #[derive(Clone, Copy)]
@@ -83,7 +95,7 @@ fn send<R: Abort + Wait + Clock>(
     node: Handle,
 ) -> bool {
     match way {
-        Way::Wait => sender.send(rt, node).is_ok(),
+        Way::Wait | Way::Batch | Way::Deadline => sender.send(rt, node).is_ok(),
         Way::Poll => poll(rt, sender, node),
         Way::Clone => {
             let mut other = made(rt, sender.try_clone(rt));
@@ -118,11 +130,8 @@ fn send_all<R: Abort + Wait + Clock>(
     rest(rt);
 }
 
-/// Receives an element, or returns `None` if all senders have ended.
-fn receive<R: Wait + Clock>(rt: &R, receiver: &mut Receiver<Counted>, way: Way) -> Option<Handle> {
-    if !matches!(way, Way::Poll) {
-        return receiver.recv(rt).ok();
-    }
+/// Receives an element by calls that never wait, or returns `None` if all senders have ended.
+fn poll_recv<R: Wait + Clock>(rt: &R, receiver: &mut Receiver<Counted>) -> Option<Handle> {
     for _ in 0..u64::MAX {
         match receiver.try_recv() {
             Ok(node) => return Some(node),
@@ -131,6 +140,44 @@ fn receive<R: Wait + Clock>(rt: &R, receiver: &mut Receiver<Counted>, way: Way) 
         }
     }
     None
+}
+
+/// Receives an element by calls with a deadline, or returns `None` if all senders have ended.
+fn recv_in_time<R: Wait + Clock>(rt: &R, receiver: &mut Receiver<Counted>) -> Option<Handle> {
+    for _ in 0..u64::MAX {
+        let deadline = Instant::now(rt).ok()?.checked_add(Duration::from_micros(100))?;
+        match receiver.recv_deadline(rt, deadline) {
+            Ok(node) => return Some(node),
+            Err(RecvTimeoutError::Disconnected) => return None,
+            Err(RecvTimeoutError::Timeout) => {}
+        }
+    }
+    None
+}
+
+/// Receives an element, or returns `None` if all senders have ended. What a batch has more comes at the next calls.
+fn receive<R: Wait + Clock>(
+    rt: &R,
+    receiver: &mut Receiver<Counted>,
+    batch: &mut Option<Batch<Counted>>,
+    way: Way,
+) -> Option<Handle> {
+    match way {
+        Way::Wait | Way::Clone => receiver.recv(rt).ok(),
+        Way::Poll => poll_recv(rt, receiver),
+        Way::Deadline => recv_in_time(rt, receiver),
+        Way::Batch => {
+            if let Some(more) = batch {
+                if let Some(node) = more.next() {
+                    return Some(node);
+                }
+            }
+            let mut taken = receiver.recv_batch(rt, 3).ok()?;
+            let node = taken.next();
+            *batch = Some(taken);
+            node
+        }
+    }
 }
 
 /// Receives as many elements as are wanted, or until all senders have ended. Returns how many came, and whether those
@@ -147,11 +194,12 @@ fn receive_all<R: Abort + Wait + Clock>(
         made(rt, next.push(sender.wrapping_mul(FAR)));
     }
     let mut in_order = true;
+    let mut batch = None;
     for count in 0..plan.most {
         if count % PART == 0 {
             rest(rt);
         }
-        let Some(node) = receive(rt, &mut receiver, plan.way) else {
+        let Some(node) = receive(rt, &mut receiver, &mut batch, plan.way) else {
             return (count, in_order);
         };
         match next.get_mut((node.id() / FAR) as usize) {
@@ -166,9 +214,26 @@ fn receive_all<R: Abort + Wait + Clock>(
     (plan.most, in_order)
 }
 
-/// Starts a thread for each sender, and receives on this one. Asserts how many elements came and how many came back,
-/// and that each was dropped once.
-fn run<R: Abort + Threads + Wait + Clock + Sync>(rt: &R, alloc: Global, plan: Plan) {
+/// What came of a plan.
+#[derive(Clone, Copy)]
+struct Outcome {
+    /// How many elements came.
+    came: u64,
+    /// Whether those of each thread came in its order.
+    in_order: bool,
+    /// How many threads got an element back.
+    back: u64,
+    /// How many elements were made, and how many were dropped.
+    made: u64,
+    dropped: u64,
+}
+
+/// Starts a thread for each sender, and receives on this one.
+fn exchange<R: Abort + Threads + Wait + Clock + Sync>(
+    rt: &R,
+    alloc: Global,
+    plan: Plan,
+) -> Outcome {
     at_most(rt, plan.rooms, MAX_ROOMS);
     let (first, receiver) = made(rt, channel(alloc, plan.rooms));
     let mut sender = first;
@@ -178,7 +243,7 @@ fn run<R: Abort + Threads + Wait + Clock + Sync>(rt: &R, alloc: Global, plan: Pl
         back: AtomicU64::new(0),
     };
     let told = &counts;
-    let came = thread::scope(thread::scope_env(), rt, |scope| {
+    let (came, in_order) = thread::scope(thread::scope_env(), rt, |scope| {
         for number in 1..plan.senders {
             let other = made(rt, sender.try_clone(rt));
             let first = number.wrapping_mul(FAR);
@@ -193,22 +258,41 @@ fn run<R: Abort + Threads + Wait + Clock + Sync>(rt: &R, alloc: Global, plan: Pl
         );
         receive_all(rt, alloc, receiver, plan)
     });
+    Outcome {
+        came,
+        in_order,
+        back: counts.back.load(Ordering::SeqCst),
+        made: counts.made.load(Ordering::SeqCst),
+        dropped: counts.drops.count(),
+    }
+}
+
+/// Runs a plan, and asserts how many elements came and how many came back, and that each was dropped once.
+fn run<R: Abort + Threads + Wait + Clock + Sync>(rt: &R, alloc: Global, plan: Plan) {
+    let outcome = exchange(rt, alloc, plan);
     let all = plan.senders.wrapping_mul(plan.each);
     let back = if all > plan.most { plan.senders } else { 0 };
-    let counted = (
-        came,
-        counts.back.load(Ordering::SeqCst),
-        counts.drops.count(),
-    );
     same(
         rt,
-        counted,
-        (
-            (all.min(plan.most), true),
-            back,
-            counts.made.load(Ordering::SeqCst),
-        ),
+        (outcome.came, outcome.in_order),
+        (all.min(plan.most), true),
     );
+    same(rt, (outcome.back, outcome.dropped), (back, outcome.made));
+}
+
+/// Runs a plan whose receiver may end before the senders, or not. Asserts that the elements of each thread came in
+/// order, that all came if the receiver did not end, and that each was dropped once.
+fn run_to_an_end<R: Abort + Threads + Wait + Clock + Sync>(rt: &R, alloc: Global, plan: Plan) {
+    let outcome = exchange(rt, alloc, plan);
+    let all = plan.senders.wrapping_mul(plan.each);
+    let is_early = plan.most <= all;
+    same(
+        rt,
+        (outcome.came, outcome.in_order),
+        (all.min(plan.most), true),
+    );
+    same(rt, outcome.dropped, outcome.made);
+    same(rt, is_early || outcome.back == 0, true);
 }
 
 /// Runs plans of each number of threads.
@@ -234,7 +318,7 @@ fn run_each<R: Abort + Threads + Wait + Clock + Sync>(
 
 #[test]
 fn what_threads_send_comes_out_in_the_order_of_each(rt: HostRuntime) {
-    for way in [Way::Wait, Way::Poll, Way::Clone] {
+    for way in WAYS {
         for rooms in [1, 2, 256, 4096] {
             run_each(&rt, rt.alloc(), way, rooms, EACH, u64::MAX);
         }
@@ -250,9 +334,26 @@ fn a_receiver_is_told_when_nothing_was_sent(rt: HostRuntime) {
 
 #[test]
 fn senders_get_their_elements_back_when_the_receiver_ends(rt: HostRuntime) {
-    for way in [Way::Wait, Way::Poll, Way::Clone] {
+    for way in WAYS {
         for (rooms, most) in [(0, 0), (1, 0), (1, 60), (2, 60), (256, 60), (4096, 60)] {
             run_each(&rt, rt.alloc(), way, rooms, FAR, most);
         }
+    }
+}
+
+// As many runs as a test has time for, with numbers of threads, rooms, elements and an end of the receiver that are
+// drawn. The numbers drawn are the same each time, and the ways of the threads are not.
+#[test]
+fn either_side_ends_at_any_time(rt: HostRuntime) {
+    let mut draws = Draws::new(START);
+    for _ in 0..RUNS {
+        let plan = Plan {
+            way: WAYS[draws.below(5) as usize],
+            rooms: [1, 2, 256][draws.below(3) as usize],
+            senders: 1 + draws.below(8),
+            each: draws.below(8),
+            most: draws.below(64),
+        };
+        run_to_an_end(&rt, rt.alloc(), plan);
     }
 }

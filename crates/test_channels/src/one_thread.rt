@@ -1,6 +1,11 @@
 //! Tables of calls on one thread.
 
-use crate::calls::{Call, Reply, Sides, each_replies};
+use crate::calls::{Call, Reply, Sides, each_replies, element};
+use crate::compared::{at_most, made, same};
+use cordyceps_base::shared::MAX_ROOMS;
+use cordyceps_channel::channel;
+use cordyceps_channel::laws::close_and_receive;
+use test_support::counted::{Counted, Drops};
 
 /// A call, and what it has to reply.
 type Line = (Call, Reply);
@@ -184,4 +189,71 @@ fn a_sender_leaves_most_rooms_to_others(rt: HostRuntime) {
         ];
         each_replies(&rt, rt.alloc(), &[(rooms as usize, &lines[..])]);
     }
+}
+
+/// Batches have up to as many elements as are asked for, and a deadline ends a wait for an element that does not come.
+const BATCHES: [Line; 18] = [
+    (Call::TryRecvBatch(2), Reply::Empty),
+    (Call::RecvDeadline(0), Reply::Timeout),
+    (Call::RecvDeadline(5), Reply::Timeout),
+    (Call::TrySend(0, 1), Reply::Done),
+    (Call::TrySend(0, 2), Reply::Done),
+    (Call::TrySend(0, 3), Reply::Done),
+    (Call::TryRecvBatch(2), Reply::Batch(1, 2)),
+    (Call::RecvBatch(2), Reply::Batch(3, 3)),
+    (Call::TrySend(0, 4), Reply::Done),
+    (Call::RecvDeadline(0), Reply::Received(4)),
+    (Call::Clone(0, 1), Reply::Done),
+    (Call::TrySend(1, 5), Reply::Done),
+    (Call::TrySend(0, 6), Reply::Done),
+    (Call::EndSender(0), Reply::Done),
+    (Call::EndSender(1), Reply::Done),
+    (Call::TryRecvBatch(9), Reply::Batch(5, 6)),
+    (Call::RecvBatch(1), Reply::Disconnected),
+    (Call::RecvDeadline(0), Reply::Disconnected),
+];
+
+/// Each element of a batch is dropped with it, and those behind it are with the channel.
+const BATCH_DROPS: [Line; 6] = [
+    (Call::TrySend(0, 1), Reply::Done),
+    (Call::TrySend(0, 2), Reply::Done),
+    (Call::TrySend(0, 3), Reply::Done),
+    (Call::TryRecvBatch(2), Reply::Batch(1, 2)),
+    (Call::Drops, Reply::Count(2)),
+    (Call::TryRecvBatch(1), Reply::Batch(3, 3)),
+];
+
+#[test]
+fn batches_and_deadlines_reply(rt: HostRuntime) {
+    each_replies(&rt, rt.alloc(), &[(4, &BATCHES[..]), (3, &BATCH_DROPS[..])]);
+}
+
+/// Ends a sender, and asserts what came of it and in which order, after an element that had been received before.
+#[test]
+fn a_closed_sender_is_received_in_its_order(rt: HostRuntime) {
+    let drops = made(&rt, Drops::new(rt.alloc()));
+    at_most(&rt, 4, MAX_ROOMS);
+    let (sender, receiver) = made(&rt, channel::<Counted>(rt.alloc(), 4));
+    let (mut sender, mut receiver) = (sender, receiver);
+    for number in 1..4 {
+        let node = element(&rt, rt.alloc(), number, &drops);
+        same(&rt, sender.try_send(node).is_ok(), true);
+    }
+    let first = sender.receipt();
+    drop(first);
+    same(&rt, made(&rt, receiver.recv(&rt)).id(), 1);
+    let all = made(
+        &rt,
+        close_and_receive(&rt, rt.alloc(), sender, &mut receiver),
+    );
+    let mut numbers = (0, 0, all.len());
+    if let Some(node) = all.get(0) {
+        numbers.0 = node.id();
+    }
+    if let Some(node) = all.get(1) {
+        numbers.1 = node.id();
+    }
+    same(&rt, numbers, (2, 3, 2));
+    drop(all);
+    same(&rt, drops.count(), 3);
 }
