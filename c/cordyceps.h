@@ -29,8 +29,8 @@
  * - No call is made from a signal handler, or in the child of a fork of a process with threads.
  * - malloc, realloc and free are of one allocator. malloc and realloc align a block to each power of two up to 16
  *   that divides its size.
- * - A payload is a number to these calls: what it points to is the caller's, also where a collection is freed with
- *   it.
+ * - A payload is a number to these calls. The caller owns the memory that it points to, also where a collection is
+ *   freed with the payload.
  */
 #ifndef CORDYCEPS_H
 #define CORDYCEPS_H
@@ -138,8 +138,8 @@ typedef struct {
   uint64_t payload;
 } cordyceps_item;
 
-/* Makes an empty queue in a handle of nothing. Its tickets have the number `collection`, as those of timers. false:
- * memory was refused, or the handle is not of nothing; nothing has changed. O(1), one malloc. */
+/* Makes an empty queue in a handle of nothing. Its tickets have the number `collection`, as tickets of timers have.
+ * false: memory was refused, or the handle is not of nothing; nothing has changed. O(1), one malloc. */
 bool cordyceps_queue_new(uint32_t collection, cordyceps_queue *out);
 
 /* Inserts an item after all whose keys are not greater, and writes its ticket to *out. false: memory was refused, the
@@ -191,8 +191,8 @@ typedef struct {
   void *at;
 } cordyceps_list;
 
-/* Makes an empty list in a handle of nothing. Its tickets have the number `collection`, as those of timers. false:
- * memory was refused, or the handle is not of nothing; nothing has changed. O(1), one malloc. */
+/* Makes an empty list in a handle of nothing. Its tickets have the number `collection`, as tickets of timers have.
+ * false: memory was refused, or the handle is not of nothing; nothing has changed. O(1), one malloc. */
 bool cordyceps_list_new(uint32_t collection, cordyceps_list *out);
 
 /* Puts a payload in first, and writes its ticket to *out. false: memory was refused, the list has SIZE_MAX elements, no
@@ -374,7 +374,7 @@ bool cordyceps_pile_free(cordyceps_pile *pile);
  *     while ((first = cordyceps_node_list_take_first(&jobs)))
  *       run(cordyceps_container(first, struct job, links));
  *
- * Besides what the top of this file asks, the caller keeps this. These calls check nothing of it:
+ * Besides the conditions at the top of this file, the caller keeps these, which the calls do not check:
  *
  * - The links of a node are set from CORDYCEPS_LINKS_INIT before the node first goes into a handle. The caller puts it
  *   into a handle of nothing by writing the address of its links there, and takes it out by writing NULL or by not
@@ -421,7 +421,7 @@ typedef struct {
   void *first;
   void *last;
   size_t len;
-  uint64_t home; /* as that of links */
+  uint64_t home; /* as in cordyceps_links */
 } cordyceps_node_list_memory;
 
 #define CORDYCEPS_NODE_LIST_INIT {NULL, NULL, 0, 1}
@@ -492,7 +492,7 @@ void cordyceps_node_list_move_to_back(cordyceps_node_list *list, cordyceps_spot 
 typedef struct {
   uint64_t lines[64];
   uint64_t others[10];
-  uint64_t home; /* as that of links */
+  uint64_t home; /* as in cordyceps_links */
 } cordyceps_node_queue_memory;
 
 #define CORDYCEPS_NODE_QUEUE_INIT {{0}, {1}, 1}
