@@ -181,6 +181,15 @@ impl<T: Linked<Links<T>>> Receiver<T> {
     ///
     /// # Waits
     /// For an element, or for the last sender to end. It looks some times, and then sleeps.
+    ///
+    /// # Examples
+    /// From `laws::receive_all` of `cordyceps_channel`:
+    /// ```
+    /// match receiver.recv(rt) {
+    ///     Ok(element) => all.push(element)?,
+    ///     Err(Disconnected { value: () }) => return Ok(all),
+    /// }
+    /// ```
     pub fn recv<R: Wait>(&mut self, rt: &R) -> Result<T::Handle, Disconnected>
         ensures { MatchResult result (λ handle. Receives (handle ∷ []) self.old self.new)
             (λ _. Receives [] self.old self.new × IsOver self.new) }
@@ -210,6 +219,13 @@ impl<T: Linked<Links<T>>> Receiver<T> {
     ///
     /// # Waits
     /// Never.
+    ///
+    /// # Examples
+    /// From `laws::close_and_receive` of `cordyceps_channel`:
+    /// ```
+    /// receiver.learn(sender.close());
+    /// receive_all(rt, alloc, receiver)
+    /// ```
     pub fn learn(&mut self, receipt: Receipt<T>)
         requires { receipt.table ≡ self.old.table }
         ensures received { Receives [] self.old self.new }
