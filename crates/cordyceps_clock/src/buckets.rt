@@ -14,33 +14,36 @@ use cordyceps_base::linked::Linked;
 use cordyceps_list::list::Links;
 use cordyceps_stable::stable_list::{Spot, StableList};
 
-/// The spot of the last element of each bucket that has one.
-pub(crate) type Ends = [Option<Spot>; 65];
+/// The number of buckets: one for the clock itself, and one for each bit of a time.
+pub(crate) const BUCKETS: usize = 65;
 
-/// Returns the number of the bucket of a time: 0 for the time `now` itself, and for another time one more than the
-/// highest bit in which the two differ.
-pub(crate) fn bucket(now: u64, time: u64) -> usize
-    ensures is { result ≡ bucket_of now time }
-    ensures within { result ≤ 64 }
+/// The spot of the last element of each bucket that has one.
+pub(crate) type Ends = [Option<Spot>; BUCKETS];
+
+/// Returns the number of the bucket of a time: 0 for the clock itself, and for another time one more than the highest
+/// bit in which the two differ.
+pub(crate) fn bucket(clock: u64, time: u64) -> usize
+    ensures is { result ≡ bucket_of clock time }
+    ensures within { result < BUCKETS }
 {
-    64 - (now ^ time).leading_zeros() as usize
+    BUCKETS - 1 - (clock ^ time).leading_zeros() as usize
 }
 
 /// Returns the least time that the bucket of a time can hold: the time without its bits below the highest in which it
-/// differs from `now`.
-pub(crate) fn least_of_bucket(now: u64, time: u64) -> u64
-    ensures { result ≡ rounded now time }
+/// differs from the clock.
+pub(crate) fn least_of_bucket(clock: u64, time: u64) -> u64
+    ensures { result ≡ rounded clock time }
 {
-    let low = bucket(now, time).saturating_sub(1);
+    let low = bucket(clock, time).saturating_sub(1);
     (time >> low) << low
 }
 
 /// Returns the end of the bucket `k`, or where that has no element, of the nearest lower one that has.
 ///
 /// # Complexity
-/// O(1): it reads at most 65 ends.
+/// O(1): it reads at most `BUCKETS` ends.
 pub(crate) fn nearest_end(ends: &Ends, k: usize) -> Option<Spot>
-    requires { k < 65 }
+    requires { k < BUCKETS }
     ensures { IsNearest ends.now k result }
 {
     let mut above = k + 1;
@@ -57,14 +60,14 @@ pub(crate) fn nearest_end(ends: &Ends, k: usize) -> Option<Spot>
 /// Returns the time of the element at a spot.
 pub(crate) fn time_at<T: Linked<Links<T>>, O: Times<T>>(
     list: &StableList<T>,
-    time: &O,
+    times: &O,
     at: Spot,
 ) -> u64
-    requires callable { O.can_compute time.now }
+    requires callable { O.can_compute times.now }
     requires there { HasSpot list.now at }
-    ensures { (v : T) × HoldsAt list.now at v × ((of : T → ℕ) → O.computes_by time.now of → result ≡ of v) }
+    ensures { (v : T) × HoldsAt list.now at v × ((of : T → ℕ) → O.computes_by times.now of → result ≡ of v) }
 {
-    time.time(list.get(at))
+    times.time(list.get(at))
 }
 
 /// Puts an element after all of the buckets up to `k`, and returns its spot.
@@ -77,7 +80,7 @@ pub(crate) fn put<T: Linked<Links<T>>>(
     k: usize,
     handle: T::Handle,
 ) -> Spot
-    requires within { k < 65 }
+    requires within { k < BUCKETS }
     requires fits { length list.old < usize.MAX }
     requires kept { (number : Ptr × Element T → ℕ) × IsKept number ends.old list.old }
     ensures put { (number : Ptr × Element T → ℕ)
@@ -98,18 +101,18 @@ pub(crate) fn put<T: Linked<Links<T>>>(
 /// Returns `true` if there is an element at the spot, and its time is in the bucket `k`.
 fn is_in<T: Linked<Links<T>>, O: Times<T>>(
     list: &StableList<T>,
-    time: &O,
-    now: u64,
+    times: &O,
+    clock: u64,
     k: usize,
     at: Option<Spot>,
 ) -> bool
-    requires callable { O.can_compute time.now }
+    requires callable { O.can_compute times.now }
     requires there { IfSome at (λ p. HasSpot list.now p) }
-    ensures { (of : T → ℕ) → O.computes_by time.now of → MatchOption at (result ≡ false)
-        (λ p. (v : T) × HoldsAt list.now p v × (result ≡ (bucket_of now (of v) == k))) }
+    ensures { (of : T → ℕ) → O.computes_by times.now of → MatchOption at (result ≡ false)
+        (λ p. (v : T) × HoldsAt list.now p v × (result ≡ (bucket_of clock (of v) == k))) }
 {
     match at {
-        Some(at) => bucket(now, time_at(list, time, at)) == k,
+        Some(at) => bucket(clock, time_at(list, times, at)) == k,
         None => false,
     }
 }
@@ -118,28 +121,28 @@ fn is_in<T: Linked<Links<T>>, O: Times<T>>(
 fn end_without<T: Linked<Links<T>>, O: Times<T>>(
     list: &StableList<T>,
     ends: &Ends,
-    time: &O,
-    now: u64,
+    times: &O,
+    clock: u64,
     k: usize,
     at: Spot,
 ) -> Option<Spot>
-    requires callable { O.can_compute time.now }
-    requires within { k < 65 }
+    requires callable { O.can_compute times.now }
+    requires within { k < BUCKETS }
     requires there { HasSpot list.now at }
     requires distinct { AreDistinct (spots list.now) }
     ensures { (of : T → ℕ) (e : Element T) (rest : Nodes T)
-        → O.computes_by time.now of
-        → IsKept (number_at of now) ends.now list.now
+        → O.computes_by times.now of
+        → IsKept (number_at of clock) ends.now list.now
         → IsTaken list.now at e rest
-        → bucket_of now (of e.value) ≡ k
-        → result ≡ last_spot (row (number_at of now) k rest) }
+        → bucket_of clock (of e.value) ≡ k
+        → result ≡ last_spot (row (number_at of clock) k rest) }
 {
-    if is_in(list, time, now, k, list.next(at)) {
+    if is_in(list, times, clock, k, list.next(at)) {
         return ends[k];
     }
     match list.prev(at) {
         Some(before) => {
-            if is_in(list, time, now, k, Some(before)) {
+            if is_in(list, times, clock, k, Some(before)) {
                 return Some(before);
             }
             None
@@ -155,21 +158,21 @@ fn end_without<T: Linked<Links<T>>, O: Times<T>>(
 pub(crate) fn leave_out<T: Linked<Links<T>>, O: Times<T>>(
     list: &StableList<T>,
     ends: &mut Ends,
-    time: &O,
-    now: u64,
+    times: &O,
+    clock: u64,
     at: Spot,
 )
-    requires callable { O.can_compute time.now }
+    requires callable { O.can_compute times.now }
     requires there { HasSpot list.now at }
     ensures { (of : T → ℕ) (e : Element T) (rest : Nodes T)
-        → O.computes_by time.now of
-        → IsKept (number_at of now) ends.old list.now
+        → O.computes_by times.now of
+        → IsKept (number_at of clock) ends.old list.now
         → IsTaken list.now at e rest
-        → IsKept (number_at of now) ends.new rest }
+        → IsKept (number_at of clock) ends.new rest }
 {
     list.spots_are_distinct();
-    let k = bucket(now, time_at(list, time, at));
-    ends[k] = end_without(list, ends, time, now, k, at);
+    let k = bucket(clock, time_at(list, times, at));
+    ends[k] = end_without(list, ends, times, clock, k, at);
 }
 
 /// Removes the element at `at` and returns it.
@@ -179,20 +182,20 @@ pub(crate) fn leave_out<T: Linked<Links<T>>, O: Times<T>>(
 pub(crate) fn take_out<T: Linked<Links<T>>, O: Times<T>>(
     list: &mut StableList<T>,
     ends: &mut Ends,
-    time: &O,
-    now: u64,
+    times: &O,
+    clock: u64,
     at: Spot,
 ) -> T::Handle
-    requires callable { O.can_compute time.now }
+    requires callable { O.can_compute times.now }
     requires there { HasSpot list.old at }
     ensures taken { IsTaken list.old at (T.element result) list.new }
     ensures kept { (of : T → ℕ)
-        → O.computes_by time.now of
-        → IsKept (number_at of now) ends.old list.old
-        → IsKept (number_at of now) ends.new list.new }
+        → O.computes_by times.now of
+        → IsKept (number_at of clock) ends.old list.old
+        → IsKept (number_at of clock) ends.new list.new }
     ensures distinct { AreDistinct (spots list.new) }
 {
-    leave_out(list, ends, time, now, at);
+    leave_out(list, ends, times, clock, at);
     list.remove(at)
 }
 
@@ -208,7 +211,7 @@ pub(crate) fn move_above<T: Linked<Links<T>>>(
     k: usize,
     at: Spot,
 )
-    requires within { k < 65 }
+    requires within { k < BUCKETS }
     requires low { low ≤ k }
     requires empty { AreEmpty ends.old low k }
     requires there { HasSpot list.old at }
@@ -234,7 +237,7 @@ pub(crate) fn move_in<T: Linked<Links<T>>>(
     k: usize,
     at: Spot,
 )
-    requires within { k < 65 }
+    requires within { k < BUCKETS }
     requires there { HasSpot list.old at }
     requires others { (to : Ptr) → IsNearest ends.old k (Some to) → HasSpot list.old to × (at ≢ to) }
     ensures moved { IsMovedIn ends.old k list.old at list.new }

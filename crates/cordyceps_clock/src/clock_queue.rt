@@ -46,7 +46,7 @@ ghost use Rattle.cordyceps_stable.specs.Arranged.{precedes};
 ghost use Rattle.cordyceps_clock.specs.Buckets.{AreLater};
 ghost use Rattle.cordyceps_clock.specs.Clock.{Holds, rounded};
 
-use crate::buckets::{Ends, bucket, least_of_bucket, put, take_out, time_at};
+use crate::buckets::{BUCKETS, Ends, bucket, least_of_bucket, put, take_out, time_at};
 use crate::renewing::renew;
 use crate::spreading::{First, advance, first_bucket};
 use crate::times::Times;
@@ -95,7 +95,7 @@ pub struct ClockQueue<T, O: Times<T>> {
     list: StableList<T>,
     ends: Ends,
     clock: u64,
-    time: O,
+    times: O,
 }
 
 impl<T, O: Times<T>> Model for ClockQueue<T, O> {
@@ -105,28 +105,28 @@ impl<T, O: Times<T>> Model for ClockQueue<T, O> {
 
     ghost Value = { Clocked T O };
 
-    ghost view = { λ q. record { nodes = q.list; time = q.time; clock = q.clock } };
+    ghost view = { λ q. record { nodes = q.list; time = q.times; clock = q.clock } };
 
-    ghost invariant = { λ q. (of : T → ℕ) → O.computes_by q.time of → IsTimed of q.clock q.ends q.list };
+    ghost invariant = { λ q. (of : T → ℕ) → O.computes_by q.times of → IsTimed of q.clock q.ends q.list };
 }
 
 impl<T: Linked<Links<T>>, O: Times<T>> ClockQueue<T, O> {
-    /// Creates an empty queue at the time 0, whose elements are due at the times that `time` returns. Allocates
+    /// Creates an empty queue at the time 0, whose elements are due at the times that `times` returns. Allocates
     /// nothing.
     ///
     /// # Complexity
     /// O(1).
-    pub fn new_with_times(time: O) -> ClockQueue<T, O>
+    pub fn new_with_times(times: O) -> ClockQueue<T, O>
         ensures nodes { result.nodes ≡ [] }
         ensures now { result.clock ≡ 0 }
-        ensures time { result.time ≡ time }
+        ensures time { result.time ≡ times }
         ensures arrivals { (cmp : T → T → Ordering) → Holds cmp result.nodes [] }
     {
         ClockQueue {
             list: StableList::new(),
-            ends: [None; 65],
+            ends: [None; BUCKETS],
             clock: 0,
-            time,
+            times,
         }
     }
 
@@ -142,25 +142,25 @@ impl<T: Linked<Links<T>>, O: Times<T>> ClockQueue<T, O> {
         *clock
     }
 
-    /// Replaces the function of times by `time`. Requires that this returns the same time as the old one for each value
-    /// that the old one makes due at the clock or later. So each element stays due when it was.
+    /// Replaces the function of times by `times`. Requires that this returns the same time as the old one for each
+    /// value that the old one makes due at the clock or later. So each element stays due when it was.
     ///
     /// # Complexity
     /// O(1).
-    pub fn set_times(&mut self, time: O)
+    pub fn set_times(&mut self, times: O)
     where
         O: Drop,
         requires callable { O.can_compute self.old.time }
-        requires same { (of anew : T → ℕ) → O.computes_by self.old.time of → O.computes_by time anew
+        requires same { (of anew : T → ℕ) → O.computes_by self.old.time of → O.computes_by times anew
             → (value : T) → self.old.clock ≤ of value → anew value ≡ of value }
         ensures nodes { self.new.nodes ≡ self.old.nodes }
         ensures kept { (p : Ptr) → HasSpot self.old.nodes p → HasSpot self.new.nodes p }
         ensures now { self.new.clock ≡ self.old.clock }
-        ensures time { self.new.time ≡ time }
-        ensures due { (of anew : T → ℕ) → O.computes_by self.old.time of → O.computes_by time anew
+        ensures time { self.new.time ≡ times }
+        ensures due { (of anew : T → ℕ) → O.computes_by self.old.time of → O.computes_by times anew
             → AllByRecursion (λ n. anew n.1.value ≡ of n.1.value) self.new.nodes }
     {
-        self.time = time;
+        self.times = times;
     }
 
     /// Returns the number of elements.
@@ -215,7 +215,7 @@ impl<T: Linked<Links<T>>, O: Times<T>> ClockQueue<T, O> {
         ensures distinct { AreDistinct (spots self.new.nodes) }
     {
         let node = T::into_ptr(handle);
-        let due = self.time.time(node.get());
+        let due = self.times.time(node.get());
         let k = bucket(self.clock, due);
         put(&mut self.list, &mut self.ends, k, T::from_ptr(node))
     }
@@ -248,7 +248,7 @@ impl<T: Linked<Links<T>>, O: Times<T>> ClockQueue<T, O> {
         ensures distinct { AreDistinct (spots self.new.nodes) }
     {
         let node = T::into_ptr(handle);
-        let due = self.time.time(node.get());
+        let due = self.times.time(node.get());
         let handle = T::from_ptr(node);
         self.list.spots_are_distinct();
         if self.list.len() == usize::MAX || due < self.clock {
@@ -275,7 +275,7 @@ impl<T: Linked<Links<T>>, O: Times<T>> ClockQueue<T, O> {
         ensures time { self.new.time ≡ self.old.time }
         ensures distinct { AreDistinct (spots self.new.nodes) }
     {
-        take_out(&mut self.list, &mut self.ends, &self.time, self.clock, at)
+        take_out(&mut self.list, &mut self.ends, &self.times, self.clock, at)
     }
 
     /// Changes the value at `at` by a function, and moves the element to where it then belongs: after those that are
@@ -311,7 +311,7 @@ impl<T: Linked<Links<T>>, O: Times<T>> ClockQueue<T, O> {
         renew(
             &mut self.list,
             &mut self.ends,
-            &self.time,
+            &self.times,
             self.clock,
             at,
             change,
@@ -336,12 +336,12 @@ impl<T: Linked<Links<T>>, O: Times<T>> ClockQueue<T, O> {
     {
         self.list.spots_are_distinct();
         let at = self.list.front()?;
-        let k = bucket(self.clock, time_at(&self.list, &self.time, at));
+        let k = bucket(self.clock, time_at(&self.list, &self.times, at));
         let First {
             least: _,
             at: first,
             len: _,
-        } = first_bucket(&self.list, &self.time, self.clock, k, at);
+        } = first_bucket(&self.list, &self.times, self.clock, k, at);
         Some(first)
     }
 
@@ -368,7 +368,7 @@ impl<T: Linked<Links<T>>, O: Times<T>> ClockQueue<T, O> {
     {
         self.list.spots_are_distinct();
         let at = self.list.front()?;
-        let due = time_at(&self.list, &self.time, at);
+        let due = time_at(&self.list, &self.times, at);
         Some(least_of_bucket(self.clock, due))
     }
 
@@ -400,7 +400,7 @@ impl<T: Linked<Links<T>>, O: Times<T>> ClockQueue<T, O> {
         self.clock = advance(
             &mut self.list,
             &mut self.ends,
-            &self.time,
+            &self.times,
             self.clock,
             u64::MAX,
             at,
@@ -409,32 +409,32 @@ impl<T: Linked<Links<T>>, O: Times<T>> ClockQueue<T, O> {
         Some(take_out(
             &mut self.list,
             &mut self.ends,
-            &self.time,
+            &self.times,
             self.clock,
             first,
         ))
     }
 
-    /// Removes the element that is due first and returns it, if it is due at `now` or before, or returns `None`. Of
+    /// Removes the element that is due first and returns it, if it is due at `time` or before, or returns `None`. Of
     /// those that are due at the same time it is the one that was pushed first, and its time becomes the clock. With
-    /// `None` the clock becomes `now`, unless it is later already.
+    /// `None` the clock becomes `time`, unless it is later already.
     ///
     /// # Complexity
     /// O(1) amortized, also where no element is due: after its push, and after each update, an element is moved at
     /// most 64 times. At worst O(n), for n elements.
-    pub fn pop_due(&mut self, now: u64) -> Option<T::Handle>
+    pub fn pop_due(&mut self, time: u64) -> Option<T::Handle>
         requires callable { O.can_compute self.old.time }
         ensures due { MatchOption result
-            ((self.new.clock ≡ max self.old.clock now) × IsPermutation self.old.nodes self.new.nodes
+            ((self.new.clock ≡ max self.old.clock time) × IsPermutation self.old.nodes self.new.nodes
             × ((of : T → ℕ)
             → O.computes_by self.old.time of
-            → AreLater of now self.new.nodes
+            → AreLater of time self.new.nodes
             × ((a : Nodes T)
             → Holds (by_key nat_cmp of) self.old.nodes a
             → Holds (by_key nat_cmp of) self.new.nodes a)))
             (λ h. (spot : Ptr) × ((of : T → ℕ)
             → O.computes_by self.old.time of
-            → (self.new.clock ≡ of (T.element h).value) × (of (T.element h).value ≤ now)
+            → (self.new.clock ≡ of (T.element h).value) × (of (T.element h).value ≤ time)
             × ((a : Nodes T)
             → Holds (by_key nat_cmp of) self.old.nodes a
             → (rest : Nodes T) × (IsEarliestLeast (precedes (by_key nat_cmp of)) a (spot, T.element h) rest
@@ -447,27 +447,33 @@ impl<T: Linked<Links<T>>, O: Times<T>> ClockQueue<T, O> {
         ensures distinct { AreDistinct (spots self.new.nodes) }
     {
         self.list.spots_are_distinct();
-        if now < self.clock {
+        if time < self.clock {
             return None;
         }
         let Some(at) = self.list.front() else {
-            self.clock = now;
+            self.clock = time;
             return None;
         };
         self.clock = advance(
             &mut self.list,
             &mut self.ends,
-            &self.time,
+            &self.times,
             self.clock,
-            now,
+            time,
             at,
         );
         let next = self.list.front()?;
-        let due = time_at(&self.list, &self.time, next);
-        if due > now {
+        let due = time_at(&self.list, &self.times, next);
+        if due > time {
             return None;
         }
-        Some(take_out(&mut self.list, &mut self.ends, &self.time, self.clock, next))
+        Some(take_out(
+            &mut self.list,
+            &mut self.ends,
+            &self.times,
+            self.clock,
+            next,
+        ))
     }
 
     /// Returns a reference to the value at `at`. Requires that `at` is valid.

@@ -35,28 +35,28 @@ fn change_at<T: Linked<Links<T>>, R, F: FnOnce(&mut T) -> R>(
 pub(crate) fn renew<T: Linked<Links<T>>, O: Times<T>, R, F: FnOnce(&mut T) -> R>(
     list: &mut StableList<T>,
     ends: &mut Ends,
-    time: &O,
-    now: u64,
+    times: &O,
+    clock: u64,
     at: Spot,
     change: F,
 ) -> R
-    requires time { O.can_compute time.now }
+    requires time { O.can_compute times.now }
     requires there { HasSpot list.old at }
     requires callable { (lent : _) → HoldsAt list.old at lent.now → F.pre change lent }
-    requires kept { (of : T → ℕ) → O.computes_by time.now of → IsKept (number_at of now) ends.old list.old }
+    requires kept { (of : T → ℕ) → O.computes_by times.now of → IsKept (number_at of clock) ends.old list.old }
     ensures changed { (e : Element T) × (w : T) × (rest : Nodes T)
         × FnOnceReturnsAtMut F.FnOnce change e.value result w
         × IsTaken list.old at e rest
         × IsTaken list.new at (record { id = e.id; value = w }) rest
         × ((of : T → ℕ)
-        → O.computes_by time.now of
-        → IsRenewed of now ends.new rest at (record { id = e.id; value = w }) list.new) }
+        → O.computes_by times.now of
+        → IsRenewed of clock ends.new rest at (record { id = e.id; value = w }) list.new) }
     ensures distinct { AreDistinct (spots list.new) }
 {
-    leave_out(list, ends, time, now, at);
+    leave_out(list, ends, times, clock, at);
     let answer = change_at(list, at, change);
     list.spots_are_distinct();
-    let due = time_at(list, time, at);
-    move_in(list, ends, bucket(now, due), at);
+    let due = time_at(list, times, at);
+    move_in(list, ends, bucket(clock, due), at);
     answer
 }

@@ -18,11 +18,11 @@ move_in-requires-clause-there g c =
 
 pub move_in-requires-clause-others : goal.move_in-requires-clause-others
 move_in-requires-clause-others g c to near =
-    let (of, has) = g.met.O.Times.computes c.args.time.now c.requires.time in
+    let (of, has) = g.met.O.Times.computes c.args.times.now c.requires.time in
     let (e, w, gave, o) = c.change_at-answer.ensures in
     let n : Element g.row.T.Denot = record { id = e.id; value = w } in
     let rest = o.before ++ o.after in let list = c.change_at-answer.new.list in let ends = c.leave_out.new.ends in
-    let N = number_at of c.args.now in let k = c.bucket.result in let at = c.args.at in
+    let N = number_at of c.args.clock in let k = c.bucket.result in let at = c.args.at in
     let small : k < 65 = omega (arith, c.bucket.ensures.within) in let distinct = c.spots_are_distinct.ensures in
     let kept = c.leave_out.ensures of e rest has (c.requires.kept of has) (o.before, o.after, o.was, refl) in (
       end_there list rest at n distinct (o.before, o.after, o.is, refl) N ends k small kept to near,
@@ -34,7 +34,7 @@ returns-clause-changed g c =
     let (e, w, gave, o) = c.change_at-answer.ensures in
     let n : Element g.row.T.Denot = record { id = e.id; value = w } in
     let rest = o.before ++ o.after in let list = c.change_at-answer.new.list in let ends = c.leave_out.new.ends in
-    let now = c.args.now in let k = c.bucket.result in let at = c.args.at in
+    let clock = c.args.clock in let k = c.bucket.result in let at = c.args.at in
     let small : k < 65 = omega (arith, c.bucket.ensures.within) in let distinct = c.spots_are_distinct.ensures in
     let moved = c.move_in.ensures.moved in let (v, holds, tells) = c.time_at-due.ensures in (
       e,
@@ -47,9 +47,9 @@ returns-clause-changed g c =
           let kept = c.leave_out.ensures of e rest has (c.requires.kept of has) (o.before, o.after, o.was, refl) in
           let due = c.time_at-due.result in let told = tells of has in
           let numbered =
-          held_is of now k list o.before o.after at n v due distinct o.is holds told c.bucket.ensures.is in
-          let value = value_is of now k list o.before o.after at n v distinct o.is holds in
-          renewed list rest at n distinct (o.before, o.after, o.is, refl) of now k ends c.move_in.new.ends
+          held_is of clock k list o.before o.after at n v due distinct o.is holds told c.bucket.ensures.is in
+          let value = value_is of clock k list o.before o.after at n v distinct o.is holds in
+          renewed list rest at n distinct (o.before, o.after, o.is, refl) of clock k ends c.move_in.new.ends
           c.move_in.new.list small
           (omega (arith, c.time_at-due.type_inv, told, ap of value)) numbered kept moved c.move_in.ensures.end,
     )

@@ -6,8 +6,8 @@ use Rattle.cordyceps_clock.proofs.spreading.spread.Given as goal
 
 abbrev pub invariant-loop-left : goal.invariant-loop-left
 invariant-loop-left g l =
-    (of : g.row.T.Denot → ℕ) (j : ℕ) (ahead others : Nodes g.row.T.Denot) → g.O.Times.computes_by l.time of → length ahead ≡ l.len → AreDue of l.now ahead → IsSpreading (number_at of l.now) l.fn.ends l.fn.list j [] ahead others
-    → Spread of l.now l.ends l.list j ahead others l.next l.left l.top
+    (of : g.row.T.Denot → ℕ) (j : ℕ) (ahead others : Nodes g.row.T.Denot) → g.O.Times.computes_by l.times of → length ahead ≡ l.len → AreDue of l.clock ahead → IsSpreading (number_at of l.clock) l.fn.ends l.fn.list j [] ahead others
+    → Spread of l.clock l.ends l.list j ahead others l.next l.left l.top
 
 abbrev pub decreases-loop-left : goal.decreases-loop-left
 decreases-loop-left g l = l.left

@@ -18,17 +18,17 @@ returns-in_err-first-clause-taken g c =
 
 pub returns-clause-taken : goal.returns-clause-taken
 returns-clause-taken g c =
-    let e = g.T.Linked.element c.take_out.result in let p = c.in_ok-first.first in let now = c.advance-self-inside.result in
+    let e = g.T.Linked.element c.take_out.result in let p = c.in_ok-first.first in let clock = c.advance-self-inside.result in
     let old = c.self.inside.list in let list = c.advance-self-inside.new.list in let new = c.take_out.new.list in
     let nodes = ap (λ (s : Clocked g.row.T.Denot g.row.O.Denot). s.nodes) c.self.view_is in (
       p,
       λ of has.
           let own = subst (λ (s : Clocked g.row.T.Denot g.row.O.Denot). g.O.Times.computes_by s.time of) (sym c.self.view_is) has in
-          let timed = c.advance-self-inside.ensures.timed of own in let due = due_at_last of now (2 ^ 64 - 1) c.advance-self-inside.new.ends list p c.advance-self-inside.ensures.distinct c.in_ok-first.ensures.first (c.advance-self-inside.ensures.due of own) timed (omega arith) in let stable = c.advance-self-inside.ensures.stable of own in (
-            sym (popped_due of now c.advance-self-inside.new.ends old list new p e c.advance-self-inside.ensures.distinct c.in_ok-first.ensures.first c.take_out.ensures.taken timed due stable),
-            λ a h. popped_holds of now c.advance-self-inside.new.ends old list new p e c.advance-self-inside.ensures.distinct c.in_ok-first.ensures.first c.take_out.ensures.taken timed due stable a (subst (λ l. Holds (by_key nat_cmp of) l a) (sym nodes) h),
+          let timed = c.advance-self-inside.ensures.timed of own in let due = due_at_last of clock (2 ^ 64 - 1) c.advance-self-inside.new.ends list p c.advance-self-inside.ensures.distinct c.in_ok-first.ensures.first (c.advance-self-inside.ensures.due of own) timed (omega arith) in let stable = c.advance-self-inside.ensures.stable of own in (
+            sym (popped_due of clock c.advance-self-inside.new.ends old list new p e c.advance-self-inside.ensures.distinct c.in_ok-first.ensures.first c.take_out.ensures.taken timed due stable),
+            λ a h. popped_holds of clock c.advance-self-inside.new.ends old list new p e c.advance-self-inside.ensures.distinct c.in_ok-first.ensures.first c.take_out.ensures.taken timed due stable a (subst (λ l. Holds (by_key nat_cmp of) l a) (sym nodes) h),
           ),
-      subst (IsPermutation ((p, e) ∷ new)) nodes (popped_all (λ _. now) now c.advance-self-inside.new.ends old list new p e c.advance-self-inside.ensures.distinct c.in_ok-first.ensures.first c.take_out.ensures.taken c.advance-self-inside.ensures.kept),
+      subst (IsPermutation ((p, e) ∷ new)) nodes (popped_all (λ _. clock) clock c.advance-self-inside.new.ends old list new p e c.advance-self-inside.ensures.distinct c.in_ok-first.ensures.first c.take_out.ensures.taken c.advance-self-inside.ensures.kept),
     )
 
 pub returns-in_err-first-clause-kept : goal.returns-in_err-first-clause-kept

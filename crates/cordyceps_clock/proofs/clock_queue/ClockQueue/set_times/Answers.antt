@@ -7,7 +7,7 @@ pub invariant_of-self : goal.invariant_of-self
 invariant_of-self g c =
     let was = c.self.inside in
     let callable = subst (λ (s : Clocked g.row.T.Denot g.row.O.Denot). g.O.Times.can_compute s.time) (sym c.self.view_is) c.requires.callable in
-    let (of, own) = g.met.O.Times.computes was.time callable in
+    let (of, own) = g.met.O.Times.computes was.times callable in
     let by = subst (λ (s : Clocked g.row.T.Denot g.row.O.Denot). g.O.Times.computes_by s.time of) c.self.view_is own in
     λ anew becomes.
     let same = subst (λ (s : Clocked g.row.T.Denot g.row.O.Denot). (v : g.row.T.Denot) → s.clock ≤ of v → anew v ≡ of v) (sym c.self.view_is) (c.requires.same of anew by becomes) in
