@@ -83,12 +83,12 @@ module _ {X : Type 0} where
       -- the nearest end is another node
       pub end_there : (to : Ptr) → IsNearest ends k (Some to) → HasSpot c to
       end_there to near =
-          let (i, at) = nearest_has number ends rest k to small kept near in let (o, lies) = has_split rest i to at in
+          let (i, at) = nearest_has number ends rest k (Some to) small kept near in let (o, lies) = has_split rest i to at in
           spot_is_at c to o (left_is_at c rest p to e o taken lies)
 
       pub end_other : (to : Ptr) → IsNearest ends k (Some to) → p ≡ to → ⊥
       end_other to near same =
-          let there = nearest_has number ends rest k to small kept near in
+          let there = nearest_has number ends rest k (Some to) small kept near in
           taken_gone c rest p e distinct taken (subst (HasSpot rest) (sym same) there)
 
       moved_in : (new : List (Option Ptr)) (d : Nodes X) → IsMovedIn ends k c p d → IsSet ends new k p

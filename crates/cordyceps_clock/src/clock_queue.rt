@@ -46,9 +46,8 @@ ghost use Rattle.cordyceps_stable.specs.Arranged.{precedes};
 ghost use Rattle.cordyceps_clock.specs.Buckets.{AreLater};
 ghost use Rattle.cordyceps_clock.specs.Clock.{Holds, rounded};
 
-use crate::buckets::{BUCKETS, Ends, bucket, least_of_bucket, put, take_out, time_at};
-use crate::renewing::renew;
-use crate::spreading::{First, advance, first_bucket};
+use crate::buckets::{BUCKETS, Buckets, bucket, least_of_bucket, time_at};
+use crate::spreading::{First, first_bucket};
 use crate::times::Times;
 use cordyceps_base::linked::Linked;
 use cordyceps_list::list::Links;
@@ -92,8 +91,7 @@ use std::marker::Model;
 /// ```
 #[derive(Drop)]
 pub struct ClockQueue<T, O: Times<T>> {
-    list: StableList<T>,
-    ends: Ends,
+    buckets: Buckets<T>,
     clock: u64,
     times: O,
 }
@@ -105,9 +103,11 @@ impl<T, O: Times<T>> Model for ClockQueue<T, O> {
 
     ghost Value = { Clocked T O };
 
-    ghost view = { λ q. record { nodes = q.list; time = q.times; clock = q.clock } };
+    ghost view = { λ q. record { nodes = q.buckets.list; time = q.times; clock = q.clock } };
 
-    ghost invariant = { λ q. (of : T → ℕ) → O.computes_by q.times of → IsTimed of q.clock q.ends q.list };
+    ghost invariant = { λ q. (of : T → ℕ)
+        → O.computes_by q.times of
+        → IsTimed of q.clock q.buckets.ends q.buckets.list };
 }
 
 impl<T: Linked<Links<T>>, O: Times<T>> ClockQueue<T, O> {
@@ -116,6 +116,14 @@ impl<T: Linked<Links<T>>, O: Times<T>> ClockQueue<T, O> {
     ///
     /// # Complexity
     /// O(1).
+    ///
+    /// # Examples
+    /// From `timers::Timers::new` of `cordyceps_shared_uses`:
+    /// ```
+    /// Timers {
+    ///     queue: ClockQueue::new_with_times(NotBefore { clock: 0 }),
+    /// }
+    /// ```
     pub fn new_with_times(times: O) -> ClockQueue<T, O>
         ensures nodes { result.nodes ≡ [] }
         ensures now { result.clock ≡ 0 }
@@ -123,8 +131,10 @@ impl<T: Linked<Links<T>>, O: Times<T>> ClockQueue<T, O> {
         ensures arrivals { (cmp : T → T → Ordering) → Holds cmp result.nodes [] }
     {
         ClockQueue {
-            list: StableList::new(),
-            ends: [None; BUCKETS],
+            buckets: Buckets {
+                list: StableList::new(),
+                ends: [None; BUCKETS],
+            },
             clock: 0,
             times,
         }
@@ -135,6 +145,13 @@ impl<T: Linked<Links<T>>, O: Times<T>> ClockQueue<T, O> {
     ///
     /// # Complexity
     /// O(1).
+    ///
+    /// # Examples
+    /// From `timers::Timers::first_deadline` of `cordyceps_shared_uses`:
+    /// ```
+    /// let first = self.queue.get(self.queue.front()?);
+    /// Some(first.deadline.max(self.queue.now()))
+    /// ```
     pub fn now(&self) -> u64
         ensures { result ≡ self.now.clock }
     {
@@ -147,6 +164,15 @@ impl<T: Linked<Links<T>>, O: Times<T>> ClockQueue<T, O> {
     ///
     /// # Complexity
     /// O(1).
+    ///
+    /// # Examples
+    /// From `timers::Timers::stop_first` of `cordyceps_shared_uses`:
+    /// ```
+    /// let first = self.queue.pop_front();
+    /// let clock = self.queue.now();
+    /// self.queue.set_times(NotBefore { clock });
+    /// first
+    /// ```
     pub fn set_times(&mut self, times: O)
     where
         O: Drop,
@@ -170,7 +196,7 @@ impl<T: Linked<Links<T>>, O: Times<T>> ClockQueue<T, O> {
     pub fn len(&self) -> usize
         ensures { result ≡ length self.now.nodes }
     {
-        self.list.len()
+        self.buckets.list.len()
     }
 
     /// Returns `true` if the queue has no element.
@@ -187,10 +213,19 @@ impl<T: Linked<Links<T>>, O: Times<T>> ClockQueue<T, O> {
     ///
     /// # Complexity
     /// O(1).
+    ///
+    /// # Examples
+    /// From `timers::Timers::stop` of `cordyceps_c_timers`:
+    /// ```
+    /// let spot = self.tickets.find(ticket)?;
+    /// self.queue.spots_are_distinct();
+    /// let timer = self.queue.remove(spot);
+    /// Some(into_fired(timer, &mut self.tickets))
+    /// ```
     pub fn spots_are_distinct(&self)
         ensures { AreDistinct (spots self.now.nodes) }
     {
-        self.list.spots_are_distinct();
+        self.buckets.list.spots_are_distinct();
     }
 
     /// Inserts an element and returns its spot. It comes out after those that are due at the same time. Requires that
@@ -198,6 +233,15 @@ impl<T: Linked<Links<T>>, O: Times<T>> ClockQueue<T, O> {
     ///
     /// # Complexity
     /// O(1).
+    ///
+    /// # Examples
+    /// From `timers::Timers::restart` of `cordyceps_shared_uses`:
+    /// ```
+    /// if self.queue.len() == usize::MAX {
+    ///     return Err(timer);
+    /// }
+    /// Ok(self.queue.push(timer))
+    /// ```
     pub fn push(&mut self, handle: T::Handle) -> Spot
         requires callable { O.can_compute self.old.time }
         requires due { (of : T → ℕ) → O.computes_by self.old.time of → self.old.clock ≤ of (T.element handle).value }
@@ -217,7 +261,7 @@ impl<T: Linked<Links<T>>, O: Times<T>> ClockQueue<T, O> {
         let node = T::into_ptr(handle);
         let due = self.times.time(node.get());
         let k = bucket(self.clock, due);
-        put(&mut self.list, &mut self.ends, k, T::from_ptr(node))
+        self.buckets.put(k, T::from_ptr(node))
     }
 
     /// Inserts an element as `push` does and returns its spot, if it is due at the clock or later and the length is
@@ -229,6 +273,14 @@ impl<T: Linked<Links<T>>, O: Times<T>> ClockQueue<T, O> {
     ///
     /// # Complexity
     /// That of `push`.
+    ///
+    /// # Examples
+    /// From `numbered::NumberedClock::push` of `cordyceps_speed_rows`:
+    /// ```
+    /// if let Ok(spot) = self.queue.try_push(node) {
+    ///     note(&mut self.spots, number, spot);
+    /// }
+    /// ```
     pub fn try_push(&mut self, handle: T::Handle) -> Result<Spot, T::Handle>
         requires callable { O.can_compute self.old.time }
         ensures pushed { MatchResult result
@@ -250,8 +302,8 @@ impl<T: Linked<Links<T>>, O: Times<T>> ClockQueue<T, O> {
         let node = T::into_ptr(handle);
         let due = self.times.time(node.get());
         let handle = T::from_ptr(node);
-        self.list.spots_are_distinct();
-        if self.list.len() == usize::MAX || due < self.clock {
+        self.buckets.list.spots_are_distinct();
+        if self.buckets.list.len() == usize::MAX || due < self.clock {
             return Err(handle);
         }
         Ok(self.push(handle))
@@ -261,6 +313,15 @@ impl<T: Linked<Links<T>>, O: Times<T>> ClockQueue<T, O> {
     ///
     /// # Complexity
     /// O(1).
+    ///
+    /// # Examples
+    /// From `timers::Timers::stop` of `cordyceps_c_timers`:
+    /// ```
+    /// let spot = self.tickets.find(ticket)?;
+    /// self.queue.spots_are_distinct();
+    /// let timer = self.queue.remove(spot);
+    /// Some(into_fired(timer, &mut self.tickets))
+    /// ```
     pub fn remove(&mut self, at: Spot) -> T::Handle
         requires callable { O.can_compute self.old.time }
         requires there { HasSpot self.old.nodes at }
@@ -275,7 +336,7 @@ impl<T: Linked<Links<T>>, O: Times<T>> ClockQueue<T, O> {
         ensures time { self.new.time ≡ self.old.time }
         ensures distinct { AreDistinct (spots self.new.nodes) }
     {
-        take_out(&mut self.list, &mut self.ends, &self.times, self.clock, at)
+        self.buckets.take_out(&self.times, self.clock, at)
     }
 
     /// Changes the value at `at` by a function, and moves the element to where it then belongs: after those that are
@@ -285,6 +346,25 @@ impl<T: Linked<Links<T>>, O: Times<T>> ClockQueue<T, O> {
     ///
     /// # Complexity
     /// O(1), beside what the function takes: no other element is moved.
+    ///
+    /// # Examples
+    /// From `timers::Timers::restart` of `cordyceps_c_timers`:
+    /// ```
+    /// let due = deadline.max(self.queue.now());
+    /// self.queue.spots_are_distinct();
+    /// self.queue.update(
+    ///     spot,
+    ///     move |timer: &mut Timer| -> ()
+    ///         ensures due { timer.new.due ≡ due }
+    ///         ensures deadline { timer.new.deadline ≡ deadline }
+    ///         ensures payload { timer.new.payload ≡ timer.old.payload }
+    ///         ensures slot { timer.new.slot ≡ timer.old.slot }
+    ///     {
+    ///         timer.due = due;
+    ///         timer.deadline = deadline;
+    ///     },
+    /// );
+    /// ```
     pub fn update<R, F: FnOnce(&mut T) -> R>(&mut self, at: Spot, change: F) -> R
         requires time { O.can_compute self.old.time }
         requires there { HasSpot self.old.nodes at }
@@ -308,14 +388,7 @@ impl<T: Linked<Links<T>>, O: Times<T>> ClockQueue<T, O> {
         ensures time { self.new.time ≡ self.old.time }
         ensures distinct { AreDistinct (spots self.new.nodes) }
     {
-        renew(
-            &mut self.list,
-            &mut self.ends,
-            &self.times,
-            self.clock,
-            at,
-            change,
-        )
+        self.buckets.renew(&self.times, self.clock, at, change)
     }
 
     /// Returns the spot of the element that is due first, or `None` if the queue is empty. Of those that are due at the
@@ -324,6 +397,13 @@ impl<T: Linked<Links<T>>, O: Times<T>> ClockQueue<T, O> {
     /// # Complexity
     /// O(k), for k elements of the lowest bucket: those whose times differ from the clock in no higher bit than the
     /// least time does.
+    ///
+    /// # Examples
+    /// From `timers::Timers::first_deadline` of `cordyceps_shared_uses`:
+    /// ```
+    /// let first = self.queue.get(self.queue.front()?);
+    /// Some(first.deadline.max(self.queue.now()))
+    /// ```
     pub fn front(&self) -> Option<Spot>
         requires { O.can_compute self.now.time }
         ensures first { MatchOption result (self.now.nodes ≡ [])
@@ -334,14 +414,14 @@ impl<T: Linked<Links<T>>, O: Times<T>> ClockQueue<T, O> {
             → (rest : Nodes T) × IsEarliestLeast (precedes (by_key nat_cmp of)) a (spot, e) rest)) }
         ensures there { IfSome result (λ spot. HasSpot self.now.nodes spot) }
     {
-        self.list.spots_are_distinct();
-        let at = self.list.front()?;
-        let k = bucket(self.clock, time_at(&self.list, &self.times, at));
+        self.buckets.list.spots_are_distinct();
+        let at = self.buckets.list.front()?;
+        let k = bucket(self.clock, time_at(&self.buckets.list, &self.times, at));
         let First {
             least: _,
             at: first,
             len: _,
-        } = first_bucket(&self.list, &self.times, self.clock, k, at);
+        } = first_bucket(&self.buckets.list, &self.times, self.clock, k, at);
         Some(first)
     }
 
@@ -354,6 +434,12 @@ impl<T: Linked<Links<T>>, O: Times<T>> ClockQueue<T, O> {
     ///
     /// # Complexity
     /// O(1).
+    ///
+    /// # Examples
+    /// From `timers::Timers::not_before` of `cordyceps_shared_uses`:
+    /// ```
+    /// self.queue.not_before()
+    /// ```
     pub fn not_before(&self) -> Option<u64>
         requires { O.can_compute self.now.time }
         ensures none_before { MatchOption result (self.now.nodes ≡ [])
@@ -366,9 +452,9 @@ impl<T: Linked<Links<T>>, O: Times<T>> ClockQueue<T, O> {
             × AllByRecursion (λ n. of e.value ≤ of n.1.value) self.now.nodes
             × (t ≡ rounded self.now.clock (of e.value)) × ((self.now.clock < t) ⊎ (of e.value ≡ t))) }
     {
-        self.list.spots_are_distinct();
-        let at = self.list.front()?;
-        let due = time_at(&self.list, &self.times, at);
+        self.buckets.list.spots_are_distinct();
+        let at = self.buckets.list.front()?;
+        let due = time_at(&self.buckets.list, &self.times, at);
         Some(least_of_bucket(self.clock, due))
     }
 
@@ -378,6 +464,15 @@ impl<T: Linked<Links<T>>, O: Times<T>> ClockQueue<T, O> {
     /// # Complexity
     /// O(1) amortized: after its push, and after each update, an element is moved at most 64 times. At worst O(n), for
     /// n elements.
+    ///
+    /// # Examples
+    /// From `timers::Timers::stop_first` of `cordyceps_shared_uses`:
+    /// ```
+    /// let first = self.queue.pop_front();
+    /// let clock = self.queue.now();
+    /// self.queue.set_times(NotBefore { clock });
+    /// first
+    /// ```
     pub fn pop_front(&mut self) -> Option<T::Handle>
         requires callable { O.can_compute self.old.time }
         ensures taken { MatchOption result ((self.old.nodes ≡ []) × (self.new ≡ self.old))
@@ -395,24 +490,11 @@ impl<T: Linked<Links<T>>, O: Times<T>> ClockQueue<T, O> {
         ensures time { self.new.time ≡ self.old.time }
         ensures distinct { AreDistinct (spots self.new.nodes) }
     {
-        self.list.spots_are_distinct();
-        let at = self.list.front()?;
-        self.clock = advance(
-            &mut self.list,
-            &mut self.ends,
-            &self.times,
-            self.clock,
-            u64::MAX,
-            at,
-        );
-        let first = self.list.front()?;
-        Some(take_out(
-            &mut self.list,
-            &mut self.ends,
-            &self.times,
-            self.clock,
-            first,
-        ))
+        self.buckets.list.spots_are_distinct();
+        let at = self.buckets.list.front()?;
+        self.clock = self.buckets.advance(&self.times, self.clock, u64::MAX, at);
+        let first = self.buckets.list.front()?;
+        Some(self.buckets.take_out(&self.times, self.clock, first))
     }
 
     /// Removes the element that is due first and returns it, if it is due at `time` or before, or returns `None`. Of
@@ -422,6 +504,14 @@ impl<T: Linked<Links<T>>, O: Times<T>> ClockQueue<T, O> {
     /// # Complexity
     /// O(1) amortized, also where no element is due: after its push, and after each update, an element is moved at
     /// most 64 times. At worst O(n), for n elements.
+    ///
+    /// # Examples
+    /// From `timers::Timers::pop_due` of `cordyceps_c_timers`:
+    /// ```
+    /// self.queue.spots_are_distinct();
+    /// let timer = self.queue.pop_due(now)?;
+    /// Some(into_fired(timer, &mut self.tickets))
+    /// ```
     pub fn pop_due(&mut self, time: u64) -> Option<T::Handle>
         requires callable { O.can_compute self.old.time }
         ensures due { MatchOption result
@@ -446,44 +536,38 @@ impl<T: Linked<Links<T>>, O: Times<T>> ClockQueue<T, O> {
         ensures time { self.new.time ≡ self.old.time }
         ensures distinct { AreDistinct (spots self.new.nodes) }
     {
-        self.list.spots_are_distinct();
+        self.buckets.list.spots_are_distinct();
         if time < self.clock {
             return None;
         }
-        let Some(at) = self.list.front() else {
+        let Some(at) = self.buckets.list.front() else {
             self.clock = time;
             return None;
         };
-        self.clock = advance(
-            &mut self.list,
-            &mut self.ends,
-            &self.times,
-            self.clock,
-            time,
-            at,
-        );
-        let next = self.list.front()?;
-        let due = time_at(&self.list, &self.times, next);
+        self.clock = self.buckets.advance(&self.times, self.clock, time, at);
+        let next = self.buckets.list.front()?;
+        let due = time_at(&self.buckets.list, &self.times, next);
         if due > time {
             return None;
         }
-        Some(take_out(
-            &mut self.list,
-            &mut self.ends,
-            &self.times,
-            self.clock,
-            next,
-        ))
+        Some(self.buckets.take_out(&self.times, self.clock, next))
     }
 
     /// Returns a reference to the value at `at`. Requires that `at` is valid.
     ///
     /// # Complexity
     /// O(1).
+    ///
+    /// # Examples
+    /// From `timers::Timers::first_deadline` of `cordyceps_shared_uses`:
+    /// ```
+    /// let first = self.queue.get(self.queue.front()?);
+    /// Some(first.deadline.max(self.queue.now()))
+    /// ```
     pub fn get(&self, at: Spot) -> &T
         requires { HasSpot self.now.nodes at }
         ensures { HoldsAt self.now.nodes at result.now }
     {
-        self.list.get(at)
+        self.buckets.list.get(at)
     }
 }

@@ -22,7 +22,7 @@ invariant_of-self g c of has =
     let from : clock ≤ of e.value = omega (arith, c.requires.due of shown, clock_is, ap (λ (x : Element g.row.T.Denot). of x.value) same) in
     let fits : of e.value < 2 ^ 64 = omega (arith, time, c.time-due.type_inv) in
     let (kept, put) = c.put.ensures.put (number_at of clock) numbered timed.kept in
-    timed_pushed of clock k c.put.new.ends c.self.inside.list c.put.new.list c.put.result e timed.times from fits put kept
+    timed_pushed of clock k c.put.new.self.ends c.self.inside.buckets.list c.put.new.self.list c.put.result e timed.times from fits put kept
 
 pub returns-clause-arrivals : goal.returns-clause-arrivals
 returns-clause-arrivals g c of a has h =
@@ -36,8 +36,8 @@ returns-clause-arrivals g c of a has h =
     let fits : of e.value < 2 ^ 64 = omega (arith, time, c.time-due.type_inv) in
     let (kept, put) = c.put.ensures.put (number_at of clock) numbered timed.kept in
     let small : clock < 2 ^ 64 = search rules in
-    subst (λ (x : Element g.row.T.Denot). Holds (by_key nat_cmp of) c.put.new.list (a ++ (c.put.result, x) ∷ [])) same
-    (holds_pushed of clock k c.self.inside.list c.put.new.list a c.put.result e small timed.times fits numbered put (subst (λ l. Holds (by_key nat_cmp of) l a) (sym nodes) h))
+    subst (λ (x : Element g.row.T.Denot). Holds (by_key nat_cmp of) c.put.new.self.list (a ++ (c.put.result, x) ∷ [])) same
+    (holds_pushed of clock k c.self.inside.buckets.list c.put.new.self.list a c.put.result e small timed.times fits numbered put (subst (λ l. Holds (by_key nat_cmp of) l a) (sym nodes) h))
 
 pub returns-clause-others : goal.returns-clause-others
 returns-clause-others g c =
@@ -54,15 +54,15 @@ returns-clause-others g c =
 
 pub returns-clause-there : goal.returns-clause-there
 returns-clause-there g c =
-    taken_has c.put.new.list c.args.self.now.nodes c.put.result (g.T.Linked.element c.args.handle)
+    taken_has c.put.new.self.list c.args.self.now.nodes c.put.result (g.T.Linked.element c.args.handle)
     (returns-clause-others g c)
 
 pub returns-clause-kept : goal.returns-clause-kept
 returns-clause-kept g c p has =
-    put_keeps c.args.self.now.nodes c.put.new.list c.put.result p (g.T.Linked.element c.args.handle)
+    put_keeps c.args.self.now.nodes c.put.new.self.list c.put.result p (g.T.Linked.element c.args.handle)
     (returns-clause-others g c) has
 
 pub returns-clause-apart : goal.returns-clause-apart
 returns-clause-apart g c =
-    taken_gone c.put.new.list c.args.self.now.nodes c.put.result (g.T.Linked.element c.args.handle)
+    taken_gone c.put.new.self.list c.args.self.now.nodes c.put.result (g.T.Linked.element c.args.handle)
     c.put.ensures.distinct (returns-clause-others g c)
