@@ -15,36 +15,36 @@ use Rattle.cordyceps_stable.proofs.Holding.{unique}
 use Rattle.cordyceps_clock.specs.Buckets.{bucket_of, last_spot, number_at, row, IsKept}
 use Rattle.cordyceps_clock.proofs.Rows.{kept_taken, end_is, end_stays, none_after, row_above, row_ended, row_two, upto_it}
 
-module _ {X : Type 0} (of : X → ℕ) (now k : ℕ) where
+module _ {X : Type 0} (of : X → ℕ) (clock k : ℕ) where
   abbrev N : Ptr × Element X → ℕ
-  N = number_at of now
+  N = number_at of clock
 
   -- whether the node at a spot, if there is one, is in the bucket
   abbrev pub Says : Nodes X → Option Ptr → Bool → Type 0
-  Says c o b = MatchOption o (b ≡ false) (λ p. (v : X) × HoldsAt c p v × (b ≡ (bucket_of now (of v) == k)))
+  Says c o b = MatchOption o (b ≡ false) (λ p. (v : X) × HoldsAt c p v × (b ≡ (bucket_of clock (of v) == k)))
 
   pub value_is : (c b a : Nodes X) (q : Ptr) (o : Element X) (v : X) → AreDistinct (spots c) → c ≡ b ++ (q, o) ∷ a → HoldsAt c q v → v ≡ o.value
   value_is c b a q o v distinct is (before, id, after, at) =
       let same = unique b a before after q o (record { id = id; value = v }) (sym is ∙ at) (subst (λ l. AreDistinct (spots l)) is distinct) in
       ap (λ (x : Element X). x.value) (sym same.1)
 
-  said_in : (c b a : Nodes X) (q : Ptr) (o : Element X) (v : X) (t : Bool) → AreDistinct (spots c) → c ≡ b ++ (q, o) ∷ a → HoldsAt c q v → t ≡ (bucket_of now (of v) == k) → t ≡ true → bucket_of now (of o.value) ≡ k
+  said_in : (c b a : Nodes X) (q : Ptr) (o : Element X) (v : X) (t : Bool) → AreDistinct (spots c) → c ≡ b ++ (q, o) ∷ a → HoldsAt c q v → t ≡ (bucket_of clock (of v) == k) → t ≡ true → bucket_of clock (of o.value) ≡ k
   said_in c b a q o v t distinct is holds tells t_is =
-      ap (λ w. bucket_of now (of w)) (sym (value_is c b a q o v distinct is holds)) ∙ eqb-true (bucket_of now (of v)) k (sym tells ∙ t_is)
+      ap (λ w. bucket_of clock (of w)) (sym (value_is c b a q o v distinct is holds)) ∙ eqb-true (bucket_of clock (of v)) k (sym tells ∙ t_is)
 
-  said_out : (c b a : Nodes X) (q : Ptr) (o : Element X) (v : X) (t : Bool) → AreDistinct (spots c) → c ≡ b ++ (q, o) ∷ a → HoldsAt c q v → t ≡ (bucket_of now (of v) == k) → t ≡ false → bucket_of now (of o.value) ≡ k → ⊥
+  said_out : (c b a : Nodes X) (q : Ptr) (o : Element X) (v : X) (t : Bool) → AreDistinct (spots c) → c ≡ b ++ (q, o) ∷ a → HoldsAt c q v → t ≡ (bucket_of clock (of v) == k) → t ≡ false → bucket_of clock (of o.value) ≡ k → ⊥
   said_out c b a q o v t distinct is holds tells f_is same =
-      eqb-false (bucket_of now (of v)) k (sym tells ∙ f_is) (ap (λ w. bucket_of now (of w)) (value_is c b a q o v distinct is holds) ∙ same)
+      eqb-false (bucket_of clock (of v)) k (sym tells ∙ f_is) (ap (λ w. bucket_of clock (of w)) (value_is c b a q o v distinct is holds) ∙ same)
 
   -- the bucket of what a spot holds is that of the node
-  pub held_is : (c b a : Nodes X) (q : Ptr) (o : Element X) (v : X) (time : ℕ) → AreDistinct (spots c) → c ≡ b ++ (q, o) ∷ a → HoldsAt c q v → time ≡ of v → k ≡ bucket_of now time → bucket_of now (of o.value) ≡ k
+  pub held_is : (c b a : Nodes X) (q : Ptr) (o : Element X) (v : X) (time : ℕ) → AreDistinct (spots c) → c ≡ b ++ (q, o) ∷ a → HoldsAt c q v → time ≡ of v → k ≡ bucket_of clock time → bucket_of clock (of o.value) ≡ k
   held_is c b a q o v time distinct is holds due at =
-      ap (λ w. bucket_of now (of w)) (sym (value_is c b a q o v distinct is holds)) ∙ ap (bucket_of now) (sym due) ∙ sym at
+      ap (λ w. bucket_of clock (of w)) (sym (value_is c b a q o v distinct is holds)) ∙ ap (bucket_of clock) (sym due) ∙ sym at
 
   parts_at : (c front back before after : Nodes X) (p : Ptr) (e x : Element X) → AreDistinct (spots c) → c ≡ front ++ (p, e) ∷ back → c ≡ before ++ (p, x) ∷ after → (front ≡ before) × (e ≡ x) × (back ≡ after)
   parts_at c front back before after p e x distinct is at = unique front back before after p e x (sym is ∙ at) (subst (λ l. AreDistinct (spots l)) is distinct)
 
-  pub left_stays : (ends : List (Option Ptr)) (c rest : Nodes X) (p : Ptr) (e : Element X) (next : Option Ptr) (t : Bool) → k < 65 → AreDistinct (spots c) → IsKept N ends c → IsTaken c p e rest → bucket_of now (of e.value) ≡ k
+  pub left_stays : (ends : List (Option Ptr)) (c rest : Nodes X) (p : Ptr) (e : Element X) (next : Option Ptr) (t : Bool) → k < 65 → AreDistinct (spots c) → IsKept N ends c → IsTaken c p e rest → bucket_of clock (of e.value) ≡ k
       → MatchOption next (IsLast c p) (λ q. AreNext c p q) → Says c next t → t ≡ true → get_or ends k None ≡ last_spot (row N k rest)
   left_stays ends c rest p e None t small distinct kept taken numbered on says t_is = let nope : true ≡ false = sym t_is ∙ says in cc
   left_stays ends c rest p e (Some q) t small distinct kept (front, back, is, left) numbered (f, x, o, z, at) (v, holds, tells) t_is =
@@ -54,7 +54,7 @@ module _ {X : Type 0} (of : X → ℕ) (now k : ℕ) where
       ∙ ap (λ l. last_spot (row N k l)) (sym (left ∙ ap (λ l. front ++ l) later))
 
   -- no node after it is in the bucket
-  none_left : (ends : List (Option Ptr)) (c front back : Nodes X) (p : Ptr) (e : Element X) (next : Option Ptr) (t : Bool) → AreDistinct (spots c) → IsKept N ends c → c ≡ front ++ (p, e) ∷ back → bucket_of now (of e.value) ≡ k
+  none_left : (ends : List (Option Ptr)) (c front back : Nodes X) (p : Ptr) (e : Element X) (next : Option Ptr) (t : Bool) → AreDistinct (spots c) → IsKept N ends c → c ≡ front ++ (p, e) ∷ back → bucket_of clock (of e.value) ≡ k
       → MatchOption next (IsLast c p) (λ q. AreNext c p q) → Says c next t → t ≡ false → row N k back ≡ []
   none_left ends c front back p e None t distinct kept is numbered (f, x, at) says f_is =
       let (before, own, later) = parts_at c front back f [] p e x distinct is at in ap (row N k) later
@@ -64,7 +64,7 @@ module _ {X : Type 0} (of : X → ℕ) (now k : ℕ) where
       ap (row N k) later ∙ none_after N front z (p, e) (q, o) k numbered outside (subst (AscendsBy N) (is ∙ ap (λ l. front ++ (p, e) ∷ l) later) kept.ascends)
 
   -- the node before it is the last of the bucket, or there is none
-  before_it : (ends : List (Option Ptr)) (c front back : Nodes X) (p : Ptr) (e : Element X) (prev : Option Ptr) (t : Bool) → AreDistinct (spots c) → IsKept N ends c → c ≡ front ++ (p, e) ∷ back → bucket_of now (of e.value) ≡ k
+  before_it : (ends : List (Option Ptr)) (c front back : Nodes X) (p : Ptr) (e : Element X) (prev : Option Ptr) (t : Bool) → AreDistinct (spots c) → IsKept N ends c → c ≡ front ++ (p, e) ∷ back → bucket_of clock (of e.value) ≡ k
       → MatchOption prev (IsFirst c p) (λ q. AreNext c q p) → Says c prev t → (t ≡ true → prev ≡ last_spot (row N k front)) × (t ≡ false → None ≡ last_spot (row N k front))
   before_it ends c front back p e None t distinct kept is numbered (x, after, at) says =
       let none = ap (λ l. last_spot (row N k l)) (parts_at c front back [] after p e x distinct is at).0 in
@@ -82,15 +82,15 @@ module _ {X : Type 0} (of : X → ℕ) (now k : ℕ) where
             let outside = said_out c f ((p, x) ∷ z) q o v t distinct at holds tells f_is in
             let upto = upto_it N (f ++ (q, o) ∷ []) z (p, x) (subst (AscendsBy N) on kept.ascends) in
             let below = upto_it N f ((p, x) ∷ z) (q, o) ascends in
-            sym (shown ∙ ap last_spot (row_above N k (f ++ (q, o) ∷ []) (low f o x upto below (ap (λ (w : Element X). bucket_of now (of w.value)) (sym itself) ∙ numbered) outside)))),
+            sym (shown ∙ ap last_spot (row_above N k (f ++ (q, o) ∷ []) (low f o x upto below (ap (λ (w : Element X). bucket_of clock (of w.value)) (sym itself) ∙ numbered) outside)))),
       ) where
-        low : (f : Nodes X) (o x : Element X) → AllByRecursion (λ y. N y ≤ bucket_of now (of x.value)) (f ++ (q, o) ∷ []) → AllByRecursion (λ y. N y ≤ bucket_of now (of o.value)) f → bucket_of now (of x.value) ≡ k → (bucket_of now (of o.value) ≡ k → ⊥) → AllByRecursion (λ y. N y < k) (f ++ (q, o) ∷ [])
+        low : (f : Nodes X) (o x : Element X) → AllByRecursion (λ y. N y ≤ bucket_of clock (of x.value)) (f ++ (q, o) ∷ []) → AllByRecursion (λ y. N y ≤ bucket_of clock (of o.value)) f → bucket_of clock (of x.value) ≡ k → (bucket_of clock (of o.value) ≡ k → ⊥) → AllByRecursion (λ y. N y < k) (f ++ (q, o) ∷ [])
         low f o x upto below is_k other =
-            let last = all_back (λ y. N y ≤ bucket_of now (of x.value)) f ((q, o) ∷ []) upto in
-            let less : bucket_of now (of o.value) < k = omega (arith, last.0, is_k, other) in
-            all_append (λ y. N y < k) f ((q, o) ∷ []) (all_weaker (λ y. N y ≤ bucket_of now (of o.value)) (λ y. N y < k) (λ y m. omega (arith, m, less)) f below) (less, tt)
+            let last = all_back (λ y. N y ≤ bucket_of clock (of x.value)) f ((q, o) ∷ []) upto in
+            let less : bucket_of clock (of o.value) < k = omega (arith, last.0, is_k, other) in
+            all_append (λ y. N y < k) f ((q, o) ∷ []) (all_weaker (λ y. N y ≤ bucket_of clock (of o.value)) (λ y. N y < k) (λ y m. omega (arith, m, less)) f below) (less, tt)
 
-  pub left_ended : (ends : List (Option Ptr)) (c rest : Nodes X) (p : Ptr) (e : Element X) (next prev : Option Ptr) (t s : Bool) → AreDistinct (spots c) → IsKept N ends c → IsTaken c p e rest → bucket_of now (of e.value) ≡ k
+  pub left_ended : (ends : List (Option Ptr)) (c rest : Nodes X) (p : Ptr) (e : Element X) (next prev : Option Ptr) (t s : Bool) → AreDistinct (spots c) → IsKept N ends c → IsTaken c p e rest → bucket_of clock (of e.value) ≡ k
       → MatchOption next (IsLast c p) (λ q. AreNext c p q) → Says c next t → t ≡ false → MatchOption prev (IsFirst c p) (λ q. AreNext c q p) → Says c prev s
       → (s ≡ true → prev ≡ last_spot (row N k rest)) × (s ≡ false → None ≡ last_spot (row N k rest))
   left_ended ends c rest p e next prev t s distinct kept (front, back, is, left) numbered on says f_is back_on tells =
@@ -100,7 +100,7 @@ module _ {X : Type 0} (of : X → ℕ) (now k : ℕ) where
       ((λ t_is. end.0 t_is ∙ ap last_spot (sym only)), (λ not. end.1 not ∙ ap last_spot (sym only)))
 
   -- the others are kept, once the end that their bucket has was written
-  pub left_kept : (ends : List (Option Ptr)) (c rest : Nodes X) (p : Ptr) (e : Element X) (end : Option Ptr) → length ends ≡ 65 → k < 65 → IsKept N ends c → IsTaken c p e rest → bucket_of now (of e.value) ≡ k → end ≡ last_spot (row N k rest) → IsKept N (slice_set ends k end) rest
+  pub left_kept : (ends : List (Option Ptr)) (c rest : Nodes X) (p : Ptr) (e : Element X) (end : Option Ptr) → length ends ≡ 65 → k < 65 → IsKept N ends c → IsTaken c p e rest → bucket_of clock (of e.value) ≡ k → end ≡ last_spot (row N k rest) → IsKept N (slice_set ends k end) rest
   left_kept ends c rest p e end long small kept (low, high, was, left) numbered is =
       subst (IsKept N (slice_set ends k end)) (sym left)
       (kept_taken N ends (slice_set ends k end) low high (p, e) k numbered

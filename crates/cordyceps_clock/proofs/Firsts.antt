@@ -32,8 +32,8 @@ module _ {X : Type 0} where
   Counted c len at P = (s : Seen c len at) × P s.seen
 
   -- the seen ones are of the bucket k, least is the least of their times, and the first of that time is at p
-  pub record IsLeastOf (of : X → ℕ) (now k least : ℕ) (p : Ptr) (seen : Nodes X) : Type 0 where
-    pub inside : AllByRecursion (λ n. (number_at of now n ≡ k) × (least ≤ of n.1.value)) seen
+  pub record IsLeastOf (of : X → ℕ) (clock k least : ℕ) (p : Ptr) (seen : Nodes X) : Type 0 where
+    pub inside : AllByRecursion (λ n. (number_at of clock n ≡ k) × (least ≤ of n.1.value)) seen
     pub reached : (before : Nodes X) × (e : Element X) × (after : Nodes X) × (seen ≡ before ++ (p, e) ∷ after) × (of e.value ≡ least) × AllByRecursion (λ n. least < of n.1.value) before
 
   pub seen_has : (c : Nodes X) (len : ℕ) (q : Ptr) → Seen c len (Some q) → HasSpot c q
@@ -65,20 +65,20 @@ module _ {X : Type 0} where
         next = next_of c s.seen after q e o distinct whole on;
       }
 
-  module _ (of : X → ℕ) (now k : ℕ) where
+  module _ (of : X → ℕ) (clock k : ℕ) where
     abbrev Inside : ℕ → Ptr × Element X → Type 0
-    Inside least n = (number_at of now n ≡ k) × (least ≤ of n.1.value)
+    Inside least n = (number_at of clock n ≡ k) × (least ≤ of n.1.value)
 
-    pub least_first : (p : Ptr) (o : Element X) → number_at of now (p, o) ≡ k → IsLeastOf of now k (of o.value) p ((p, o) ∷ [])
+    pub least_first : (p : Ptr) (o : Element X) → number_at of clock (p, o) ≡ k → IsLeastOf of clock k (of o.value) p ((p, o) ∷ [])
     least_first p o e = record { inside = ((e, omega arith), tt); reached = ([], o, [], refl, refl, tt) }
 
-    pub least_begun : (c after front : Nodes X) (p : Ptr) (e o : Element X) (v : X) (time : ℕ) → AreDistinct (spots c) → c ≡ (p, o) ∷ front → c ≡ (p, e) ∷ after → HoldsAt c p v → time ≡ of v → bucket_of now (of e.value) ≡ k → IsLeastOf of now k time p ((p, o) ∷ [])
+    pub least_begun : (c after front : Nodes X) (p : Ptr) (e o : Element X) (v : X) (time : ℕ) → AreDistinct (spots c) → c ≡ (p, o) ∷ front → c ≡ (p, e) ∷ after → HoldsAt c p v → time ≡ of v → bucket_of clock (of e.value) ≡ k → IsLeastOf of clock k time p ((p, o) ∷ [])
     least_begun c after front p e o v time distinct was is holds due at =
         let both : (p, o) ∷ front ≡ (p, e) ∷ after = sym was ∙ is in let same : (p, o) ≡ (p, e) = cc in
-        let value = value_is of now k c [] front p o v distinct was holds in
-        subst (λ t. IsLeastOf of now k t p ((p, o) ∷ [])) (sym (due ∙ ap of value)) (least_first p o (ap (λ (n : Ptr × Element X). bucket_of now (of n.1.value)) same ∙ at))
+        let value = value_is of clock k c [] front p o v distinct was holds in
+        subst (λ t. IsLeastOf of clock k t p ((p, o) ∷ [])) (sym (due ∙ ap of value)) (least_first p o (ap (λ (n : Ptr × Element X). bucket_of clock (of n.1.value)) same ∙ at))
 
-    pub least_more : (least m : ℕ) (p r : Ptr) (seen : Nodes X) (q : Ptr) (o : Element X) → number_at of now (q, o) ≡ k → IsLesser least p (of o.value) q m r → IsLeastOf of now k least p seen → IsLeastOf of now k m r (seen ++ (q, o) ∷ [])
+    pub least_more : (least m : ℕ) (p r : Ptr) (seen : Nodes X) (q : Ptr) (o : Element X) → number_at of clock (q, o) ≡ k → IsLesser least p (of o.value) q m r → IsLeastOf of clock k least p seen → IsLeastOf of clock k m r (seen ++ (q, o) ∷ [])
     least_more least m p r seen q o e lesser l =
         let d = of o.value in
         elim lesser [
@@ -95,14 +95,14 @@ module _ {X : Type 0} where
         ]
 
     -- where the bucket ends
-    pub first_none : (c : Nodes X) (least : ℕ) (p : Ptr) (len : ℕ) (s : Seen c len None) → IsLeastOf of now k least p s.seen → IsFirstBucket of now k c least p len
-    first_none c least p len s l = record { first = s.seen; others = s.left; parts = s.parts; long = s.long; inside = l.inside; reached = l.reached; outside = subst (AllByRecursion (λ n. k < number_at of now n)) (sym s.next) tt }
+    pub first_none : (c : Nodes X) (least : ℕ) (p : Ptr) (len : ℕ) (s : Seen c len None) → IsLeastOf of clock k least p s.seen → IsFirstBucket of clock k c least p len
+    first_none c least p len s l = record { first = s.seen; others = s.left; parts = s.parts; long = s.long; inside = l.inside; reached = l.reached; outside = subst (AllByRecursion (λ n. k < number_at of clock n)) (sym s.next) tt }
 
-    pub first_some : (c : Nodes X) (least : ℕ) (p : Ptr) (len : ℕ) (q : Ptr) (v : X) (time b : ℕ) (s : Seen c len (Some q)) → AreDistinct (spots c) → AscendsBy (number_at of now) c → HoldsAt c q v → time ≡ of v → b ≡ bucket_of now time → (b ≡ k → ⊥) → IsLeastOf of now k least p s.seen → IsFirstBucket of now k c least p len
+    pub first_some : (c : Nodes X) (least : ℕ) (p : Ptr) (len : ℕ) (q : Ptr) (v : X) (time b : ℕ) (s : Seen c len (Some q)) → AreDistinct (spots c) → AscendsBy (number_at of clock) c → HoldsAt c q v → time ≡ of v → b ≡ bucket_of clock time → (b ≡ k → ⊥) → IsLeastOf of clock k least p s.seen → IsFirstBucket of clock k c least p len
     first_some c least p len q v time b s distinct ascends holds due at other l =
-        let (e, after, is) = s.next in let N = number_at of now in
+        let (e, after, is) = s.next in let N = number_at of clock in
         let whole : c ≡ s.seen ++ (q, e) ∷ after = s.parts ∙ ap (λ t. s.seen ++ t) is in
-        let number : N (q, e) ≡ b = held_is of now b c s.seen after q e v time distinct whole holds due at in
+        let number : N (q, e) ≡ b = held_is of clock b c s.seen after q e v time distinct whole holds due at in
         let (before, x, back, has, reach, over) = l.reached in let m : Ptr × Element X = (p, x) in
         let inner = (all_back (Inside least) before (m ∷ back) (subst (AllByRecursion (Inside least)) has l.inside)).0 in
         let shown : c ≡ before ++ m ∷ (back ++ (q, e) ∷ after) = whole ∙ ap (λ t. t ++ (q, e) ∷ after) has ∙ append_assoc before (m ∷ back) ((q, e) ∷ after) in
@@ -119,12 +119,12 @@ module _ {X : Type 0} where
           outside = subst (AllByRecursion (λ n. k < N n)) (sym is) (first, all_weaker (λ y. N (q, e) ≤ N y) (λ y. k < N y) (λ y h. omega (arith, h, first)) after rest);
         }
 
-module _ {X : Type 0} (K : (X → ℕ) → Type 0) (now k : ℕ) (c : Nodes X) (at : Ptr) (least : ℕ) (p : Ptr) where
+module _ {X : Type 0} (K : (X → ℕ) → Type 0) (clock k : ℕ) (c : Nodes X) (at : Ptr) (least : ℕ) (p : Ptr) where
   abbrev Known : ℕ → Ptr → Nodes X → Type 0
-  Known m r seen = (of : X → ℕ) (e : Element X) (after : Nodes X) → K of → c ≡ (at, e) ∷ after → bucket_of now (of e.value) ≡ k → IsLeastOf of now k m r seen
+  Known m r seen = (of : X → ℕ) (e : Element X) (after : Nodes X) → K of → c ≡ (at, e) ∷ after → bucket_of clock (of e.value) ≡ k → IsLeastOf of clock k m r seen
 
   -- one more was seen, which is of the bucket
-  pub counted_more : (len more : ℕ) (q : Ptr) (o : Option Ptr) (v : X) (due m : ℕ) (r : Ptr) (b : ℕ) → AreDistinct (spots c) → HoldsAt c q v → ((of : X → ℕ) → K of → due ≡ of v) → more ≡ len + 1 → IsLesser least p due q m r → b ≡ bucket_of now due → b ≡ k
+  pub counted_more : (len more : ℕ) (q : Ptr) (o : Option Ptr) (v : X) (due m : ℕ) (r : Ptr) (b : ℕ) → AreDistinct (spots c) → HoldsAt c q v → ((of : X → ℕ) → K of → due ≡ of v) → more ≡ len + 1 → IsLesser least p due q m r → b ≡ bucket_of clock due → b ≡ k
       → MatchOption o (IsLast c q) (λ r. AreNext c q r) → Counted c len (Some q) (Known least p) → Counted c more o (Known m r)
   counted_more len more q o v due m r b distinct holds tells long lesser at_b in_k on (s, known) =
       let (x, left, first) = s.next in
@@ -132,10 +132,10 @@ module _ {X : Type 0} (K : (X → ℕ) → Type 0) (now k : ℕ) (c : Nodes X) (
         seen_more c len q o distinct s on,
         λ of e after has begins bucket.
             let whole : c ≡ s.seen ++ (q, x) ∷ left = s.parts ∙ ap (λ l. s.seen ++ l) first in
-            let value : v ≡ x.value = value_is of now k c s.seen left q x v distinct whole holds in
+            let value : v ≡ x.value = value_is of clock k c s.seen left q x v distinct whole holds in
             let time : due ≡ of x.value = tells of has ∙ ap of value in
-            let number : number_at of now (q, x) ≡ k = ap (bucket_of now) (sym time) ∙ sym at_b ∙ in_k in
-            least_more of now k least m p r s.seen q x number (subst (λ t. IsLesser least p t q m r) time lesser) (known of e after has begins bucket),
+            let number : number_at of clock (q, x) ≡ k = ap (bucket_of clock) (sym time) ∙ sym at_b ∙ in_k in
+            least_more of clock k least m p r s.seen q x number (subst (λ t. IsLesser least p t q m r) time lesser) (known of e after has begins bucket),
       )
 
 -- what is at no spot is none

@@ -21,7 +21,7 @@ use Rattle.cordyceps_clock.specs.Clock.{Holds}
 use Rattle.cordyceps_clock.proofs.Numbers.{earlier}
 use Rattle.cordyceps_clock.proofs.Spreads.{before, stable_put, times_rank}
 
-module _ {X : Type 0} (of : X → ℕ) (now k : ℕ) (ends : List (Option Ptr)) (c : Nodes X) (least : ℕ) (p : Ptr) (len : ℕ) (small : now < 2 ^ 64) (timed : IsTimed of now ends c) (b : IsFirstBucket of now k c least p len) where
+module _ {X : Type 0} (of : X → ℕ) (clock k : ℕ) (ends : List (Option Ptr)) (c : Nodes X) (least : ℕ) (p : Ptr) (len : ℕ) (small : clock < 2 ^ 64) (timed : IsTimed of clock ends c) (b : IsFirstBucket of clock k c least p len) where
   abbrev Lt : Ptr × Element X → Ptr × Element X → Bool
   Lt = precedes (by_key nat_cmp of)
 
@@ -31,12 +31,12 @@ module _ {X : Type 0} (of : X → ℕ) (now k : ℕ) (ends : List (Option Ptr)) 
       (e, (low, after ++ b.others, b.parts ∙ ap (λ l. l ++ b.others) is ∙ append_assoc low ((p, e) ∷ after) b.others))
 
   -- none of the other buckets is due as early
-  beyond : (e : Element X) → of e.value ≡ least → number_at of now (p, e) ≡ k → of e.value < 2 ^ 64 → AllByRecursion (λ y. Lt y (p, e) ≡ false) b.others
-  beyond e due at fits = go b.others b.outside (all_back (λ n. (now ≤ of n.1.value) × (of n.1.value < 2 ^ 64)) b.first b.others (subst (AllByRecursion (λ n. (now ≤ of n.1.value) × (of n.1.value < 2 ^ 64))) b.parts timed.times)) where
-    go : (s : Nodes X) → AllByRecursion (λ n. k < number_at of now n) s → AllByRecursion (λ n. (now ≤ of n.1.value) × (of n.1.value < 2 ^ 64)) s → AllByRecursion (λ y. Lt y (p, e) ≡ false) s
+  beyond : (e : Element X) → of e.value ≡ least → number_at of clock (p, e) ≡ k → of e.value < 2 ^ 64 → AllByRecursion (λ y. Lt y (p, e) ≡ false) b.others
+  beyond e due at fits = go b.others b.outside (all_back (λ n. (clock ≤ of n.1.value) × (of n.1.value < 2 ^ 64)) b.first b.others (subst (AllByRecursion (λ n. (clock ≤ of n.1.value) × (of n.1.value < 2 ^ 64))) b.parts timed.times)) where
+    go : (s : Nodes X) → AllByRecursion (λ n. k < number_at of clock n) s → AllByRecursion (λ n. (clock ≤ of n.1.value) × (of n.1.value < 2 ^ 64)) s → AllByRecursion (λ y. Lt y (p, e) ≡ false) s
     go [] q t = tt
     go (m ∷ s) q t =
-        let less : of e.value < of m.1.value = earlier now (of e.value) (of m.1.value) small fits t.0.1 t.0.0 (omega (arith, q.0, at)) in
+        let less : of e.value < of m.1.value = earlier clock (of e.value) (of m.1.value) small fits t.0.1 t.0.0 (omega (arith, q.0, at)) in
         (not_less (of m.1.value) (of e.value) (omega (arith, less)), go s q.1 t.1)
 
   pub front_least : (e : Element X) → AreDistinct (spots c) → HasElementAt c p e → (a : Nodes X) → Holds (by_key nat_cmp of) c a → (rest : Nodes X) × IsEarliestLeast Lt a (p, e) rest
@@ -44,11 +44,11 @@ module _ {X : Type 0} (of : X → ℕ) (now k : ℕ) (ends : List (Option Ptr)) 
       let (low, x, after, is, due, over) = b.reached in
       let whole : c ≡ low ++ (p, x) ∷ (after ++ b.others) = b.parts ∙ ap (λ l. l ++ b.others) is ∙ append_assoc low ((p, x) ∷ after) b.others in
       let same : e ≡ x = (unique front back low (after ++ b.others) p e x (sym lies ∙ whole) (subst (λ l. AreDistinct (spots l)) lies distinct)).1 in
-      let inside = subst (AllByRecursion (λ n. (number_at of now n ≡ k) × (least ≤ of n.1.value))) is b.inside in
-      let own = all_back (λ n. (number_at of now n ≡ k) × (least ≤ of n.1.value)) low ((p, x) ∷ after) inside in
-      let fits = (all_back (λ n. (now ≤ of n.1.value) × (of n.1.value < 2 ^ 64)) low ((p, x) ∷ (after ++ b.others)) (subst (AllByRecursion (λ n. (now ≤ of n.1.value) × (of n.1.value < 2 ^ 64))) whole timed.times)).0 in
+      let inside = subst (AllByRecursion (λ n. (number_at of clock n ≡ k) × (least ≤ of n.1.value))) is b.inside in
+      let own = all_back (λ n. (number_at of clock n ≡ k) × (least ≤ of n.1.value)) low ((p, x) ∷ after) inside in
+      let fits = (all_back (λ n. (clock ≤ of n.1.value) × (of n.1.value < 2 ^ 64)) low ((p, x) ∷ (after ++ b.others)) (subst (AllByRecursion (λ n. (clock ≤ of n.1.value) × (of n.1.value < 2 ^ 64))) whole timed.times)).0 in
       let earlier_none = all_weaker (λ n. least < of n.1.value) (λ y. Lt y (p, x) ≡ false) (λ y q. not_less (of y.1.value) (of x.value) (omega (arith, q, due))) low over in
-      let later_none = all_append (λ y. Lt y (p, x) ≡ false) after b.others (all_weaker (λ n. (number_at of now n ≡ k) × (least ≤ of n.1.value)) (λ y. Lt y (p, x) ≡ false) (λ y q. not_less (of y.1.value) (of x.value) (omega (arith, q.1, due))) after own.1) (beyond x due own.0.0 fits.1) in
+      let later_none = all_append (λ y. Lt y (p, x) ≡ false) after b.others (all_weaker (λ n. (number_at of clock n ≡ k) × (least ≤ of n.1.value)) (λ y. Lt y (p, x) ≡ false) (λ y q. not_less (of y.1.value) (of x.value) (omega (arith, q.1, due))) after own.1) (beyond x due own.0.0 fits.1) in
       let passed = all_weaker (λ n. least < of n.1.value) (λ y. Lt (p, x) y ≡ true) (λ y q. before of (p, x) y (omega (arith, q, due))) low over in
       let first = stable_put Lt (times_rank of) a [] low (after ++ b.others) (p, x) passed (subst (IsStableBy Lt a) whole h) in
       let out = first_of Lt (times_rank of) [] (low ++ (after ++ b.others)) a (p, x) first tt (all_append (λ y. Lt y (p, x) ≡ false) low (after ++ b.others) earlier_none later_none) in

@@ -1,5 +1,5 @@
 -- A node that is put in after the nearest end, or moved there.
-use Rattle.std.proofs.Common.{true, ◌≡◌, ℕ, ◌+◌, ◌-◌, ◌<◌, ◌≤◌, length, MatchOption, slice_set, List, [], ◌∷◌, ◌++◌, get_or, Option, Some, None, inl, inr, sym, ap, ◌∙◌, subst, arith}
+use Rattle.std.proofs.Common.{true, ◌≡◌, ℕ, ◌+◌, ◌-◌, ◌<◌, ◌≤◌, length, IfSome, MatchOption, slice_set, List, [], ◌∷◌, ◌++◌, get_or, Option, Some, None, inl, inr, sym, ap, ◌∙◌, subst, arith}
 use Rattle.std.specs.Option.{is_some}
 use Rattle.std.proofs.lemmas.Bool.{cases_lt}
 use Rattle.std.proofs.lemmas.List.{append_assoc, get_or_default, get_or-set_same, get_or-set_other}
@@ -11,11 +11,6 @@ use Rattle.cordyceps_base.specs.Spots.{AreDistinct}
 use Rattle.cordyceps_stable.proofs.Holding.{spot_is_at, unique}
 use Rattle.cordyceps_clock.specs.Buckets.{AreEmpty, IsKept, IsNearest, IsPutIn, IsSet}
 use Rattle.cordyceps_clock.proofs.Rows.{parted, kept_put}
-
--- what a call left is what is there
-module _ {X : Type 0} (P : Ptr → Nodes X → Type 0) where
-  pub shown_put : (c d : Nodes X) (p q : Ptr) → d ≡ c → q ≡ p → P p c → P q d
-  shown_put c d p q is at h = subst (λ (l : Ptr × Nodes X). P l.0 l.1) (λ i. (sym at i, sym is i)) h
 
 -- ---- a node less
 module _ {X : Type 0} where
@@ -35,6 +30,11 @@ nearest_above ends low k None le empty near = λ i upto. elim (cases_lt low i) [
 nearest_above ends low k (Some p) le empty (j, within, at, none) =
     (j, omega (arith, within, le), at, λ i more upto. elim (cases_lt low i) [ inl over ↦ empty i over upto | inr under ↦ none i more under ])
 
+-- what holds of each nearest end holds of that one
+pub at_nearest : (P : Ptr → Type 0) (ends : List (Option Ptr)) (k : ℕ) (o : Option Ptr) → ((to : Ptr) → IsNearest ends k (Some to) → P to) → IsNearest ends k o → IfSome o P
+at_nearest P ends k None h near = tt
+at_nearest P ends k (Some to) h near = h to near
+
 -- the first end that is found is the nearest
 pub found_end : (ends : List (Option Ptr)) (k above : ℕ) (r : Option Ptr) → length ends ≡ 65 → k < 65 → 0 < above → above ≤ k + 1 → ((i : ℕ) → above ≤ i → i ≤ k → get_or ends i None ≡ None) → is_some (get_or ends (above - 1) r) ≡ true
     → MatchOption (get_or ends (above - 1) r) ((i : ℕ) → i ≤ k → get_or ends i None ≡ None) (λ p. (j : ℕ) × (j ≤ k) × (get_or ends j None ≡ Some p) × ((i : ℕ) → j < i → i ≤ k → get_or ends i None ≡ None))
@@ -46,8 +46,9 @@ found_end ends k above r long small some within none is = go (get_or ends (above
 
 module _ {X : Type 0} (number : Ptr × Element X → ℕ) where
   -- the nearest end is where a node is
-  pub nearest_has : (ends : List (Option Ptr)) (c : Nodes X) (k : ℕ) (to : Ptr) → k < 65 → IsKept number ends c → IsNearest ends k (Some to) → HasSpot c to
-  nearest_has ends c k to small kept near =
+  pub nearest_has : (ends : List (Option Ptr)) (c : Nodes X) (k : ℕ) (o : Option Ptr) → k < 65 → IsKept number ends c → IsNearest ends k o → IfSome o (λ to. HasSpot c to)
+  nearest_has ends c k None small kept near = tt
+  nearest_has ends c k (Some to) small kept near =
       let p = parted number ends c k (Some to) small kept near in let (front, y, low) = p.end in
       spot_is_at c to y (front, p.high, p.is ∙ ap (λ l. l ++ p.high) low ∙ append_assoc front ((to, y) ∷ []) p.high)
 
@@ -71,3 +72,9 @@ module _ {X : Type 0} (number : Ptr × Element X → ℕ) where
         subst (IsKept number new) (sym put) (kept_put number ends new p.low p.high (spot, e) k numbered p.upto p.above set.0 set.1 (subst (IsKept number ends) p.is kept)),
         (p.low, p.high, p.is, put, p.above),
       )
+
+  -- the node was put in right behind the nearest end, or first
+  pub put_nearest : (ends new : List (Option Ptr)) (c d : Nodes X) (o : Option Ptr) (spot : Ptr) (e : Element X) (k : ℕ) → k < 65 → AreDistinct (spots c) → IsKept number ends c → IsNearest ends k o
+      → MatchOption o (d ≡ (spot, e) ∷ c) (λ to. IsPutAfter c to spot e d) → number (spot, e) ≡ k → IsSet ends new k spot → IsKept number new d × IsPutIn number k c spot e d
+  put_nearest ends new c d None spot e k small distinct kept near put numbered set = put_first ends new c d spot e k small kept near put numbered set
+  put_nearest ends new c d (Some to) spot e k small distinct kept near put numbered set = put_after ends new c d to spot e k small distinct kept near put numbered set

@@ -83,12 +83,12 @@ module _ {X : Type 0} where
       -- the nearest end is another node
       pub end_there : (to : Ptr) → IsNearest ends k (Some to) → HasSpot c to
       end_there to near =
-          let (i, at) = nearest_has number ends rest k to small kept near in let (o, lies) = has_split rest i to at in
+          let (i, at) = nearest_has number ends rest k (Some to) small kept near in let (o, lies) = has_split rest i to at in
           spot_is_at c to o (left_is_at c rest p to e o taken lies)
 
       pub end_other : (to : Ptr) → IsNearest ends k (Some to) → p ≡ to → ⊥
       end_other to near same =
-          let there = nearest_has number ends rest k to small kept near in
+          let there = nearest_has number ends rest k (Some to) small kept near in
           taken_gone c rest p e distinct taken (subst (HasSpot rest) (sym same) there)
 
       moved_in : (new : List (Option Ptr)) (d : Nodes X) → IsMovedIn ends k c p d → IsSet ends new k p
@@ -101,28 +101,28 @@ module _ {X : Type 0} where
         go (Some to) near moved =
             put_after number ends new rest d to p e k small rest_distinct kept near (put_behind to d moved) numbered set
 
-    pub renewed : (of : X → ℕ) (now k : ℕ) (ends new : List (Option Ptr)) (d : Nodes X) → k < 65 → of e.value < 2 ^ 64
-        → number_at of now (p, e) ≡ k → IsKept (number_at of now) ends rest → IsMovedIn ends k c p d
-        → IsSet ends new k p → IsRenewed of now new rest p e d
-    renewed of now k ends new d small fits numbered kept m set =
-        let (stands, put) = moved_in (number_at of now) ends k small kept new d m set numbered in
+    pub renewed : (of : X → ℕ) (clock k : ℕ) (ends new : List (Option Ptr)) (d : Nodes X) → k < 65 → of e.value < 2 ^ 64
+        → number_at of clock (p, e) ≡ k → IsKept (number_at of clock) ends rest → IsMovedIn ends k c p d
+        → IsSet ends new k p → IsRenewed of clock new rest p e d
+    renewed of clock k ends new d small fits numbered kept m set =
+        let (stands, put) = moved_in (number_at of clock) ends k small kept new d m set numbered in
         record {
           fits = fits;
           kept = stands;
-          put = subst (λ b. IsPutIn (number_at of now) b rest p e d) (sym numbered) put;
+          put = subst (λ b. IsPutIn (number_at of clock) b rest p e d) (sym numbered) put;
         }
 
   -- what a queue holds then
-  module _ (of : X → ℕ) (now : ℕ) (ends new : List (Option Ptr)) (c rest d : Nodes X) (p : Ptr) (e n : Element X)
-      (timed : IsTimed of now ends c) (taken : IsTaken c p e rest) (r : IsRenewed of now new rest p n d) where
-    due : AreDue of now rest
-    due = due_left of now c rest p e timed.times taken
+  module _ (of : X → ℕ) (clock : ℕ) (ends new : List (Option Ptr)) (c rest d : Nodes X) (p : Ptr) (e n : Element X)
+      (timed : IsTimed of clock ends c) (taken : IsTaken c p e rest) (r : IsRenewed of clock new rest p n d) where
+    due : AreDue of clock rest
+    due = due_left of clock c rest p e timed.times taken
 
-    pub timed_renewed : now ≤ of n.value → IsTimed of now new d
-    timed_renewed from = timed_pushed of now (bucket_of now (of n.value)) new rest d p n due from r.fits r.put r.kept
+    pub timed_renewed : clock ≤ of n.value → IsTimed of clock new d
+    timed_renewed from = timed_pushed of clock (bucket_of clock (of n.value)) new rest d p n due from r.fits r.put r.kept
 
-    pub holds_renewed : now < 2 ^ 64 → (a : Nodes X) → Holds (by_key nat_cmp of) c a
+    pub holds_renewed : clock < 2 ^ 64 → (a : Nodes X) → Holds (by_key nat_cmp of) c a
         → (left : Nodes X) × (IsTaken a p e left × Holds (by_key nat_cmp of) d (left ++ (p, n) ∷ []))
     holds_renewed small a h =
-        let (left, (out, stands)) = holds_removed of c rest a p e taken h in let k = bucket_of now (of n.value) in
-        (left, (out, holds_pushed of now k rest d left p n small due r.fits refl r.put stands))
+        let (left, (out, stands)) = holds_removed of c rest a p e taken h in let k = bucket_of clock (of n.value) in
+        (left, (out, holds_pushed of clock k rest d left p n small due r.fits refl r.put stands))

@@ -12,28 +12,28 @@ module _ {X : Type 0} (of anew : X → ℕ) where
   AreSame c = AllByRecursion (λ n. anew n.1.value ≡ of n.1.value) c
 
   -- what is due at the clock or later keeps its time
-  pub are_same : (now : ℕ) → ((v : X) → now ≤ of v → anew v ≡ of v) → (c : Nodes X) → AreDue of now c → AreSame c
-  are_same now same [] h = tt
-  are_same now same (n ∷ c) h = (same n.1.value h.0.0, are_same now same c h.1)
+  pub are_same : (clock : ℕ) → ((v : X) → clock ≤ of v → anew v ≡ of v) → (c : Nodes X) → AreDue of clock c → AreSame c
+  are_same clock same [] h = tt
+  are_same clock same (n ∷ c) h = (same n.1.value h.0.0, are_same clock same c h.1)
 
-  module _ (now : ℕ) where
-    due : (c : Nodes X) → AreSame c → AreDue of now c → AreDue anew now c
+  module _ (clock : ℕ) where
+    due : (c : Nodes X) → AreSame c → AreDue of clock c → AreDue anew clock c
     due [] s h = tt
-    due (n ∷ c) s h = (subst (λ t. (now ≤ t) × (t < 2 ^ 64)) (sym s.0) h.0, due c s.1 h.1)
+    due (n ∷ c) s h = (subst (λ t. (clock ≤ t) × (t < 2 ^ 64)) (sym s.0) h.0, due c s.1 h.1)
 
-    above : (k l : ℕ) (c : Nodes X) → l ≡ k → AreSame c → AllByRecursion (λ y. k ≤ number_at of now y) c → AllByRecursion (λ y. l ≤ number_at anew now y) c
+    above : (k l : ℕ) (c : Nodes X) → l ≡ k → AreSame c → AllByRecursion (λ y. k ≤ number_at of clock y) c → AllByRecursion (λ y. l ≤ number_at anew clock y) c
     above k l [] is s h = tt
-    above k l (n ∷ c) is s h = (subst (λ (t : ℕ × ℕ). t.0 ≤ bucket_of now t.1) (λ i. (sym is i, sym s.0 i)) h.0, above k l c is s.1 h.1)
+    above k l (n ∷ c) is s h = (subst (λ (t : ℕ × ℕ). t.0 ≤ bucket_of clock t.1) (λ i. (sym is i, sym s.0 i)) h.0, above k l c is s.1 h.1)
 
-    ascends : (c : Nodes X) → AreSame c → AscendsBy (number_at of now) c → AscendsBy (number_at anew now) c
+    ascends : (c : Nodes X) → AreSame c → AscendsBy (number_at of clock) c → AscendsBy (number_at anew clock) c
     ascends [] s h = tt
-    ascends (n ∷ c) s h = (above (number_at of now n) (number_at anew now n) c (ap (bucket_of now) s.0) s.1 h.0, ascends c s.1 h.1)
+    ascends (n ∷ c) s h = (above (number_at of clock n) (number_at anew clock n) c (ap (bucket_of clock) s.0) s.1 h.0, ascends c s.1 h.1)
 
-    rows : (k : ℕ) (c : Nodes X) → AreSame c → row (number_at anew now) k c ≡ row (number_at of now) k c
+    rows : (k : ℕ) (c : Nodes X) → AreSame c → row (number_at anew clock) k c ≡ row (number_at of clock) k c
     rows k [] s = refl
-    rows k (n ∷ c) s = λ i. cond (bucket_of now (s.0 i) == k) (n ∷ rows k c s.1 i) (rows k c s.1 i)
+    rows k (n ∷ c) s = λ i. cond (bucket_of clock (s.0 i) == k) (n ∷ rows k c s.1 i) (rows k c s.1 i)
 
-    pub retimed : (ends : List (Option Ptr)) (c : Nodes X) → AreSame c → IsTimed of now ends c → IsTimed anew now ends c
+    pub retimed : (ends : List (Option Ptr)) (c : Nodes X) → AreSame c → IsTimed of clock ends c → IsTimed anew clock ends c
     retimed ends c same h = record {
       kept = record {
         ascends = ascends c same h.kept.ascends;

@@ -54,12 +54,12 @@ module _ {X : Type 0} (number : Ptr × Element X → ℕ) where
 
   -- the node lies among the done ones now
   stepped : (ends new : List (Option Ptr)) (d done ahead others : Nodes X) (p : Ptr) (e : Element X) (j k : ℕ) (o : Option Ptr) → k ≤ j → number (p, e) ≡ k → IsSet ends new k p → IsKept number ends (done ++ others) → AllByRecursion (λ n. number n ≤ j) ahead → AllByRecursion (λ n. j < number n) others
-      → (g : Goes k done others o) → d ≡ (g.parts.low ++ (p, e) ∷ g.mid) ++ (ahead ++ others) → (now : Nodes X) × IsSpreading number new d j now ahead others × IsPutIn number k done p e now
+      → (g : Goes k done others o) → d ≡ (g.parts.low ++ (p, e) ∷ g.mid) ++ (ahead ++ others) → (clock : Nodes X) × IsSpreading number new d j clock ahead others × IsPutIn number k done p e clock
   stepped ends new d done ahead others p e j k o le numbered set kept low high g is =
-      let l = g.parts.low in let now : Nodes X = l ++ (p, e) ∷ g.mid in
-      let shown : now ++ others ≡ l ++ (p, e) ∷ g.parts.high = append_assoc l ((p, e) ∷ g.mid) others ∙ ap (λ s. l ++ (p, e) ∷ s) (sym g.second) in
+      let l = g.parts.low in let clock : Nodes X = l ++ (p, e) ∷ g.mid in
+      let shown : clock ++ others ≡ l ++ (p, e) ∷ g.parts.high = append_assoc l ((p, e) ∷ g.mid) others ∙ ap (λ s. l ++ (p, e) ∷ s) (sym g.second) in
       let put = kept_put number ends new l g.parts.high (p, e) k numbered g.parts.upto g.parts.above set.0 set.1 (subst (IsKept number ends) g.parts.is kept) in (
-        now,
+        clock,
         record { parts = is; kept = subst (IsKept number new) (sym shown) put; low = low; high = high },
         (l, g.mid, g.first, refl, above_mid k g.mid others (subst (AllByRecursion (λ n. k < number n)) g.second g.parts.above)),
       ) where
@@ -97,7 +97,7 @@ module _ {X : Type 0} (number : Ptr × Element X → ℕ) where
         let rest : Nodes X = done ++ (ahead ++ others) in
         taken_gone c rest p e distinct (done, ahead ++ others, s.parts, refl) (subst (HasSpot rest) (sym same) (end_has to near))
 
-    placed_after : (new : List (Option Ptr)) (d : Nodes X) (to : Ptr) → IsNearest ends k (Some to) → IsMovedAfter c p to d → IsSet ends new k p → (now : Nodes X) × IsSpreading number new d j now ahead others × IsPutIn number k done p e now
+    placed_after : (new : List (Option Ptr)) (d : Nodes X) (to : Ptr) → IsNearest ends k (Some to) → IsMovedAfter c p to d → IsSet ends new k p → (clock : Nodes X) × IsSpreading number new d j clock ahead others × IsPutIn number k done p e clock
     placed_after new d to near (x, rest, taken, (before, o, after, was, is)) set =
         let g = goes ends done others j k (Some to) small le s.kept s.high near in let (front, y, low) = g.parts.end in
         let more : Nodes X = ahead ++ others in
@@ -110,7 +110,7 @@ module _ {X : Type 0} (number : Ptr × Element X → ℕ) where
         is ∙ (λ i. first i ++ (to, own i) ∷ (p, sym left.0 i) ∷ last i) ∙ sym (append_assoc front ((to, y) ∷ []) ((p, e) ∷ (g.mid ++ more))) ∙ ap (λ l. l ++ (p, e) ∷ (g.mid ++ more)) (sym low) ∙ sym (append_assoc g.parts.low ((p, e) ∷ g.mid) more) in
         stepped ends new d done ahead others p e j k (Some to) le numbered set s.kept s.low.1 s.high g put
 
-    placed_first : (new : List (Option Ptr)) (d : Nodes X) → IsNearest ends k None → IsMovedFront c p d → IsSet ends new k p → (now : Nodes X) × IsSpreading number new d j now ahead others × IsPutIn number k done p e now
+    placed_first : (new : List (Option Ptr)) (d : Nodes X) → IsNearest ends k None → IsMovedFront c p d → IsSet ends new k p → (clock : Nodes X) × IsSpreading number new d j clock ahead others × IsPutIn number k done p e clock
     placed_first new d near (x, rest, taken, is) set =
         let g = goes ends done others j k None small le s.kept s.high near in
         let more : Nodes X = ahead ++ others in
@@ -119,9 +119,9 @@ module _ {X : Type 0} (number : Ptr × Element X → ℕ) where
         is ∙ (λ i. (p, sym left.0 i) ∷ left.1 i) ∙ ap (λ l. (p, e) ∷ (l ++ more)) (g.first ∙ ap (λ l. l ++ g.mid) g.parts.end) ∙ ap (λ l. (l ++ (p, e) ∷ g.mid) ++ more) (sym g.parts.end) in
         stepped ends new d done ahead others p e j k None le numbered set s.kept s.low.1 s.high g put
 
-    pub placed_in : (new : List (Option Ptr)) (d : Nodes X) → IsMovedIn ends k c p d → IsSet ends new k p → (now : Nodes X) × IsSpreading number new d j now ahead others × IsPutIn number k done p e now
+    pub placed_in : (new : List (Option Ptr)) (d : Nodes X) → IsMovedIn ends k c p d → IsSet ends new k p → (clock : Nodes X) × IsSpreading number new d j clock ahead others × IsPutIn number k done p e clock
     placed_in new d m set = go m.end m.nearest m.moved where
-      go : (o : Option Ptr) → IsNearest ends k o → MatchOption o (IsMovedFront c p d) (λ to. IsMovedAfter c p to d) → (now : Nodes X) × IsSpreading number new d j now ahead others × IsPutIn number k done p e now
+      go : (o : Option Ptr) → IsNearest ends k o → MatchOption o (IsMovedFront c p d) (λ to. IsMovedAfter c p to d) → (clock : Nodes X) × IsSpreading number new d j clock ahead others × IsPutIn number k done p e clock
       go None near moved = placed_first new d near moved set
       go (Some to) near moved = placed_after new d to near moved set
 
@@ -167,39 +167,39 @@ module _ {X : Type 0} (of : X → ℕ) where
   before n m less = by_test (precedes (by_key nat_cmp of) n m) (λ t. t) (λ f. let le = at_most (of n.1.value) (of m.1.value) f in absurd (omega (arith, less, le)))
 
   -- ---- where a spread stands
-  pub record Stands (now : ℕ) (ends : List (Option Ptr)) (c : Nodes X) (j : ℕ) (first others : Nodes X) (at : Option Ptr) (left : ℕ) : Type 0 where
+  pub record Stands (clock : ℕ) (ends : List (Option Ptr)) (c : Nodes X) (j : ℕ) (first others : Nodes X) (at : Option Ptr) (left : ℕ) : Type 0 where
     pub done : Nodes X
     pub ahead : Nodes X
-    pub spreading : IsSpreading (number_at of now) ends c j done ahead others
+    pub spreading : IsSpreading (number_at of clock) ends c j done ahead others
     pub long : length ahead ≡ left
     pub next : MatchOption at (ahead ++ others ≡ []) (λ q. IsFirst (ahead ++ others) q)
     pub stable : IsStableBy (precedes (by_key nat_cmp of)) first (done ++ ahead)
     pub moved : IsPermutation first (done ++ ahead)
 
   -- so far no done node is in a bucket above top
-  pub record Spread (now : ℕ) (ends : List (Option Ptr)) (c : Nodes X) (j : ℕ) (first others : Nodes X) (at : Option Ptr) (left top : ℕ) : Type 0 where
-    pub stands : Stands now ends c j first others at left
+  pub record Spread (clock : ℕ) (ends : List (Option Ptr)) (c : Nodes X) (j : ℕ) (first others : Nodes X) (at : Option Ptr) (left top : ℕ) : Type 0 where
+    pub stands : Stands clock ends c j first others at left
     pub empty : (i : ℕ) → top < i → i ≤ j → i < 65 → get_or ends i None ≡ None
 
   -- the buckets of the nodes ahead are empty where a spread begins
-  pub empty_first : (now : ℕ) (ends : List (Option Ptr)) (c : Nodes X) (j : ℕ) (ahead others : Nodes X) → IsSpreading (number_at of now) ends c j [] ahead others → (i : ℕ) → i ≤ j → i < 65 → get_or ends i None ≡ None
-  empty_first now ends c j ahead others s i upto small =
-      s.kept.last i small ∙ ap last_spot (row_below (number_at of now) i others (higher (number_at of now) j i others upto s.high))
+  pub empty_first : (clock : ℕ) (ends : List (Option Ptr)) (c : Nodes X) (j : ℕ) (ahead others : Nodes X) → IsSpreading (number_at of clock) ends c j [] ahead others → (i : ℕ) → i ≤ j → i < 65 → get_or ends i None ≡ None
+  empty_first clock ends c j ahead others s i upto small =
+      s.kept.last i small ∙ ap last_spot (row_below (number_at of clock) i others (higher (number_at of clock) j i others upto s.high))
 
-  module _ (now : ℕ) (ends : List (Option Ptr)) (c : Nodes X) (j : ℕ) (first others : Nodes X) where
+  module _ (clock : ℕ) (ends : List (Option Ptr)) (c : Nodes X) (j : ℕ) (first others : Nodes X) where
     -- the first of the nodes ahead
     pub record Turn (at : Ptr) (left : ℕ) : Type 0 where
       pub done : Nodes X
       pub e : Element X
       pub ahead : Nodes X
-      pub spreading : IsSpreading (number_at of now) ends c j done ((at, e) ∷ ahead) others
+      pub spreading : IsSpreading (number_at of clock) ends c j done ((at, e) ∷ ahead) others
       pub long : suc (length ahead) ≡ left
       pub stable : IsStableBy (precedes (by_key nat_cmp of)) first (done ++ (at, e) ∷ ahead)
       pub moved : IsPermutation first (done ++ (at, e) ∷ ahead)
 
-    pub turn : (at : Ptr) (left : ℕ) → 0 < left → Stands now ends c j first others (Some at) left → Turn at left
+    pub turn : (at : Ptr) (left : ℕ) → 0 < left → Stands clock ends c j first others (Some at) left → Turn at left
     turn at left some s = go s.ahead s.spreading s.long s.next s.stable s.moved where
-      go : (ahead : Nodes X) → IsSpreading (number_at of now) ends c j s.done ahead others → length ahead ≡ left → IsFirst (ahead ++ others) at → IsStableBy (precedes (by_key nat_cmp of)) first (s.done ++ ahead) → IsPermutation first (s.done ++ ahead) → Turn at left
+      go : (ahead : Nodes X) → IsSpreading (number_at of clock) ends c j s.done ahead others → length ahead ≡ left → IsFirst (ahead ++ others) at → IsStableBy (precedes (by_key nat_cmp of)) first (s.done ++ ahead) → IsPermutation first (s.done ++ ahead) → Turn at left
       go [] t long next stable moved = absurd (omega (arith, some, long))
       go (n ∷ ahead) t long (e, after, is) stable moved =
           let same : n ≡ (at, e) = cc in
@@ -207,7 +207,7 @@ module _ {X : Type 0} (of : X → ℕ) where
             done = s.done;
             e = e;
             ahead = ahead;
-            spreading = subst (λ m. IsSpreading (number_at of now) ends c j s.done (m ∷ ahead) others) same t;
+            spreading = subst (λ m. IsSpreading (number_at of clock) ends c j s.done (m ∷ ahead) others) same t;
             long = long;
             stable = subst (λ m. IsStableBy (precedes (by_key nat_cmp of)) first (s.done ++ m ∷ ahead)) same stable;
             moved = subst (λ m. IsPermutation first (s.done ++ m ∷ ahead)) same moved;
@@ -221,12 +221,12 @@ module _ {X : Type 0} (of : X → ℕ) where
         let (before, own, rest) = unique t.done (t.ahead ++ others) front ((q, y) ∷ after) at t.e x (sym t.spreading.parts ∙ is) (subst (λ l. AreDistinct (spots l)) t.spreading.parts distinct) in (y, after, rest)
 
     -- after its turn
-    pub stands_on : (new : List (Option Ptr)) (d more : Nodes X) (at : Ptr) (left k : ℕ) (o : Option Ptr) (t : Turn at left) → now < 2 ^ 64 → AreDue of now first → number_at of now (at, t.e) ≡ k
+    pub stands_on : (new : List (Option Ptr)) (d more : Nodes X) (at : Ptr) (left k : ℕ) (o : Option Ptr) (t : Turn at left) → clock < 2 ^ 64 → AreDue of clock first → number_at of clock (at, t.e) ≡ k
         → MatchOption o (t.ahead ++ others ≡ []) (λ q. IsFirst (t.ahead ++ others) q)
-        → IsSpreading (number_at of now) new d j more t.ahead others → IsPutIn (number_at of now) k t.done at t.e more → (rest : ℕ) → suc rest ≡ left → Stands now new d j first others o rest
+        → IsSpreading (number_at of clock) new d j more t.ahead others → IsPutIn (number_at of clock) k t.done at t.e more → (rest : ℕ) → suc rest ≡ left → Stands clock new d j first others o rest
     stands_on new d more at left k o t small due numbered next s (low, high, was, is, above) rest one =
-        let N = number_at of now in let n : Ptr × Element X = (at, t.e) in let lt = precedes (by_key nat_cmp of) in
-        let InTime : Ptr × Element X → Type 0 = λ m. (now ≤ of m.1.value) × (of m.1.value < 2 ^ 64) in
+        let N = number_at of clock in let n : Ptr × Element X = (at, t.e) in let lt = precedes (by_key nat_cmp of) in
+        let InTime : Ptr × Element X → Type 0 = λ m. (clock ≤ of m.1.value) × (of m.1.value < 2 ^ 64) in
         let times = permuted InTime first (t.done ++ n ∷ t.ahead) t.moved due in
         let own : InTime n = (all_back InTime t.done (n ∷ t.ahead) times).0 in
         let highs : AllByRecursion InTime high = all_back InTime low high (subst (AllByRecursion InTime) was (all_front InTime t.done (n ∷ t.ahead) times)) in
@@ -240,21 +240,21 @@ module _ {X : Type 0} (of : X → ℕ) where
           stable = subst (λ l. IsStableBy lt first (l ++ t.ahead)) (sym is) (stable_put lt times_rank first low high t.ahead n passed (subst (λ l. IsStableBy lt first (l ++ n ∷ t.ahead)) was t.stable));
           moved = subst (λ l. IsPermutation first (l ++ t.ahead)) (sym is) (moved_put first low high t.ahead n (subst (λ l. IsPermutation first (l ++ n ∷ t.ahead)) was t.moved));
         } where
-          over : (high : Nodes X) → AllByRecursion (λ m. k < number_at of now m) high → AllByRecursion (λ m. (now ≤ of m.1.value) × (of m.1.value < 2 ^ 64)) high → number_at of now (at, t.e) ≡ k → (now ≤ of t.e.value) × (of t.e.value < 2 ^ 64) → AllByRecursion (λ m. precedes (by_key nat_cmp of) (at, t.e) m ≡ true) high
+          over : (high : Nodes X) → AllByRecursion (λ m. k < number_at of clock m) high → AllByRecursion (λ m. (clock ≤ of m.1.value) × (of m.1.value < 2 ^ 64)) high → number_at of clock (at, t.e) ≡ k → (clock ≤ of t.e.value) × (of t.e.value < 2 ^ 64) → AllByRecursion (λ m. precedes (by_key nat_cmp of) (at, t.e) m ≡ true) high
           over [] p q e own = tt
-          over (m ∷ high) p q e own = (before (at, t.e) m (earlier now (of t.e.value) (of m.1.value) small own.1 q.0.1 q.0.0 (omega (arith, p.0, e))), over high p.1 q.1 e own)
+          over (m ∷ high) p q e own = (before (at, t.e) m (earlier clock (of t.e.value) (of m.1.value) small own.1 q.0.1 q.0.0 (omega (arith, p.0, e))), over high p.1 q.1 e own)
 
-  module _ (now : ℕ) (ends : List (Option Ptr)) (c : Nodes X) (j : ℕ) (first others : Nodes X) (at : Option Ptr) (left : ℕ) where
+  module _ (clock : ℕ) (ends : List (Option Ptr)) (c : Nodes X) (j : ℕ) (first others : Nodes X) (at : Option Ptr) (left : ℕ) where
     -- no node is ahead
-    pub ended : Stands now ends c j first others at left → left ≡ 0 → (done : Nodes X) × IsSpreading (number_at of now) ends c j done [] others × IsStableBy (precedes (by_key nat_cmp of)) first done × IsPermutation first done
+    pub ended : Stands clock ends c j first others at left → left ≡ 0 → (done : Nodes X) × IsSpreading (number_at of clock) ends c j done [] others × IsStableBy (precedes (by_key nat_cmp of)) first done × IsPermutation first done
     ended s none = go s.ahead s.spreading s.long s.stable s.moved where
-      go : (ahead : Nodes X) → IsSpreading (number_at of now) ends c j s.done ahead others → length ahead ≡ left → IsStableBy (precedes (by_key nat_cmp of)) first (s.done ++ ahead) → IsPermutation first (s.done ++ ahead)
-          → (done : Nodes X) × IsSpreading (number_at of now) ends c j done [] others × IsStableBy (precedes (by_key nat_cmp of)) first done × IsPermutation first done
+      go : (ahead : Nodes X) → IsSpreading (number_at of clock) ends c j s.done ahead others → length ahead ≡ left → IsStableBy (precedes (by_key nat_cmp of)) first (s.done ++ ahead) → IsPermutation first (s.done ++ ahead)
+          → (done : Nodes X) × IsSpreading (number_at of clock) ends c j done [] others × IsStableBy (precedes (by_key nat_cmp of)) first done × IsPermutation first done
       go [] t long stable moved = (s.done, t, subst (IsStableBy (precedes (by_key nat_cmp of)) first) (append-nil s.done) stable, subst (IsPermutation first) (append-nil s.done) moved)
       go (n ∷ ahead) t long stable moved = absurd (omega (arith, long, none))
 
     -- some are left, so there is a next one
-    pub stuck : Stands now ends c j first others None left → 0 < left → ⊥
+    pub stuck : Stands clock ends c j first others None left → 0 < left → ⊥
     stuck s some = go s.ahead s.long s.next where
       go : (ahead : Nodes X) → length ahead ≡ left → ahead ++ others ≡ [] → ⊥
       go [] long none = absurd (omega (arith, long, some))

@@ -8,11 +8,11 @@ use Rattle.cordyceps_base.specs.BySpot.{IsMovedFront, IsMovedAfter}
 use Rattle.cordyceps_base.specs.Element.{Element}
 use Rattle.cordyceps_base.specs.Nodes.{Nodes}
 use Rattle.cordyceps_single.specs.ByKey.{AscendsBy}
+use Rattle.cordyceps_clock.specs.declared.buckets.TheConstants.{BUCKETS}
 
--- the bucket of a time: 0 for the time now itself, and for another time one more than the highest bit in which the two
--- differ
-abbrev pub bucket_of : (now time : ℕ) → ℕ
-bucket_of now time = 64 - count_leading_zeros 64 (bit_xor now time)
+-- the bucket of a time: 0 for the clock itself, and for another time one more than the highest bit in which the two differ
+abbrev pub bucket_of : (clock time : ℕ) → ℕ
+bucket_of clock time = 64 - count_leading_zeros 64 (bit_xor clock time)
 
 -- the end of the bucket k, or where that has no node, of the nearest lower one that has; None if none of them has
 abbrev pub IsNearest : (ends : List (Option Ptr)) → ℕ → Option Ptr → Type 0
@@ -43,31 +43,31 @@ module _ {Y : Type 0} where
     -- the nodes are in the order of their buckets, and each bucket ends where its last node is
     pub record IsKept (ends : List (Option Ptr)) (c : List (Ptr × Y)) : Type 0 where
       pub ascends : AscendsBy number c
-      pub last : (k : ℕ) → k < 65 → get_or ends k None ≡ last_spot (row k c)
+      pub last : (k : ℕ) → k < BUCKETS → get_or ends k None ≡ last_spot (row k c)
 
 module _ {X : Type 0} (of : X → ℕ) where
   -- the bucket of a node
-  abbrev pub number_at : (now : ℕ) → Ptr × Element X → ℕ
-  number_at now n = bucket_of now (of n.1.value)
+  abbrev pub number_at : (clock : ℕ) → Ptr × Element X → ℕ
+  number_at clock n = bucket_of clock (of n.1.value)
 
-  -- no node is due before now
-  abbrev pub AreDue : (now : ℕ) → Nodes X → Type 0
-  AreDue now c = AllByRecursion (λ n. (now ≤ of n.1.value) × (of n.1.value < 2 ^ 64)) c
+  -- no node is due before the clock
+  abbrev pub AreDue : (clock : ℕ) → Nodes X → Type 0
+  AreDue clock c = AllByRecursion (λ n. (clock ≤ of n.1.value) × (of n.1.value < 2 ^ 64)) c
 
   -- no node is due at the time or before it
   abbrev pub AreLater : (time : ℕ) → Nodes X → Type 0
   AreLater time c = AllByRecursion (λ n. time < of n.1.value) c
 
-  -- the first node is due now, or now is the time `until` and no node is due by then
-  abbrev pub IsAdvanced : (now until : ℕ) → Nodes X → Type 0
-  IsAdvanced now until c =
-      ((p : Ptr) × (e : Element X) × (after : Nodes X) × (c ≡ (p, e) ∷ after) × (of e.value ≡ now))
-      ⊎ ((now ≡ until) × AreLater until c)
+  -- the first node is due at the clock, or the clock is the time `until` and no node is due by then
+  abbrev pub IsAdvanced : (clock until : ℕ) → Nodes X → Type 0
+  IsAdvanced clock until c =
+      ((p : Ptr) × (e : Element X) × (after : Nodes X) × (c ≡ (p, e) ∷ after) × (of e.value ≡ clock))
+      ⊎ ((clock ≡ until) × AreLater until c)
 
-  -- no node is due before now, and the nodes lie in their buckets
-  pub record IsTimed (now : ℕ) (ends : List (Option Ptr)) (c : Nodes X) : Type 0 where
-    pub kept : IsKept (number_at now) ends c
-    pub times : AreDue now c
+  -- no node is due before the clock, and the nodes lie in their buckets
+  pub record IsTimed (clock : ℕ) (ends : List (Option Ptr)) (c : Nodes X) : Type 0 where
+    pub kept : IsKept (number_at clock) ends c
+    pub times : AreDue clock c
 
 module _ {X : Type 0} where
   -- the node e at p was put in after all nodes of c but those of buckets above k
@@ -90,23 +90,23 @@ module _ {X : Type 0} where
     pub is : d ≡ before ++ (p, record { id = e.id; value = w }) ∷ after
 
   -- the node e at p was put in among the nodes of rest, at the end of the bucket of its time
-  pub record IsRenewed (of : X → ℕ) (now : ℕ) (ends : List (Option Ptr)) (rest : Nodes X) (p : Ptr) (e : Element X)
+  pub record IsRenewed (of : X → ℕ) (clock : ℕ) (ends : List (Option Ptr)) (rest : Nodes X) (p : Ptr) (e : Element X)
       (d : Nodes X) : Type 0 where
     pub fits : of e.value < 2 ^ 64
-    pub kept : IsKept (number_at of now) ends d
-    pub put : IsPutIn (number_at of now) (bucket_of now (of e.value)) rest p e d
+    pub kept : IsKept (number_at of clock) ends d
+    pub put : IsPutIn (number_at of clock) (bucket_of clock (of e.value)) rest p e d
 
   -- the first nodes are those of the bucket k, least is the least of their times, the first of that time is at p, and
   -- there are len of them
-  pub record IsFirstBucket (of : X → ℕ) (now k : ℕ) (c : Nodes X) (least : ℕ) (p : Ptr) (len : ℕ) : Type 0 where
+  pub record IsFirstBucket (of : X → ℕ) (clock k : ℕ) (c : Nodes X) (least : ℕ) (p : Ptr) (len : ℕ) : Type 0 where
     pub first : Nodes X
     pub others : Nodes X
     pub parts : c ≡ first ++ others
     pub long : length first ≡ len
-    pub inside : AllByRecursion (λ n. (number_at of now n ≡ k) × (least ≤ of n.1.value)) first
+    pub inside : AllByRecursion (λ n. (number_at of clock n ≡ k) × (least ≤ of n.1.value)) first
     pub reached : (before : Nodes X) × (e : Element X) × (after : Nodes X)
         × (first ≡ before ++ (p, e) ∷ after) × (of e.value ≡ least) × AllByRecursion (λ n. least < of n.1.value) before
-    pub outside : AllByRecursion (λ n. k < number_at of now n) others
+    pub outside : AllByRecursion (λ n. k < number_at of clock n) others
 
   -- The done nodes lie in buckets up to j, and the others in buckets above it. The nodes ahead lie between them, and in
   -- no bucket yet; they belong into buckets up to j.

@@ -46,9 +46,8 @@ ghost use Rattle.cordyceps_stable.specs.Arranged.{precedes};
 ghost use Rattle.cordyceps_clock.specs.Buckets.{AreLater};
 ghost use Rattle.cordyceps_clock.specs.Clock.{Holds, rounded};
 
-use crate::buckets::{Ends, bucket, least_of_bucket, put, take_out, time_at};
-use crate::renewing::renew;
-use crate::spreading::{First, advance, first_bucket};
+use crate::buckets::{BUCKETS, Buckets, bucket, least_of_bucket, time_at};
+use crate::spreading::{First, first_bucket};
 use crate::times::Times;
 use cordyceps_base::linked::Linked;
 use cordyceps_list::list::Links;
@@ -92,10 +91,9 @@ use std::marker::Model;
 /// ```
 #[derive(Drop)]
 pub struct ClockQueue<T, O: Times<T>> {
-    list: StableList<T>,
-    ends: Ends,
+    buckets: Buckets<T>,
     clock: u64,
-    time: O,
+    times: O,
 }
 
 impl<T, O: Times<T>> Model for ClockQueue<T, O> {
@@ -105,28 +103,40 @@ impl<T, O: Times<T>> Model for ClockQueue<T, O> {
 
     ghost Value = { Clocked T O };
 
-    ghost view = { λ q. record { nodes = q.list; time = q.time; clock = q.clock } };
+    ghost view = { λ q. record { nodes = q.buckets.list; time = q.times; clock = q.clock } };
 
-    ghost invariant = { λ q. (of : T → ℕ) → O.computes_by q.time of → IsTimed of q.clock q.ends q.list };
+    ghost invariant = { λ q. (of : T → ℕ)
+        → O.computes_by q.times of
+        → IsTimed of q.clock q.buckets.ends q.buckets.list };
 }
 
 impl<T: Linked<Links<T>>, O: Times<T>> ClockQueue<T, O> {
-    /// Creates an empty queue at the time 0, whose elements are due at the times that `time` returns. Allocates
+    /// Creates an empty queue at the time 0, whose elements are due at the times that `times` returns. Allocates
     /// nothing.
     ///
     /// # Complexity
     /// O(1).
-    pub fn new_with_times(time: O) -> ClockQueue<T, O>
+    ///
+    /// # Examples
+    /// From `timers::Timers::new` of `cordyceps_shared_uses`:
+    /// ```
+    /// Timers {
+    ///     queue: ClockQueue::new_with_times(NotBefore { clock: 0 }),
+    /// }
+    /// ```
+    pub fn new_with_times(times: O) -> ClockQueue<T, O>
         ensures nodes { result.nodes ≡ [] }
         ensures now { result.clock ≡ 0 }
-        ensures time { result.time ≡ time }
+        ensures time { result.time ≡ times }
         ensures arrivals { (cmp : T → T → Ordering) → Holds cmp result.nodes [] }
     {
         ClockQueue {
-            list: StableList::new(),
-            ends: [None; 65],
+            buckets: Buckets {
+                list: StableList::new(),
+                ends: [None; BUCKETS],
+            },
             clock: 0,
-            time,
+            times,
         }
     }
 
@@ -135,6 +145,13 @@ impl<T: Linked<Links<T>>, O: Times<T>> ClockQueue<T, O> {
     ///
     /// # Complexity
     /// O(1).
+    ///
+    /// # Examples
+    /// From `timers::Timers::first_deadline` of `cordyceps_shared_uses`:
+    /// ```
+    /// let first = self.queue.get(self.queue.front()?);
+    /// Some(first.deadline.max(self.queue.now()))
+    /// ```
     pub fn now(&self) -> u64
         ensures { result ≡ self.now.clock }
     {
@@ -142,25 +159,34 @@ impl<T: Linked<Links<T>>, O: Times<T>> ClockQueue<T, O> {
         *clock
     }
 
-    /// Replaces the function of times by `time`. Requires that this returns the same time as the old one for each value
-    /// that the old one makes due at the clock or later. So each element stays due when it was.
+    /// Replaces the function of times by `times`. Requires that this returns the same time as the old one for each
+    /// value that the old one makes due at the clock or later. So each element stays due when it was.
     ///
     /// # Complexity
     /// O(1).
-    pub fn set_times(&mut self, time: O)
+    ///
+    /// # Examples
+    /// From `timers::Timers::stop_first` of `cordyceps_shared_uses`:
+    /// ```
+    /// let first = self.queue.pop_front();
+    /// let clock = self.queue.now();
+    /// self.queue.set_times(NotBefore { clock });
+    /// first
+    /// ```
+    pub fn set_times(&mut self, times: O)
     where
         O: Drop,
         requires callable { O.can_compute self.old.time }
-        requires same { (of anew : T → ℕ) → O.computes_by self.old.time of → O.computes_by time anew
+        requires same { (of anew : T → ℕ) → O.computes_by self.old.time of → O.computes_by times anew
             → (value : T) → self.old.clock ≤ of value → anew value ≡ of value }
         ensures nodes { self.new.nodes ≡ self.old.nodes }
         ensures kept { (p : Ptr) → HasSpot self.old.nodes p → HasSpot self.new.nodes p }
         ensures now { self.new.clock ≡ self.old.clock }
-        ensures time { self.new.time ≡ time }
-        ensures due { (of anew : T → ℕ) → O.computes_by self.old.time of → O.computes_by time anew
+        ensures time { self.new.time ≡ times }
+        ensures due { (of anew : T → ℕ) → O.computes_by self.old.time of → O.computes_by times anew
             → AllByRecursion (λ n. anew n.1.value ≡ of n.1.value) self.new.nodes }
     {
-        self.time = time;
+        self.times = times;
     }
 
     /// Returns the number of elements.
@@ -170,7 +196,7 @@ impl<T: Linked<Links<T>>, O: Times<T>> ClockQueue<T, O> {
     pub fn len(&self) -> usize
         ensures { result ≡ length self.now.nodes }
     {
-        self.list.len()
+        self.buckets.list.len()
     }
 
     /// Returns `true` if the queue has no element.
@@ -187,10 +213,19 @@ impl<T: Linked<Links<T>>, O: Times<T>> ClockQueue<T, O> {
     ///
     /// # Complexity
     /// O(1).
+    ///
+    /// # Examples
+    /// From `timers::Timers::stop` of `cordyceps_c_timers`:
+    /// ```
+    /// let spot = self.tickets.find(ticket)?;
+    /// self.queue.spots_are_distinct();
+    /// let timer = self.queue.remove(spot);
+    /// Some(into_fired(timer, &mut self.tickets))
+    /// ```
     pub fn spots_are_distinct(&self)
         ensures { AreDistinct (spots self.now.nodes) }
     {
-        self.list.spots_are_distinct();
+        self.buckets.list.spots_are_distinct();
     }
 
     /// Inserts an element and returns its spot. It comes out after those that are due at the same time. Requires that
@@ -198,6 +233,15 @@ impl<T: Linked<Links<T>>, O: Times<T>> ClockQueue<T, O> {
     ///
     /// # Complexity
     /// O(1).
+    ///
+    /// # Examples
+    /// From `timers::Timers::restart` of `cordyceps_shared_uses`:
+    /// ```
+    /// if self.queue.len() == usize::MAX {
+    ///     return Err(timer);
+    /// }
+    /// Ok(self.queue.push(timer))
+    /// ```
     pub fn push(&mut self, handle: T::Handle) -> Spot
         requires callable { O.can_compute self.old.time }
         requires due { (of : T → ℕ) → O.computes_by self.old.time of → self.old.clock ≤ of (T.element handle).value }
@@ -215,9 +259,9 @@ impl<T: Linked<Links<T>>, O: Times<T>> ClockQueue<T, O> {
         ensures distinct { AreDistinct (spots self.new.nodes) }
     {
         let node = T::into_ptr(handle);
-        let due = self.time.time(node.get());
+        let due = self.times.time(node.get());
         let k = bucket(self.clock, due);
-        put(&mut self.list, &mut self.ends, k, T::from_ptr(node))
+        self.buckets.put(k, T::from_ptr(node))
     }
 
     /// Inserts an element as `push` does and returns its spot, if it is due at the clock or later and the length is
@@ -229,6 +273,14 @@ impl<T: Linked<Links<T>>, O: Times<T>> ClockQueue<T, O> {
     ///
     /// # Complexity
     /// That of `push`.
+    ///
+    /// # Examples
+    /// From `numbered::NumberedClock::push` of `cordyceps_speed_rows`:
+    /// ```
+    /// if let Ok(spot) = self.queue.try_push(node) {
+    ///     note(&mut self.spots, number, spot);
+    /// }
+    /// ```
     pub fn try_push(&mut self, handle: T::Handle) -> Result<Spot, T::Handle>
         requires callable { O.can_compute self.old.time }
         ensures pushed { MatchResult result
@@ -248,10 +300,10 @@ impl<T: Linked<Links<T>>, O: Times<T>> ClockQueue<T, O> {
         ensures distinct { AreDistinct (spots self.new.nodes) }
     {
         let node = T::into_ptr(handle);
-        let due = self.time.time(node.get());
+        let due = self.times.time(node.get());
         let handle = T::from_ptr(node);
-        self.list.spots_are_distinct();
-        if self.list.len() == usize::MAX || due < self.clock {
+        self.buckets.list.spots_are_distinct();
+        if self.buckets.list.len() == usize::MAX || due < self.clock {
             return Err(handle);
         }
         Ok(self.push(handle))
@@ -261,6 +313,15 @@ impl<T: Linked<Links<T>>, O: Times<T>> ClockQueue<T, O> {
     ///
     /// # Complexity
     /// O(1).
+    ///
+    /// # Examples
+    /// From `timers::Timers::stop` of `cordyceps_c_timers`:
+    /// ```
+    /// let spot = self.tickets.find(ticket)?;
+    /// self.queue.spots_are_distinct();
+    /// let timer = self.queue.remove(spot);
+    /// Some(into_fired(timer, &mut self.tickets))
+    /// ```
     pub fn remove(&mut self, at: Spot) -> T::Handle
         requires callable { O.can_compute self.old.time }
         requires there { HasSpot self.old.nodes at }
@@ -275,7 +336,7 @@ impl<T: Linked<Links<T>>, O: Times<T>> ClockQueue<T, O> {
         ensures time { self.new.time ≡ self.old.time }
         ensures distinct { AreDistinct (spots self.new.nodes) }
     {
-        take_out(&mut self.list, &mut self.ends, &self.time, self.clock, at)
+        self.buckets.take_out(&self.times, self.clock, at)
     }
 
     /// Changes the value at `at` by a function, and moves the element to where it then belongs: after those that are
@@ -285,6 +346,25 @@ impl<T: Linked<Links<T>>, O: Times<T>> ClockQueue<T, O> {
     ///
     /// # Complexity
     /// O(1), beside what the function takes: no other element is moved.
+    ///
+    /// # Examples
+    /// From `timers::Timers::restart` of `cordyceps_c_timers`:
+    /// ```
+    /// let due = deadline.max(self.queue.now());
+    /// self.queue.spots_are_distinct();
+    /// self.queue.update(
+    ///     spot,
+    ///     move |timer: &mut Timer| -> ()
+    ///         ensures due { timer.new.due ≡ due }
+    ///         ensures deadline { timer.new.deadline ≡ deadline }
+    ///         ensures payload { timer.new.payload ≡ timer.old.payload }
+    ///         ensures slot { timer.new.slot ≡ timer.old.slot }
+    ///     {
+    ///         timer.due = due;
+    ///         timer.deadline = deadline;
+    ///     },
+    /// );
+    /// ```
     pub fn update<R, F: FnOnce(&mut T) -> R>(&mut self, at: Spot, change: F) -> R
         requires time { O.can_compute self.old.time }
         requires there { HasSpot self.old.nodes at }
@@ -308,14 +388,7 @@ impl<T: Linked<Links<T>>, O: Times<T>> ClockQueue<T, O> {
         ensures time { self.new.time ≡ self.old.time }
         ensures distinct { AreDistinct (spots self.new.nodes) }
     {
-        renew(
-            &mut self.list,
-            &mut self.ends,
-            &self.time,
-            self.clock,
-            at,
-            change,
-        )
+        self.buckets.renew(&self.times, self.clock, at, change)
     }
 
     /// Returns the spot of the element that is due first, or `None` if the queue is empty. Of those that are due at the
@@ -324,6 +397,13 @@ impl<T: Linked<Links<T>>, O: Times<T>> ClockQueue<T, O> {
     /// # Complexity
     /// O(k), for k elements of the lowest bucket: those whose times differ from the clock in no higher bit than the
     /// least time does.
+    ///
+    /// # Examples
+    /// From `timers::Timers::first_deadline` of `cordyceps_shared_uses`:
+    /// ```
+    /// let first = self.queue.get(self.queue.front()?);
+    /// Some(first.deadline.max(self.queue.now()))
+    /// ```
     pub fn front(&self) -> Option<Spot>
         requires { O.can_compute self.now.time }
         ensures first { MatchOption result (self.now.nodes ≡ [])
@@ -334,14 +414,14 @@ impl<T: Linked<Links<T>>, O: Times<T>> ClockQueue<T, O> {
             → (rest : Nodes T) × IsEarliestLeast (precedes (by_key nat_cmp of)) a (spot, e) rest)) }
         ensures there { IfSome result (λ spot. HasSpot self.now.nodes spot) }
     {
-        self.list.spots_are_distinct();
-        let at = self.list.front()?;
-        let k = bucket(self.clock, time_at(&self.list, &self.time, at));
+        self.buckets.list.spots_are_distinct();
+        let at = self.buckets.list.front()?;
+        let k = bucket(self.clock, time_at(&self.buckets.list, &self.times, at));
         let First {
             least: _,
             at: first,
             len: _,
-        } = first_bucket(&self.list, &self.time, self.clock, k, at);
+        } = first_bucket(&self.buckets.list, &self.times, self.clock, k, at);
         Some(first)
     }
 
@@ -354,6 +434,12 @@ impl<T: Linked<Links<T>>, O: Times<T>> ClockQueue<T, O> {
     ///
     /// # Complexity
     /// O(1).
+    ///
+    /// # Examples
+    /// From `timers::Timers::not_before` of `cordyceps_shared_uses`:
+    /// ```
+    /// self.queue.not_before()
+    /// ```
     pub fn not_before(&self) -> Option<u64>
         requires { O.can_compute self.now.time }
         ensures none_before { MatchOption result (self.now.nodes ≡ [])
@@ -366,9 +452,9 @@ impl<T: Linked<Links<T>>, O: Times<T>> ClockQueue<T, O> {
             × AllByRecursion (λ n. of e.value ≤ of n.1.value) self.now.nodes
             × (t ≡ rounded self.now.clock (of e.value)) × ((self.now.clock < t) ⊎ (of e.value ≡ t))) }
     {
-        self.list.spots_are_distinct();
-        let at = self.list.front()?;
-        let due = time_at(&self.list, &self.time, at);
+        self.buckets.list.spots_are_distinct();
+        let at = self.buckets.list.front()?;
+        let due = time_at(&self.buckets.list, &self.times, at);
         Some(least_of_bucket(self.clock, due))
     }
 
@@ -378,6 +464,15 @@ impl<T: Linked<Links<T>>, O: Times<T>> ClockQueue<T, O> {
     /// # Complexity
     /// O(1) amortized: after its push, and after each update, an element is moved at most 64 times. At worst O(n), for
     /// n elements.
+    ///
+    /// # Examples
+    /// From `timers::Timers::stop_first` of `cordyceps_shared_uses`:
+    /// ```
+    /// let first = self.queue.pop_front();
+    /// let clock = self.queue.now();
+    /// self.queue.set_times(NotBefore { clock });
+    /// first
+    /// ```
     pub fn pop_front(&mut self) -> Option<T::Handle>
         requires callable { O.can_compute self.old.time }
         ensures taken { MatchOption result ((self.old.nodes ≡ []) × (self.new ≡ self.old))
@@ -395,46 +490,41 @@ impl<T: Linked<Links<T>>, O: Times<T>> ClockQueue<T, O> {
         ensures time { self.new.time ≡ self.old.time }
         ensures distinct { AreDistinct (spots self.new.nodes) }
     {
-        self.list.spots_are_distinct();
-        let at = self.list.front()?;
-        self.clock = advance(
-            &mut self.list,
-            &mut self.ends,
-            &self.time,
-            self.clock,
-            u64::MAX,
-            at,
-        );
-        let first = self.list.front()?;
-        Some(take_out(
-            &mut self.list,
-            &mut self.ends,
-            &self.time,
-            self.clock,
-            first,
-        ))
+        self.buckets.list.spots_are_distinct();
+        let at = self.buckets.list.front()?;
+        self.clock = self.buckets.advance(&self.times, self.clock, u64::MAX, at);
+        let first = self.buckets.list.front()?;
+        Some(self.buckets.take_out(&self.times, self.clock, first))
     }
 
-    /// Removes the element that is due first and returns it, if it is due at `now` or before, or returns `None`. Of
+    /// Removes the element that is due first and returns it, if it is due at `time` or before, or returns `None`. Of
     /// those that are due at the same time it is the one that was pushed first, and its time becomes the clock. With
-    /// `None` the clock becomes `now`, unless it is later already.
+    /// `None` the clock becomes `time`, unless it is later already.
     ///
     /// # Complexity
     /// O(1) amortized, also where no element is due: after its push, and after each update, an element is moved at
     /// most 64 times. At worst O(n), for n elements.
-    pub fn pop_due(&mut self, now: u64) -> Option<T::Handle>
+    ///
+    /// # Examples
+    /// From `timers::Timers::pop_due` of `cordyceps_c_timers`:
+    /// ```
+    /// self.queue.spots_are_distinct();
+    /// let timer = self.queue.pop_due(now)?;
+    /// Some(into_fired(timer, &mut self.tickets))
+    /// ```
+    pub fn pop_due(&mut self, time: u64) -> Option<T::Handle>
         requires callable { O.can_compute self.old.time }
         ensures due { MatchOption result
-            ((self.new.clock ≡ max self.old.clock now) × IsPermutation self.old.nodes self.new.nodes
+            ((self.new.clock ≡ max self.old.clock time) × IsPermutation self.old.nodes self.new.nodes
             × ((of : T → ℕ)
             → O.computes_by self.old.time of
-            → AreLater of now self.new.nodes
+            → AreLater of time self.new.nodes
             × ((a : Nodes T)
             → Holds (by_key nat_cmp of) self.old.nodes a
             → Holds (by_key nat_cmp of) self.new.nodes a)))
             (λ h. (spot : Ptr) × ((of : T → ℕ)
             → O.computes_by self.old.time of
-            → (self.new.clock ≡ of (T.element h).value) × (of (T.element h).value ≤ now)
+            → (self.new.clock ≡ of (T.element h).value) × (of (T.element h).value ≤ time)
             × ((a : Nodes T)
             → Holds (by_key nat_cmp of) self.old.nodes a
             → (rest : Nodes T) × (IsEarliestLeast (precedes (by_key nat_cmp of)) a (spot, T.element h) rest
@@ -446,38 +536,38 @@ impl<T: Linked<Links<T>>, O: Times<T>> ClockQueue<T, O> {
         ensures time { self.new.time ≡ self.old.time }
         ensures distinct { AreDistinct (spots self.new.nodes) }
     {
-        self.list.spots_are_distinct();
-        if now < self.clock {
+        self.buckets.list.spots_are_distinct();
+        if time < self.clock {
             return None;
         }
-        let Some(at) = self.list.front() else {
-            self.clock = now;
+        let Some(at) = self.buckets.list.front() else {
+            self.clock = time;
             return None;
         };
-        self.clock = advance(
-            &mut self.list,
-            &mut self.ends,
-            &self.time,
-            self.clock,
-            now,
-            at,
-        );
-        let next = self.list.front()?;
-        let due = time_at(&self.list, &self.time, next);
-        if due > now {
+        self.clock = self.buckets.advance(&self.times, self.clock, time, at);
+        let next = self.buckets.list.front()?;
+        let due = time_at(&self.buckets.list, &self.times, next);
+        if due > time {
             return None;
         }
-        Some(take_out(&mut self.list, &mut self.ends, &self.time, self.clock, next))
+        Some(self.buckets.take_out(&self.times, self.clock, next))
     }
 
     /// Returns a reference to the value at `at`. Requires that `at` is valid.
     ///
     /// # Complexity
     /// O(1).
+    ///
+    /// # Examples
+    /// From `timers::Timers::first_deadline` of `cordyceps_shared_uses`:
+    /// ```
+    /// let first = self.queue.get(self.queue.front()?);
+    /// Some(first.deadline.max(self.queue.now()))
+    /// ```
     pub fn get(&self, at: Spot) -> &T
         requires { HasSpot self.now.nodes at }
         ensures { HoldsAt self.now.nodes at result.now }
     {
-        self.list.get(at)
+        self.buckets.list.get(at)
     }
 }

@@ -8,6 +8,12 @@ ghost use Rattle.std.specs.Prelude.{◌≡◌, ℕ};
 /// A function that returns the time of a value.
 ///
 /// It always returns the same time for a value, which an implementor proves.
+///
+/// # Examples
+/// From `timers::NotBefore::time` of `cordyceps_shared_uses`:
+/// ```
+/// timer.deadline.max(self.clock)
+/// ```
 pub trait Times<T> {
     // Holds of a function and the times that it returns.
     ghost computes_by: { Self → (T → ℕ) → Type 0 };

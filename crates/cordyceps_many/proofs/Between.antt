@@ -6,9 +6,9 @@ use Rattle.cordyceps_base.specs.Spots.{same_ptr}
 use Rattle.cordyceps_base.proofs.SpotsMemory.{same_ptr_eq, same_ptr_refl}
 use Rattle.cordyceps_many.specs.declared.hook.Hook.{Hook}
 use Rattle.cordyceps_many.specs.declared.hook.Ends.{Ends}
-use Rattle.cordyceps_many.specs.Threads.{is_in, with_before, with_after, Once, Chain, IsThread, IsOpen, IsParted, Wrote, IsLedOn, IsLedBack}
+use Rattle.cordyceps_many.specs.Threads.{is_in, with_before, with_after, Once, Chain, IsThread, IsOpen, IsParted, Wrote, IsFollowedBy, IsPrecededBy}
 use Rattle.cordyceps_many.proofs.Members.{in_mid, other_mid}
-use Rattle.cordyceps_many.proofs.Threads.{split, other_way, in_there, in_append, not_in, not_in_append, differ, Parts, parts, apart, chain_keep, chain_join, chain_front, chain_back, same_but, last_end, last_in, last_where, first_where, front_led, back_led, on_same, back_same, on_marks, back_marks}
+use Rattle.cordyceps_many.proofs.Threads.{split, other_way, in_there, in_append, not_in, not_in_append, differ, Parts, parts, apart, chain_keep, chain_join, chain_front, chain_back, same_but, last_end, last_in, last_where, first_where, front_followed, back_preceded, followed_same, preceded_same, followed_marks, preceded_marks}
 
 -- what is known of the parts of a list in which no spot comes twice
 pub record Halves (s t : List Ptr) : Type 0 where
@@ -31,7 +31,7 @@ once_mid [] t a o e = (e, o)
 once_mid (x ∷ s) t a o e = let n = not_in a x (s ++ t) e in (other_mid x a s t (other_way a x n.0) ∙ o.0, once_mid s t a o.1 n.1)
 
 module _ (f0 f1 f2 f3 : Ptr → Hook) (e : Ends) (s t : List Ptr) (a prev next first last : Address) (w : IsOpen f0 e (s ++ t) a.ptr) (d : IsParted f0 e s prev.ptr next.ptr t) (solid : (x : Ptr) → is_in x (s ++ t) ≡ true → InBlock x)
-    (set : Wrote f0 a.ptr (record { next = next; prev = prev; linked = true }) f1) (on : IsLedOn f1 prev.ptr a e.first.ptr f2 first.ptr) (back : IsLedBack f2 next.ptr a e.last.ptr f3 last.ptr) where
+    (set : Wrote f0 a.ptr (record { next = next; prev = prev; linked = true }) f1) (on : IsFollowedBy f1 prev.ptr a e.first.ptr f2 first.ptr) (back : IsPrecededBy f2 next.ptr a e.last.ptr f3 last.ptr) where
   abbrev h : Hook
   h = record { next = next; prev = prev; linked = true }
 
@@ -51,28 +51,28 @@ module _ (f0 f1 f2 f3 : Ptr → Hook) (e : Ends) (s t : List Ptr) (a prev next f
   solid_t x i = solid x (in_append x s t ∙ split (is_in x s) (λ yes. ap (λ (b : Bool). if b then true else is_in x t) yes) (λ no. ap (λ (b : Bool). if b then true else is_in x t) no ∙ i))
 
   front2 : Chain f2 null_ptr first.ptr s prev.ptr a.ptr
-  front2 = front_led f1 f2 e.first.ptr s prev.ptr next.ptr a first.ptr (chain_keep f0 f1 null_ptr e.first.ptr s prev.ptr next.ptr d.front (same_but f0 f1 a.ptr h s set apart_s)) o.first solid_s on
+  front2 = front_followed f1 f2 e.first.ptr s prev.ptr next.ptr a first.ptr (chain_keep f0 f1 null_ptr e.first.ptr s prev.ptr next.ptr d.front (same_but f0 f1 a.ptr h s set apart_s)) o.first solid_s on
 
   back2 : Chain f2 prev.ptr next.ptr t e.last.ptr null_ptr
   back2 = chain_keep f1 f2 prev.ptr next.ptr t e.last.ptr null_ptr (chain_keep f0 f1 prev.ptr next.ptr t e.last.ptr null_ptr d.back (same_but f0 f1 a.ptr h t set apart_t))
-      (on_same f1 f2 prev.ptr a e.first.ptr first.ptr t on (λ b. o.none prev.ptr (last_where f0 e.first.ptr s prev.ptr next.ptr d.front b)))
+      (followed_same f1 f2 prev.ptr a e.first.ptr first.ptr t on (λ b. o.none prev.ptr (last_where f0 e.first.ptr s prev.ptr next.ptr d.front b)))
 
   front3 : Chain f3 null_ptr first.ptr s prev.ptr a.ptr
-  front3 = chain_keep f2 f3 null_ptr first.ptr s prev.ptr a.ptr front2 (back_same f2 f3 next.ptr a e.last.ptr last.ptr s back
+  front3 = chain_keep f2 f3 null_ptr first.ptr s prev.ptr a.ptr front2 (preceded_same f2 f3 next.ptr a e.last.ptr last.ptr s back
       (λ b. split (is_in next.ptr s) (λ yes. let n = o.none next.ptr yes in let m = first_where f0 prev.ptr next.ptr t e.last.ptr d.back b in absurd cc) (λ no. no)))
 
   back3 : Chain f3 a.ptr next.ptr t last.ptr null_ptr
-  back3 = back_led f2 f3 prev.ptr next.ptr t e.last.ptr a last.ptr back2 o.second solid_t back
+  back3 = back_preceded f2 f3 prev.ptr next.ptr t e.last.ptr a last.ptr back2 o.second solid_t back
 
   kept : f3 a.ptr ≡ h
-  kept = (back_same f2 f3 next.ptr a e.last.ptr last.ptr (a.ptr ∷ []) back (λ b. in_there next.ptr a.ptr [] (differ next.ptr a.ptr t (first_where f0 prev.ptr next.ptr t e.last.ptr d.back b) apart_t))).0
-      ∙ (on_same f1 f2 prev.ptr a e.first.ptr first.ptr (a.ptr ∷ []) on (λ b. in_there prev.ptr a.ptr [] (differ prev.ptr a.ptr s (last_where f0 e.first.ptr s prev.ptr next.ptr d.front b) apart_s))).0 ∙ set.here
+  kept = (preceded_same f2 f3 next.ptr a e.last.ptr last.ptr (a.ptr ∷ []) back (λ b. in_there next.ptr a.ptr [] (differ next.ptr a.ptr t (first_where f0 prev.ptr next.ptr t e.last.ptr d.back b) apart_t))).0
+      ∙ (followed_same f1 f2 prev.ptr a e.first.ptr first.ptr (a.ptr ∷ []) on (λ b. in_there prev.ptr a.ptr [] (differ prev.ptr a.ptr s (last_where f0 e.first.ptr s prev.ptr next.ptr d.front b) apart_s))).0 ∙ set.here
 
   pub thread_between : IsThread f3 (record { first = first; last = last; len = e.len + 1 }) (s ++ a.ptr ∷ t)
   thread_between = record {
     long = let long = w.long in let l = length-append s (a.ptr ∷ t) in let m = length-append s t in omega (arith, long, l, m);
     once = once_mid s t a.ptr w.once w.away;
-    marks = λ q. back_marks f2 f3 next.ptr a e.last.ptr last.ptr back q ∙ on_marks f1 f2 prev.ptr a e.first.ptr first.ptr on q ∙ split (same_ptr a.ptr q)
+    marks = λ q. preceded_marks f2 f3 next.ptr a e.last.ptr last.ptr back q ∙ followed_marks f1 f2 prev.ptr a e.first.ptr first.ptr on q ∙ split (same_ptr a.ptr q)
         (λ same. subst (λ z. (f1 z).linked ≡ is_in z (s ++ a.ptr ∷ t)) (same_ptr_eq a.ptr q same) (ap (λ (k : Hook). k.linked) set.here ∙ sym (in_mid a.ptr s t)))
         (λ other. ap (λ (k : Hook). k.linked) (set.others q other) ∙ w.marks q other ∙ sym (other_mid q a.ptr s t (other_way a.ptr q other)));
     chain = chain_join f3 null_ptr first.ptr s prev.ptr a.ptr (a.ptr ∷ t) last.ptr null_ptr front3 ((refl, ap (λ (k : Hook). k.prev.ptr) kept), subst (λ z. Chain f3 a.ptr z t last.ptr null_ptr) (sym (ap (λ (k : Hook). k.next.ptr) kept)) back3);

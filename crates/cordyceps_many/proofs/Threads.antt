@@ -7,7 +7,7 @@ use Rattle.cordyceps_base.specs.Spots.{same_ptr}
 use Rattle.cordyceps_base.proofs.SpotsMemory.{same_ptr_eq, same_ptr_refl}
 use Rattle.cordyceps_many.specs.declared.hook.Hook.{Hook}
 use Rattle.cordyceps_many.specs.declared.hook.Ends.{Ends}
-use Rattle.cordyceps_many.specs.Threads.{is_in, without, Once, with_next, with_prev, Chain, walk, IsThread, IsOpen, Wrote, IsLedOn, IsLedBack}
+use Rattle.cordyceps_many.specs.Threads.{is_in, without, Once, with_next, with_prev, Chain, walk, IsThread, IsOpen, Wrote, IsFollowedBy, IsPrecededBy}
 
 pub split : {P : Type 0} (b : Bool) → (b ≡ true → P) → (b ≡ false → P) → P
 split true y n = y refl
@@ -220,35 +220,35 @@ module _ (f g : Ptr → Hook) where
       let away : is_in h s ≡ false = subst (λ z. is_in z s ≡ false) (sym c.0.0) o.0 in
       ((c.0.0, ap pv e), subst (λ z. Chain g x z s t q) (sym (ap nx e)) (chain_keep f g x (f x).next.ptr s t q c.1 (same_but f g h (with_prev (f h) n) s w away)))
 
-  pub front_led : (h : Ptr) (xs : List Ptr) (t q : Ptr) (n : Address) (r : Ptr) → Chain f null_ptr h xs t q → Once xs → ((x : Ptr) → is_in x xs ≡ true → InBlock x) → IsLedOn f t n h g r → Chain g null_ptr r xs t n.ptr
-  front_led h [] t q n r c o solid (inl d) = (d.end, d.null)
-  front_led h [] t q n r c o solid (inr d) = absurd (subst InBlock c.1 d.there)
-  front_led h (x ∷ xs) t q n r c o solid (inl d) = absurd (subst InBlock d.null (solid t (last_in f null_ptr h x xs t q c)))
-  front_led h (x ∷ xs) t q n r c o solid (inr d) = subst (λ z. Chain g null_ptr z (x ∷ xs) t n.ptr) (sym d.end) (relinked_last null_ptr h x xs t q n c o d.wrote)
+  pub front_followed : (h : Ptr) (xs : List Ptr) (t q : Ptr) (n : Address) (r : Ptr) → Chain f null_ptr h xs t q → Once xs → ((x : Ptr) → is_in x xs ≡ true → InBlock x) → IsFollowedBy f t n h g r → Chain g null_ptr r xs t n.ptr
+  front_followed h [] t q n r c o solid (inl d) = (d.end, d.null)
+  front_followed h [] t q n r c o solid (inr d) = absurd (subst InBlock c.1 d.there)
+  front_followed h (x ∷ xs) t q n r c o solid (inl d) = absurd (subst InBlock d.null (solid t (last_in f null_ptr h x xs t q c)))
+  front_followed h (x ∷ xs) t q n r c o solid (inr d) = subst (λ z. Chain g null_ptr z (x ∷ xs) t n.ptr) (sym d.end) (relinked_last null_ptr h x xs t q n c o d.wrote)
 
-  pub back_led : (p h : Ptr) (ys : List Ptr) (t : Ptr) (n : Address) (r : Ptr) → Chain f p h ys t null_ptr → Once ys → ((x : Ptr) → is_in x ys ≡ true → InBlock x) → IsLedBack f h n t g r → Chain g n.ptr h ys r null_ptr
-  back_led p h [] t n r c o solid (inl d) = (d.null, d.end)
-  back_led p h [] t n r c o solid (inr d) = absurd (subst InBlock c.0 d.there)
-  back_led p h (x ∷ ys) t n r c o solid (inl d) = absurd (subst InBlock d.null (subst InBlock (sym c.0.0) (solid x (in_here x x ys (same_ptr_refl x)))))
-  back_led p h (x ∷ ys) t n r c o solid (inr d) = subst (λ z. Chain g n.ptr h (x ∷ ys) z null_ptr) (sym d.end) (relinked_first p h x ys t null_ptr n c o d.wrote)
+  pub back_preceded : (p h : Ptr) (ys : List Ptr) (t : Ptr) (n : Address) (r : Ptr) → Chain f p h ys t null_ptr → Once ys → ((x : Ptr) → is_in x ys ≡ true → InBlock x) → IsPrecededBy f h n t g r → Chain g n.ptr h ys r null_ptr
+  back_preceded p h [] t n r c o solid (inl d) = (d.null, d.end)
+  back_preceded p h [] t n r c o solid (inr d) = absurd (subst InBlock c.0 d.there)
+  back_preceded p h (x ∷ ys) t n r c o solid (inl d) = absurd (subst InBlock d.null (subst InBlock (sym c.0.0) (solid x (in_here x x ys (same_ptr_refl x)))))
+  back_preceded p h (x ∷ ys) t n r c o solid (inr d) = subst (λ z. Chain g n.ptr h (x ∷ ys) z null_ptr) (sym d.end) (relinked_first p h x ys t null_ptr n c o d.wrote)
 
-  pub on_same : (t : Ptr) (n : Address) (h r : Ptr) (s : List Ptr) → IsLedOn f t n h g r → (InBlock t → is_in t s ≡ false) → Same f g s
-  on_same t n h r s (inl d) away = same_all f g s (λ q j. d.same j q)
-  on_same t n h r s (inr d) away = same_but f g t (with_next (f t) n) s d.wrote (away d.there)
+  pub followed_same : (t : Ptr) (n : Address) (h r : Ptr) (s : List Ptr) → IsFollowedBy f t n h g r → (InBlock t → is_in t s ≡ false) → Same f g s
+  followed_same t n h r s (inl d) away = same_all f g s (λ q j. d.same j q)
+  followed_same t n h r s (inr d) away = same_but f g t (with_next (f t) n) s d.wrote (away d.there)
 
-  pub back_same : (h : Ptr) (n : Address) (t r : Ptr) (s : List Ptr) → IsLedBack f h n t g r → (InBlock h → is_in h s ≡ false) → Same f g s
-  back_same h n t r s (inl d) away = same_all f g s (λ q j. d.same j q)
-  back_same h n t r s (inr d) away = same_but f g h (with_prev (f h) n) s d.wrote (away d.there)
+  pub preceded_same : (h : Ptr) (n : Address) (t r : Ptr) (s : List Ptr) → IsPrecededBy f h n t g r → (InBlock h → is_in h s ≡ false) → Same f g s
+  preceded_same h n t r s (inl d) away = same_all f g s (λ q j. d.same j q)
+  preceded_same h n t r s (inr d) away = same_but f g h (with_prev (f h) n) s d.wrote (away d.there)
 
-  pub on_marks : (t : Ptr) (n : Address) (h r : Ptr) → IsLedOn f t n h g r → (q : Ptr) → (g q).linked ≡ (f q).linked
-  on_marks t n h r (inl d) q = λ j. (d.same j q).linked
-  on_marks t n h r (inr d) q = split (same_ptr t q)
+  pub followed_marks : (t : Ptr) (n : Address) (h r : Ptr) → IsFollowedBy f t n h g r → (q : Ptr) → (g q).linked ≡ (f q).linked
+  followed_marks t n h r (inl d) q = λ j. (d.same j q).linked
+  followed_marks t n h r (inr d) q = split (same_ptr t q)
       (λ same. let e : g q ≡ with_next (f q) n = subst (λ z. g z ≡ with_next (f z) n) (same_ptr_eq t q same) d.wrote.here in ap (λ (k : Hook). k.linked) e)
       (λ other. ap (λ (k : Hook). k.linked) (d.wrote.others q other))
 
-  pub back_marks : (h : Ptr) (n : Address) (t r : Ptr) → IsLedBack f h n t g r → (q : Ptr) → (g q).linked ≡ (f q).linked
-  back_marks h n t r (inl d) q = λ j. (d.same j q).linked
-  back_marks h n t r (inr d) q = split (same_ptr h q)
+  pub preceded_marks : (h : Ptr) (n : Address) (t r : Ptr) → IsPrecededBy f h n t g r → (q : Ptr) → (g q).linked ≡ (f q).linked
+  preceded_marks h n t r (inl d) q = λ j. (d.same j q).linked
+  preceded_marks h n t r (inr d) q = split (same_ptr h q)
       (λ same. let e : g q ≡ with_prev (f q) n = subst (λ z. g z ≡ with_prev (f z) n) (same_ptr_eq h q same) d.wrote.here in ap (λ (k : Hook). k.linked) e)
       (λ other. ap (λ (k : Hook). k.linked) (d.wrote.others q other))
 
@@ -279,7 +279,7 @@ open_goes f e s a w = record { chain = w.chain; marked = λ q m. w.marks q (othe
 
 -- a node is taken out of a list: its neighbours are linked
 module _ (f0 f2 f3 : Ptr → Hook) (e : Ends) (s : List Ptr) (a : Ptr) (first last : Address) (w : IsThread f0 e s) (there : is_in a s ≡ true) (solid : (x : Ptr) → is_in x s ≡ true → InBlock x)
-    (on : IsLedOn f0 (f0 a).prev.ptr (f0 a).next e.first.ptr f2 first.ptr) (back : IsLedBack f2 (f0 a).next.ptr (f0 a).prev e.last.ptr f3 last.ptr) where
+    (on : IsFollowedBy f0 (f0 a).prev.ptr (f0 a).next e.first.ptr f2 first.ptr) (back : IsPrecededBy f2 (f0 a).next.ptr (f0 a).prev e.last.ptr f3 last.ptr) where
   u : Parts a s
   u = parts a s there
 
@@ -302,45 +302,45 @@ module _ (f0 f2 f3 : Ptr → Hook) (e : Ends) (s : List Ptr) (a : Ptr) (first la
   back0 = chain_back f0 null_ptr e.first.ptr u.front a u.back e.last.ptr null_ptr chained
 
   front2 : Chain f2 null_ptr first.ptr u.front (f0 a).prev.ptr (f0 a).next.ptr
-  front2 = front_led f0 f2 e.first.ptr u.front (f0 a).prev.ptr a (f0 a).next first.ptr front0 o.first solid_front on
+  front2 = front_followed f0 f2 e.first.ptr u.front (f0 a).prev.ptr a (f0 a).next first.ptr front0 o.first solid_front on
 
   back2 : Chain f2 a (f0 a).next.ptr u.back e.last.ptr null_ptr
   back2 = chain_keep f0 f2 a (f0 a).next.ptr u.back e.last.ptr null_ptr back0
-      (on_same f0 f2 (f0 a).prev.ptr (f0 a).next e.first.ptr first.ptr u.back on (λ b. o.none (f0 a).prev.ptr (last_where f0 e.first.ptr u.front (f0 a).prev.ptr a front0 b)))
+      (followed_same f0 f2 (f0 a).prev.ptr (f0 a).next e.first.ptr first.ptr u.back on (λ b. o.none (f0 a).prev.ptr (last_where f0 e.first.ptr u.front (f0 a).prev.ptr a front0 b)))
 
   front3 : Chain f3 null_ptr first.ptr u.front (f0 a).prev.ptr (f0 a).next.ptr
-  front3 = chain_keep f2 f3 null_ptr first.ptr u.front (f0 a).prev.ptr (f0 a).next.ptr front2 (back_same f2 f3 (f0 a).next.ptr (f0 a).prev e.last.ptr last.ptr u.front back
+  front3 = chain_keep f2 f3 null_ptr first.ptr u.front (f0 a).prev.ptr (f0 a).next.ptr front2 (preceded_same f2 f3 (f0 a).next.ptr (f0 a).prev e.last.ptr last.ptr u.front back
       (λ b. split (is_in (f0 a).next.ptr u.front) (λ yes. let n = o.none (f0 a).next.ptr yes in let m = first_where f0 a (f0 a).next.ptr u.back e.last.ptr back0 b in absurd cc) (λ no. no)))
 
   back3 : Chain f3 (f0 a).prev.ptr (f0 a).next.ptr u.back last.ptr null_ptr
-  back3 = back_led f2 f3 a (f0 a).next.ptr u.back e.last.ptr (f0 a).prev last.ptr back2 o.second solid_back back
+  back3 = back_preceded f2 f3 a (f0 a).next.ptr u.back e.last.ptr (f0 a).prev last.ptr back2 o.second solid_back back
 
   pub cut_open : IsOpen f3 (record { first = first; last = last; len = e.len - 1 }) (without a s) a
   cut_open = record {
     long = let long = w.long in let l = length_without a s there in omega (arith, long, l);
     once = subst Once (sym u.left) o.joined;
     away = without_gone a s w.once;
-    marks = λ q other. back_marks f2 f3 (f0 a).next.ptr (f0 a).prev e.last.ptr last.ptr back q ∙ on_marks f0 f2 (f0 a).prev.ptr (f0 a).next e.first.ptr first.ptr on q ∙ w.marks q ∙ sym (without_other a q s other);
+    marks = λ q other. preceded_marks f2 f3 (f0 a).next.ptr (f0 a).prev e.last.ptr last.ptr back q ∙ followed_marks f0 f2 (f0 a).prev.ptr (f0 a).next e.first.ptr first.ptr on q ∙ w.marks q ∙ sym (without_other a q s other);
     chain = subst (λ l. Chain f3 null_ptr first.ptr l last.ptr null_ptr) (sym u.left) (chain_join f3 null_ptr first.ptr u.front (f0 a).prev.ptr (f0 a).next.ptr u.back last.ptr null_ptr front3 back3);
   }
 
 -- a node is put in at the back, or at the front
 module _ (f0 f1 f2 : Ptr → Hook) (e : Ends) (s : List Ptr) (a none end : Address) (w : IsOpen f0 e s a.ptr) (solid : (x : Ptr) → is_in x s ≡ true → InBlock x) (null : none.ptr ≡ null_ptr) where
-  module _ (set : Wrote f0 a.ptr (record { next = none; prev = e.last; linked = true }) f1) (on : IsLedOn f1 e.last.ptr a e.first.ptr f2 end.ptr) where
+  module _ (set : Wrote f0 a.ptr (record { next = none; prev = e.last; linked = true }) f1) (on : IsFollowedBy f1 e.last.ptr a e.first.ptr f2 end.ptr) where
     chain1 : Chain f1 null_ptr e.first.ptr s e.last.ptr null_ptr
     chain1 = chain_keep f0 f1 null_ptr e.first.ptr s e.last.ptr null_ptr w.chain (same_but f0 f1 a.ptr (record { next = none; prev = e.last; linked = true }) s set w.away)
 
     chain2 : Chain f2 null_ptr end.ptr s e.last.ptr a.ptr
-    chain2 = front_led f1 f2 e.first.ptr s e.last.ptr null_ptr a end.ptr chain1 w.once solid on
+    chain2 = front_followed f1 f2 e.first.ptr s e.last.ptr null_ptr a end.ptr chain1 w.once solid on
 
     kept : f2 a.ptr ≡ record { next = none; prev = e.last; linked = true }
-    kept = (on_same f1 f2 e.last.ptr a e.first.ptr end.ptr (a.ptr ∷ []) on (λ b. in_there e.last.ptr a.ptr [] (differ e.last.ptr a.ptr s (last_where f0 e.first.ptr s e.last.ptr null_ptr w.chain b) w.away))).0 ∙ set.here
+    kept = (followed_same f1 f2 e.last.ptr a e.first.ptr end.ptr (a.ptr ∷ []) on (λ b. in_there e.last.ptr a.ptr [] (differ e.last.ptr a.ptr s (last_where f0 e.first.ptr s e.last.ptr null_ptr w.chain b) w.away))).0 ∙ set.here
 
     pub thread_last : IsThread f2 (record { first = end; last = a; len = e.len + 1 }) (s ++ a.ptr ∷ [])
     thread_last = record {
       long = let long = w.long in let l = length-append s (a.ptr ∷ []) in omega (arith, long, l);
       once = once_pushed s a.ptr w.once w.away;
-      marks = λ q. on_marks f1 f2 e.last.ptr a e.first.ptr end.ptr on q ∙ split (same_ptr a.ptr q)
+      marks = λ q. followed_marks f1 f2 e.last.ptr a e.first.ptr end.ptr on q ∙ split (same_ptr a.ptr q)
           (λ same. subst (λ z. (f1 z).linked ≡ is_in z (s ++ a.ptr ∷ [])) (same_ptr_eq a.ptr q same) (ap (λ (k : Hook). k.linked) set.here ∙ sym (in_append a.ptr s (a.ptr ∷ []) ∙ ap (λ (b : Bool). if b then true else is_in a.ptr (a.ptr ∷ [])) w.away ∙ in_here a.ptr a.ptr [] (same_ptr_refl a.ptr))))
           (λ other. ap (λ (k : Hook). k.linked) (set.others q other) ∙ w.marks q other ∙ sym (in_append q s (a.ptr ∷ []) ∙ ap (λ (b : Bool). if is_in q s then true else b) (in_there q a.ptr [] (other_way a.ptr q other)) ∙ either (is_in q s)));
       chain = chain_join f2 null_ptr end.ptr s e.last.ptr a.ptr (a.ptr ∷ []) a.ptr null_ptr chain2 ((refl, ap pv kept), (ap nx kept ∙ null, refl));
@@ -349,21 +349,21 @@ module _ (f0 f1 f2 : Ptr → Hook) (e : Ends) (s : List Ptr) (a none end : Addre
       either true = refl
       either false = refl
 
-  module _ (set : Wrote f0 a.ptr (record { next = e.first; prev = none; linked = true }) f1) (back : IsLedBack f1 e.first.ptr a e.last.ptr f2 end.ptr) where
+  module _ (set : Wrote f0 a.ptr (record { next = e.first; prev = none; linked = true }) f1) (back : IsPrecededBy f1 e.first.ptr a e.last.ptr f2 end.ptr) where
     chain1' : Chain f1 null_ptr e.first.ptr s e.last.ptr null_ptr
     chain1' = chain_keep f0 f1 null_ptr e.first.ptr s e.last.ptr null_ptr w.chain (same_but f0 f1 a.ptr (record { next = e.first; prev = none; linked = true }) s set w.away)
 
     chain2' : Chain f2 a.ptr e.first.ptr s end.ptr null_ptr
-    chain2' = back_led f1 f2 null_ptr e.first.ptr s e.last.ptr a end.ptr chain1' w.once solid back
+    chain2' = back_preceded f1 f2 null_ptr e.first.ptr s e.last.ptr a end.ptr chain1' w.once solid back
 
     kept' : f2 a.ptr ≡ record { next = e.first; prev = none; linked = true }
-    kept' = (back_same f1 f2 e.first.ptr a e.last.ptr end.ptr (a.ptr ∷ []) back (λ b. in_there e.first.ptr a.ptr [] (differ e.first.ptr a.ptr s (first_where f0 null_ptr e.first.ptr s e.last.ptr w.chain b) w.away))).0 ∙ set.here
+    kept' = (preceded_same f1 f2 e.first.ptr a e.last.ptr end.ptr (a.ptr ∷ []) back (λ b. in_there e.first.ptr a.ptr [] (differ e.first.ptr a.ptr s (first_where f0 null_ptr e.first.ptr s e.last.ptr w.chain b) w.away))).0 ∙ set.here
 
     pub thread_first : IsThread f2 (record { first = a; last = end; len = e.len + 1 }) (a.ptr ∷ s)
     thread_first = record {
       long = let long = w.long in omega (arith, long);
       once = (w.away, w.once);
-      marks = λ q. back_marks f1 f2 e.first.ptr a e.last.ptr end.ptr back q ∙ split (same_ptr a.ptr q)
+      marks = λ q. preceded_marks f1 f2 e.first.ptr a e.last.ptr end.ptr back q ∙ split (same_ptr a.ptr q)
           (λ same. subst (λ z. (f1 z).linked ≡ is_in z (a.ptr ∷ s)) (same_ptr_eq a.ptr q same) (ap (λ (k : Hook). k.linked) set.here ∙ sym (in_here a.ptr a.ptr s (same_ptr_refl a.ptr))))
           (λ other. ap (λ (k : Hook). k.linked) (set.others q other) ∙ w.marks q other ∙ sym (in_there q a.ptr s (other_way a.ptr q other)));
       chain = ((refl, ap pv kept' ∙ null), subst (λ z. Chain f2 a.ptr z s end.ptr null_ptr) (sym (ap nx kept')) chain2');

@@ -99,33 +99,35 @@ pub record Wrote (f : Ptr → Hook) (p : Ptr) (h : Hook) (g : Ptr → Hook) : Ty
   pub others : (q : Ptr) → same_ptr p q ≡ false → g q ≡ f q
 
 -- there is no node at p, which is null: no hook changes, and the list begins or ends with `to`
-pub record IsLedNowhere (f : Ptr → Hook) (p : Ptr) (to : Address) (g : Ptr → Hook) (r : Ptr) : Type 0 where
+pub record IsBesideNone (f : Ptr → Hook) (p : Ptr) (to : Address) (g : Ptr → Hook) (r : Ptr) : Type 0 where
   pub null : p ≡ null_ptr
   pub same : g ≡ f
   pub end : r ≡ to.ptr
 
 -- the node at `last` leads to `next`, and the list begins as before
-pub record IsLastLed (f : Ptr → Hook) (last : Ptr) (next : Address) (first : Ptr) (g : Ptr → Hook) (r : Ptr)
+pub record IsLastFollowed (f : Ptr → Hook) (last : Ptr) (next : Address) (first : Ptr) (g : Ptr → Hook) (r : Ptr)
     : Type 0 where
   pub there : InBlock last
   pub wrote : Wrote f last (with_next (f last) next) g
   pub end : r ≡ first
 
 -- the node at `first` leads back to `prev`, and the list ends as before
-pub record IsFirstLed (f : Ptr → Hook) (first : Ptr) (prev : Address) (last : Ptr) (g : Ptr → Hook) (r : Ptr)
+pub record IsFirstPreceded (f : Ptr → Hook) (first : Ptr) (prev : Address) (last : Ptr) (g : Ptr → Hook) (r : Ptr)
     : Type 0 where
   pub there : InBlock first
   pub wrote : Wrote f first (with_prev (f first) prev) g
   pub end : r ≡ last
 
 -- the node at `last` now leads to `next`, and r is the first; where `last` is null there is no node, and r is `next`
-abbrev pub IsLedOn : (f : Ptr → Hook) (last : Ptr) (next : Address) (first : Ptr) (g : Ptr → Hook) (r : Ptr) → Type 0
-IsLedOn f last next first g r = IsLedNowhere f last next g r ⊎ IsLastLed f last next first g r
+abbrev pub IsFollowedBy : (f : Ptr → Hook) (last : Ptr) (next : Address) (first : Ptr) (g : Ptr → Hook) (r : Ptr)
+    → Type 0
+IsFollowedBy f last next first g r = IsBesideNone f last next g r ⊎ IsLastFollowed f last next first g r
 
 -- the node at `first` now leads back to `prev`, and r is the last; where `first` is null there is no node, and r is
 -- `prev`
-abbrev pub IsLedBack : (f : Ptr → Hook) (first : Ptr) (prev : Address) (last : Ptr) (g : Ptr → Hook) (r : Ptr) → Type 0
-IsLedBack f first prev last g r = IsLedNowhere f first prev g r ⊎ IsFirstLed f first prev last g r
+abbrev pub IsPrecededBy : (f : Ptr → Hook) (first : Ptr) (prev : Address) (last : Ptr) (g : Ptr → Hook) (r : Ptr)
+    → Type 0
+IsPrecededBy f first prev last g r = IsBesideNone f first prev g r ⊎ IsFirstPreceded f first prev last g r
 
 -- the list with these ends has two parts: s, of which the last is at `prev`, and t, of which the first is at `next`
 pub record IsParted (f : Ptr → Hook) (e : Ends) (s : List Ptr) (prev next : Ptr) (t : List Ptr) : Type 0 where

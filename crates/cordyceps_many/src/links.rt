@@ -9,7 +9,7 @@ ghost use Rattle.cordyceps_many.specs.Threads.{is_in, without, with_before, with
 use crate::block::Row;
 use crate::hook::{Ends, Hook};
 use crate::hooks::Hooks;
-use crate::rows::{hook_of, led_back, led_on, set_hook, unmark};
+use crate::rows::{followed_by, hook_of, preceded_by, set_hook, unmark};
 use cordyceps_base::boxes::Address;
 use cordyceps_stable::addresses::address_of;
 use cordyceps_stable::stable_list::Spot;
@@ -33,7 +33,7 @@ pub(crate) fn put_last<T, H: Hooks>(row: &mut Row<T, H>, i: usize, at: Spot, end
         linked: true,
     };
     set_hook(row, i, at, hook);
-    let first = led_on(row, i, first, last, at);
+    let first = followed_by(row, i, first, last, at);
     Ends {
         first,
         last: at,
@@ -60,7 +60,7 @@ pub(crate) fn put_first<T, H: Hooks>(row: &mut Row<T, H>, i: usize, at: Spot, en
         linked: true,
     };
     set_hook(row, i, at, hook);
-    let last = led_back(row, i, first, last, at);
+    let last = preceded_by(row, i, first, last, at);
     Ends {
         first: at,
         last,
@@ -95,8 +95,8 @@ fn put_between<T, H: Hooks>(
         linked: true,
     };
     set_hook(row, i, at, hook);
-    let first = led_on(row, i, first, prev, at);
-    let last = led_back(row, i, next, last, at);
+    let first = followed_by(row, i, first, prev, at);
+    let last = preceded_by(row, i, next, last, at);
     Ends {
         first,
         last,
@@ -164,8 +164,8 @@ pub(crate) fn cut_open<T, H: Hooks>(row: &mut Row<T, H>, i: usize, at: Spot, end
     let at = address_of(at);
     let Hook { next, prev, .. } = hook_of(row, i, at);
     let Ends { first, last, len } = ends;
-    let first = led_on(row, i, first, prev, next);
-    let last = led_back(row, i, next, last, prev);
+    let first = followed_by(row, i, first, prev, next);
+    let last = preceded_by(row, i, next, last, prev);
     Ends {
         first,
         last,

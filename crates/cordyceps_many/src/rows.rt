@@ -3,7 +3,7 @@ ghost use Rattle.std.specs.Prelude.{◌≡◌, ℕ, ◌<◌, true, false};
 ghost use Rattle.cordyceps_base.specs.Boxes.{box_addresses};
 ghost use Rattle.cordyceps_base.specs.Spots.{AreDistinct, AreNullComparable};
 ghost use Rattle.cordyceps_many.specs.Rows.{IsJoined, IsOut, hook_at, Reaches, KeepsOthers};
-ghost use Rattle.cordyceps_many.specs.Threads.{is_in, with_next, with_prev, unmarked, Wrote, IsLedOn, IsLedBack};
+ghost use Rattle.cordyceps_many.specs.Threads.{is_in, with_next, with_prev, unmarked, Wrote, IsFollowedBy, IsPrecededBy};
 
 use crate::block::Row;
 use crate::hook::Hook;
@@ -108,7 +108,7 @@ pub(crate) fn unmark<T, H: Hooks>(row: &mut Row<T, H>, i: usize, at: Address)
 
 /// Makes the node at `last`, if it is not null, lead to `next` in list `i`. Returns `first`, or `next` where `last` is
 /// null.
-pub(crate) fn led_on<T, H: Hooks>(
+pub(crate) fn followed_by<T, H: Hooks>(
     row: &mut Row<T, H>,
     i: usize,
     first: Address,
@@ -117,8 +117,8 @@ pub(crate) fn led_on<T, H: Hooks>(
 ) -> Address
     requires reaches { Reaches last.ptr row.old.boxes.blocks }
     requires within { i < H.count }
-    ensures led { IsLedOn (hook_at row.old.boxes.blocks i) last.ptr next first.ptr (hook_at row.new.boxes.blocks i)
-        result.ptr }
+    ensures followed { IsFollowedBy (hook_at row.old.boxes.blocks i) last.ptr next first.ptr
+        (hook_at row.new.boxes.blocks i) result.ptr }
     ensures rest { KeepsOthers i row.old.boxes.blocks row.new.boxes.blocks }
 {
     if last.is_not_null() {
@@ -131,7 +131,7 @@ pub(crate) fn led_on<T, H: Hooks>(
 
 /// Makes the node at `first`, if it is not null, lead back to `prev` in list `i`. Returns `last`, or `prev` where
 /// `first` is null.
-pub(crate) fn led_back<T, H: Hooks>(
+pub(crate) fn preceded_by<T, H: Hooks>(
     row: &mut Row<T, H>,
     i: usize,
     first: Address,
@@ -140,8 +140,8 @@ pub(crate) fn led_back<T, H: Hooks>(
 ) -> Address
     requires reaches { Reaches first.ptr row.old.boxes.blocks }
     requires within { i < H.count }
-    ensures led { IsLedBack (hook_at row.old.boxes.blocks i) first.ptr prev last.ptr (hook_at row.new.boxes.blocks i)
-        result.ptr }
+    ensures preceded { IsPrecededBy (hook_at row.old.boxes.blocks i) first.ptr prev last.ptr
+        (hook_at row.new.boxes.blocks i) result.ptr }
     ensures rest { KeepsOthers i row.old.boxes.blocks row.new.boxes.blocks }
 {
     if first.is_not_null() {

@@ -100,6 +100,21 @@ impl<'a, T> SpotCursor<'a, T> {
     ///
     /// # Complexity
     /// O(1).
+    ///
+    /// # Examples
+    /// From `tour::take_least` of `cordyceps_uses`:
+    /// ```
+    /// let mut cursor = jobs.cursor_front();
+    /// // This is the spot of the best job that the cursor has passed.
+    /// let mut best = cursor.spot()?;
+    /// cursor.move_next();
+    /// while let Some(at) = cursor.spot() {
+    ///     if jobs.get(at).rank < jobs.get(best).rank {
+    ///         best = at;
+    ///     }
+    ///     cursor.move_next();
+    /// }
+    /// ```
     pub fn move_next(&mut self)
         ensures nodes { self.new.nodes ≡ self.old.nodes }
         ensures moved { IsOn self.old.nodes self.old.spot self.new.spot }
@@ -125,6 +140,21 @@ impl<'a, T> SpotCursor<'a, T> {
     ///
     /// # Complexity
     /// O(1).
+    ///
+    /// # Examples
+    /// From `tour::take_least` of `cordyceps_uses`:
+    /// ```
+    /// let mut cursor = jobs.cursor_front();
+    /// // This is the spot of the best job that the cursor has passed.
+    /// let mut best = cursor.spot()?;
+    /// cursor.move_next();
+    /// while let Some(at) = cursor.spot() {
+    ///     if jobs.get(at).rank < jobs.get(best).rank {
+    ///         best = at;
+    ///     }
+    ///     cursor.move_next();
+    /// }
+    /// ```
     pub fn spot(&self) -> Option<Spot>
         ensures spot { result ≡ self.now.spot }
         ensures there { IfSome result (λ p. HasSpot self.now.nodes p) }

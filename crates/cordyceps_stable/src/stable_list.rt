@@ -25,6 +25,13 @@ use std::marker::Model;
 /// It is valid for the collection that has the element, as long as that has it. Each call that takes a spot requires a
 /// valid one, and the contract of each call of a list says which spots are valid after it. Nothing checks this when the
 /// program runs. Spots cannot be compared, and `Debug` prints no address.
+///
+/// # Examples
+/// From `timer_wheel::TimerWheel::start` of `cordyceps_uses`:
+/// ```
+/// let spot = self.slots[slot].push_back(timer);
+/// Ok(Ticket { deadline, spot })
+/// ```
 #[repr(C)]
 #[derive(Clone, Copy)]
 #[derive_where(Debug)]
@@ -177,6 +184,14 @@ impl<T: Linked<Links<T>>> StableList<T> {
     ///
     /// # Complexity
     /// O(1).
+    ///
+    /// # Examples
+    /// From `timer_wheel::TimerWheel::tick` of `cordyceps_uses`:
+    /// ```
+    /// let due = mem::replace(&mut self.slots[slot], StableList::new());
+    /// self.time += 1;
+    /// due.into_list()
+    /// ```
     pub fn into_list(self) -> List<T>
         ensures { result ≡ elements self }
     {
@@ -208,6 +223,13 @@ impl<T: Linked<Links<T>>> StableList<T> {
     ///
     /// # Complexity
     /// O(1).
+    ///
+    /// # Examples
+    /// From `list::List::find` of `cordyceps_c_lists`:
+    /// ```
+    /// self.list.spots_are_distinct();
+    /// self.tickets.find(at)
+    /// ```
     pub fn spots_are_distinct(&self)
         ensures { AreDistinct (spots self.now) }
     {
@@ -218,6 +240,14 @@ impl<T: Linked<Links<T>>> StableList<T> {
     ///
     /// # Complexity
     /// O(1).
+    ///
+    /// # Examples
+    /// From `list::List::push_front` of `cordyceps_c_lists`:
+    /// ```
+    /// let spot = self.list.push_front(member);
+    /// self.tickets.give(ticket, spot);
+    /// Some(ticket)
+    /// ```
     pub fn push_front(&mut self, handle: T::Handle) -> Spot
         requires { length self.old < usize.MAX }
         ensures holds { self.new ≡ (result, T.element handle) ∷ self.old }
@@ -234,6 +264,14 @@ impl<T: Linked<Links<T>>> StableList<T> {
     ///
     /// # Complexity
     /// O(1).
+    ///
+    /// # Examples
+    /// From `list::List::push_back` of `cordyceps_c_lists`:
+    /// ```
+    /// let spot = self.list.push_back(member);
+    /// self.tickets.give(ticket, spot);
+    /// Some(ticket)
+    /// ```
     pub fn push_back(&mut self, handle: T::Handle) -> Spot
         requires { length self.old < usize.MAX }
         ensures holds { self.new ≡ self.old ++ (result, T.element handle) ∷ [] }
@@ -295,6 +333,14 @@ impl<T: Linked<Links<T>>> StableList<T> {
     ///
     /// # Complexity
     /// O(1).
+    ///
+    /// # Examples
+    /// From `list::List::insert_before` of `cordyceps_c_lists`:
+    /// ```
+    /// let spot = self.list.insert_before(at, member);
+    /// self.tickets.give(ticket, spot);
+    /// Some(ticket)
+    /// ```
     pub fn insert_before(&mut self, at: Spot, handle: T::Handle) -> Spot
         requires there { HasSpot self.old at }
         requires fits { length self.old < usize.MAX }
@@ -313,6 +359,14 @@ impl<T: Linked<Links<T>>> StableList<T> {
     ///
     /// # Complexity
     /// O(1).
+    ///
+    /// # Examples
+    /// From `list::List::insert_after` of `cordyceps_c_lists`:
+    /// ```
+    /// let spot = self.list.insert_after(at, member);
+    /// self.tickets.give(ticket, spot);
+    /// Some(ticket)
+    /// ```
     pub fn insert_after(&mut self, at: Spot, handle: T::Handle) -> Spot
         requires there { HasSpot self.old at }
         requires fits { length self.old < usize.MAX }
@@ -330,6 +384,13 @@ impl<T: Linked<Links<T>>> StableList<T> {
     ///
     /// # Complexity
     /// O(1).
+    ///
+    /// # Examples
+    /// From `timer_wheel::TimerWheel::cancel` of `cordyceps_uses`:
+    /// ```
+    /// let slot = self.slot(ticket.deadline);
+    /// self.slots[slot].remove(ticket.spot)
+    /// ```
     pub fn remove(&mut self, at: Spot) -> T::Handle
         requires { HasSpot self.old at }
         ensures taken { IsTaken self.old at (T.element result) self.new }
@@ -369,6 +430,13 @@ impl<T: Linked<Links<T>>> StableList<T> {
     ///
     /// # Complexity
     /// O(1).
+    ///
+    /// # Examples
+    /// From `list::List::pop_front` of `cordyceps_c_lists`:
+    /// ```
+    /// let member = self.list.pop_front()?;
+    /// Some(end(&mut self.tickets, member))
+    /// ```
     pub fn pop_front(&mut self) -> Option<T::Handle>
         ensures taken { MatchOption result ((self.old ≡ []) × (self.new ≡ []))
             (λ h. (spot : Ptr) × (self.old ≡ (spot, T.element h) ∷ self.new)) }
@@ -387,6 +455,13 @@ impl<T: Linked<Links<T>>> StableList<T> {
     ///
     /// # Complexity
     /// O(1).
+    ///
+    /// # Examples
+    /// From `list::List::pop_back` of `cordyceps_c_lists`:
+    /// ```
+    /// let member = self.list.pop_back()?;
+    /// Some(end(&mut self.tickets, member))
+    /// ```
     pub fn pop_back(&mut self) -> Option<T::Handle>
         ensures taken { MatchOption result ((self.old ≡ []) × (self.new ≡ []))
             (λ h. (spot : Ptr) × (self.old ≡ self.new ++ (spot, T.element h) ∷ [])) }
@@ -405,6 +480,13 @@ impl<T: Linked<Links<T>>> StableList<T> {
     ///
     /// # Complexity
     /// O(1).
+    ///
+    /// # Examples
+    /// From `list::List::get` of `cordyceps_c_lists`:
+    /// ```
+    /// let spot = self.find(at)?;
+    /// Some(self.list.get(spot).payload)
+    /// ```
     pub fn get(&self, at: Spot) -> &T
         requires { HasSpot self.now at }
         ensures { HoldsAt self.now at result.now }
@@ -417,6 +499,12 @@ impl<T: Linked<Links<T>>> StableList<T> {
     ///
     /// # Complexity
     /// O(1).
+    ///
+    /// # Examples
+    /// From `renewing::change_at` of `cordyceps_clock`:
+    /// ```
+    /// change(list.get_mut(at))
+    /// ```
     pub fn get_mut(&mut self, at: Spot) -> &mut T
         requires { HasSpot self.old at }
         ensures* writes_back { sem 𝓛 (LendsSpot T.row self.entry at result) }
@@ -431,6 +519,13 @@ impl<T: Linked<Links<T>>> StableList<T> {
     ///
     /// # Complexity
     /// O(1).
+    ///
+    /// # Examples
+    /// From `list::List::front` of `cordyceps_c_lists`:
+    /// ```
+    /// let spot = self.list.front()?;
+    /// Some(self.ticket_at(spot))
+    /// ```
     pub fn front(&self) -> Option<Spot>
         ensures first { MatchOption result (self.now ≡ []) (λ p. IsFirst self.now p) }
         ensures there { IfSome result (λ p. HasSpot self.now p) }
@@ -442,6 +537,13 @@ impl<T: Linked<Links<T>>> StableList<T> {
     ///
     /// # Complexity
     /// O(1).
+    ///
+    /// # Examples
+    /// From `list::List::back` of `cordyceps_c_lists`:
+    /// ```
+    /// let spot = self.list.back()?;
+    /// Some(self.ticket_at(spot))
+    /// ```
     pub fn back(&self) -> Option<Spot>
         ensures last { MatchOption result (self.now ≡ []) (λ p. IsLast self.now p) }
         ensures there { IfSome result (λ p. HasSpot self.now p) }
@@ -453,6 +555,14 @@ impl<T: Linked<Links<T>>> StableList<T> {
     ///
     /// # Complexity
     /// O(1).
+    ///
+    /// # Examples
+    /// From `list::List::next` of `cordyceps_c_lists`:
+    /// ```
+    /// let at = self.find(at)?;
+    /// let next = self.list.next(at)?;
+    /// Some(self.ticket_at(next))
+    /// ```
     pub fn next(&self, at: Spot) -> Option<Spot>
         requires { HasSpot self.now at }
         ensures step { MatchOption result (IsLast self.now at) (λ p. AreNext self.now at p) }
@@ -466,6 +576,14 @@ impl<T: Linked<Links<T>>> StableList<T> {
     ///
     /// # Complexity
     /// O(1).
+    ///
+    /// # Examples
+    /// From `list::List::prev` of `cordyceps_c_lists`:
+    /// ```
+    /// let at = self.find(at)?;
+    /// let prev = self.list.prev(at)?;
+    /// Some(self.ticket_at(prev))
+    /// ```
     pub fn prev(&self, at: Spot) -> Option<Spot>
         requires { HasSpot self.now at }
         ensures step { MatchOption result (IsFirst self.now at) (λ p. AreNext self.now p at) }
@@ -502,6 +620,16 @@ impl<T: Linked<Links<T>>> StableList<T> {
     ///
     /// # Complexity
     /// O(1).
+    ///
+    /// # Examples
+    /// From `list::List::move_to_front` of `cordyceps_c_lists`:
+    /// ```
+    /// let Some(spot) = self.find(at) else {
+    ///     return false;
+    /// };
+    /// self.list.move_to_front(spot);
+    /// true
+    /// ```
     pub fn move_to_front(&mut self, at: Spot)
         requires { HasSpot self.old at }
         ensures moved { IsMovedFront self.old at self.new }
@@ -518,6 +646,16 @@ impl<T: Linked<Links<T>>> StableList<T> {
     ///
     /// # Complexity
     /// O(1).
+    ///
+    /// # Examples
+    /// From `list::List::move_to_back` of `cordyceps_c_lists`:
+    /// ```
+    /// let Some(spot) = self.find(at) else {
+    ///     return false;
+    /// };
+    /// self.list.move_to_back(spot);
+    /// true
+    /// ```
     pub fn move_to_back(&mut self, at: Spot)
         requires { HasSpot self.old at }
         ensures moved { IsMovedBack self.old at self.new }
@@ -534,6 +672,16 @@ impl<T: Linked<Links<T>>> StableList<T> {
     ///
     /// # Complexity
     /// O(1).
+    ///
+    /// # Examples
+    /// From `list::List::move_after` of `cordyceps_c_lists`:
+    /// ```
+    /// if at.slot == to.slot {
+    ///     return false;
+    /// }
+    /// self.list.move_after(spot, after);
+    /// true
+    /// ```
     pub fn move_after(&mut self, at: Spot, to: Spot)
         requires there { HasSpot self.old at }
         requires target { HasSpot self.old to }
@@ -580,6 +728,21 @@ impl<T: Linked<Links<T>>> StableList<T> {
     ///
     /// # Complexity
     /// O(1).
+    ///
+    /// # Examples
+    /// From `tour::take_least` of `cordyceps_uses`:
+    /// ```
+    /// let mut cursor = jobs.cursor_front();
+    /// // This is the spot of the best job that the cursor has passed.
+    /// let mut best = cursor.spot()?;
+    /// cursor.move_next();
+    /// while let Some(at) = cursor.spot() {
+    ///     if jobs.get(at).rank < jobs.get(best).rank {
+    ///         best = at;
+    ///     }
+    ///     cursor.move_next();
+    /// }
+    /// ```
     pub fn cursor_front(&self) -> SpotCursor<'_, T>
         ensures nodes { result.nodes ≡ self.now }
         ensures spot { MatchOption result.spot (self.now ≡ []) (λ p. IsFirst self.now p) }

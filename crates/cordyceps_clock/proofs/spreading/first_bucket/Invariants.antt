@@ -8,8 +8,8 @@ use Rattle.cordyceps_clock.proofs.spreading.first_bucket.Given as goal
 
 abbrev pub invariant-loop-next : goal.invariant-loop-next
 invariant-loop-next g l =
-    Counted l.list l.first.len l.next (λ seen. (of : g.row.T.Denot → ℕ) (e : Element g.row.T.Denot) (after : Nodes g.row.T.Denot) → g.O.Times.computes_by l.time of → l.list ≡ (l.fn.at, e) ∷ after → bucket_of l.now (of e.value) ≡ l.k
-    → IsLeastOf of l.now l.k l.first.least l.first.at seen)
+    Counted l.list l.first.len l.next (λ seen. (of : g.row.T.Denot → ℕ) (e : Element g.row.T.Denot) (after : Nodes g.row.T.Denot) → g.O.Times.computes_by l.times of → l.list ≡ (l.fn.at, e) ∷ after → bucket_of l.clock (of e.value) ≡ l.k
+    → IsLeastOf of l.clock l.k l.first.least l.first.at seen)
 
 abbrev pub decreases-loop-next : goal.decreases-loop-next
 decreases-loop-next g l = nodes_from l.list l.next

@@ -8,7 +8,7 @@ use Rattle.cordyceps_clock.proofs.clock_queue.ClockQueue.try_push.Goals as goal
 pub returns-clause-pushed : goal.returns-clause-pushed
 returns-clause-pushed g c =
     let e = g.T.Linked.element c.from_ptr-handle.result in
-    let clock = ap (λ (s : Clocked g.row.T.Denot g.row.O.Denot). s.clock) c.self.view_is in
+    let clock_is = ap (λ (s : Clocked g.row.T.Denot g.row.O.Denot). s.clock) c.self.view_is in
     let same = c.from_ptr-handle.ensures ∙ c.into_ptr-node.ensures in
     let (low, high, is, was) = c.push.ensures.others in (
       (low, high, is ∙ (λ i. low ++ (c.push.result, same i) ∷ high), was),
@@ -16,7 +16,7 @@ returns-clause-pushed g c =
       λ of has.
           let own = subst (λ (s : Clocked g.row.T.Denot g.row.O.Denot). g.O.Times.computes_by s.time of) (sym c.self.view_is) has in
           let time : c.time-due.result ≡ of (g.T.Linked.element c.args.handle).value = c.time-due.ensures of own ∙ ap of (c.get.ensures ∙ ap (λ (x : Element g.row.T.Denot). x.value) c.into_ptr-node.ensures) in (
-            omega (arith, time, clock, c.if-due-self.false),
+            omega (arith, time, clock_is, c.if-due-self.false),
             λ a h. subst (λ (x : Element g.row.T.Denot). Holds (by_key nat_cmp of) c.push.new.self.nodes (a ++ (c.push.result, x) ∷ [])) same (c.push.ensures.arrivals of a has h),
           ),
     )

@@ -13,20 +13,20 @@ use Rattle.cordyceps_heap.proofs.stable_heap.StableHeap.front.Goals as goal
 
 pub first-first-requires-clause-some : goal.first-first-requires-clause-some
 first-first-requires-clause-some g c =
-    let s = c.settle_for_least-line.ensures.least in (s.first, s.others, least_there _ c.settle_for_least-line.new.lines c.settle_for_least-line.result s)
+    let s = c.settle_for_least-line.ensures.least in (s.first, s.others, least_there _ c.settle_for_least-line.new.self.lines c.settle_for_least-line.result s)
 
 pub invariant_of-self : goal.invariant_of-self
 invariant_of-self g c =
-    let sorted = c.settle_for_least-line.new.lines in
+    let sorted = c.settle_for_least-line.new.self.lines in
     let now : settled c.push.new.self ≡ sorted = none_fresh c.push.new.self sorted c.empty.result c.push.ensures c.empty.ensures in (
-      c.self.invariant.0 ∙ sym (ap (λ s. length (flat s)) now ∙ length_permutation (flat (settled c.self.inside.lines)) (flat sorted) c.settle_for_least-line.ensures.kept),
+      c.self.invariant.0 ∙ sym (ap (λ s. length (flat s)) now ∙ length_permutation (flat (settled c.self.inside.ranked.lines)) (flat sorted) c.settle_for_least-line.ensures.kept),
       has_last c.push.new.self sorted c.empty.result c.push.ensures c.settle_for_least-line.ensures.room,
     )
 
 pub returns-clause-first : goal.returns-clause-first
 returns-clause-first g c =
     let view = ap (λ (s : Heaped g.row.T.Denot g.row.O.Denot). s.lines) c.self.view_is in
-    let sorted = c.settle_for_least-line.new.lines in let k = c.settle_for_least-line.result in let p = c.spot_at.result in
+    let sorted = c.settle_for_least-line.new.self.lines in let k = c.settle_for_least-line.result in let p = c.spot_at.result in
     let now : settled c.push.new.self ≡ sorted = none_fresh c.push.new.self sorted c.empty.result c.push.ensures c.empty.ensures in
     let (e, l, at) = c.first-first.ensures in
     let there = subst (λ q. slice_get sorted k ≡ Some ((q, e) ∷ l)) (sym c.spot_at.ensures) at in (
@@ -41,7 +41,7 @@ returns-clause-first g c =
 pub returns-clause-arrivals : goal.returns-clause-arrivals
 returns-clause-arrivals g c = λ cmp a by h.
     let view = ap (λ (s : Heaped g.row.T.Denot g.row.O.Denot). s.lines) c.self.view_is in
-    let sorted = c.settle_for_least-line.new.lines in
+    let sorted = c.settle_for_least-line.new.self.lines in
     let now : settled c.push.new.self ≡ sorted = none_fresh c.push.new.self sorted c.empty.result c.push.ensures c.empty.ensures in
     let asked = subst (λ (s : Heaped g.row.T.Denot g.row.O.Denot). g.O.Order.compares_by s.order cmp) (sym c.self.view_is) by in
     subst (λ s. Holds cmp s a) (sym now) (c.settle_for_least-line.ensures.arrivals cmp a asked (subst (λ s. Holds cmp s a) (sym view) h))
@@ -49,9 +49,9 @@ returns-clause-arrivals g c = λ cmp a by h.
 pub returns-clause-kept : goal.returns-clause-kept
 returns-clause-kept g c =
     let view = ap (λ (s : Heaped g.row.T.Denot g.row.O.Denot). s.lines) c.self.view_is in
-    let sorted = c.settle_for_least-line.new.lines in
+    let sorted = c.settle_for_least-line.new.self.lines in
     let now : settled c.push.new.self ≡ sorted = none_fresh c.push.new.self sorted c.empty.result c.push.ensures c.empty.ensures in
-    subst (λ s. IsPermutation (flat s) (flat (settled c.push.new.self))) view (subst (λ s. IsPermutation (flat (settled c.self.inside.lines)) (flat s)) (sym now) c.settle_for_least-line.ensures.kept)
+    subst (λ s. IsPermutation (flat s) (flat (settled c.push.new.self))) view (subst (λ s. IsPermutation (flat (settled c.self.inside.ranked.lines)) (flat s)) (sym now) c.settle_for_least-line.ensures.kept)
 
 pub returns-clause-distinct : goal.returns-clause-distinct
 returns-clause-distinct g c = settled_distinct c.push.new.self c.are_distinct-2.ensures

@@ -11,7 +11,7 @@ use Rattle.cordyceps_heap.proofs.stable_heap.StableHeap.into_list.Goals as goal
 pub append_line-requires : goal.append_line-requires
 append_line-requires g c =
     let none = ap length c.new-list.ensures in
-    let n = length_permutation (flat (settled c.self.inside.lines)) (flat c.settle.new.lines) c.settle.ensures.kept in let m = length_permutation (flat c.settle.new.lines) c.one_line-line.result.0 c.one_line-line.ensures.kept in
+    let n = length_permutation (flat (settled c.self.inside.ranked.lines)) (flat c.settle.new.self.lines) c.settle.ensures.kept in let m = length_permutation (flat c.settle.new.self.lines) c.one_line-line.result.0 c.one_line-line.ensures.kept in
     let view = ap (λ (s : Heaped g.row.T.Denot g.row.O.Denot). length (flat s.lines)) c.self.view_is in
     let long = c.len-len.ensures in let fits = c.len-len.type_inv in omega (arith, none, n, m, view, long, fits)
 
@@ -30,5 +30,5 @@ returns-clause-kept g c =
     let line : Nodes g.row.T.Denot = c.one_line-line.result.0 in (
       line,
       c.append_line.ensures ∙ ap (λ l. l ++ elements line) c.new-list.ensures,
-      subst (λ ls. IsPermutation (flat ls) line) view (IsPermutation-trans (flat (settled c.self.inside.lines)) (flat c.settle.new.lines) line c.settle.ensures.kept c.one_line-line.ensures.kept),
+      subst (λ ls. IsPermutation (flat ls) line) view (IsPermutation-trans (flat (settled c.self.inside.ranked.lines)) (flat c.settle.new.self.lines) line c.settle.ensures.kept c.one_line-line.ensures.kept),
     )

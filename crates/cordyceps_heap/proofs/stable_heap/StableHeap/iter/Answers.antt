@@ -9,12 +9,12 @@ use Rattle.cordyceps_heap.proofs.stable_heap.StableHeap.iter.Goals as goal
 
 pub over-requires : goal.over-requires
 over-requires g c =
-    let lines = c.self.inside.lines in
+    let lines = c.self.inside.ranked.lines in
     c.self.invariant.0 ∙ length_permutation (flat lines) (flat (settled lines)) (settled_kept lines)
 
 pub returns : goal.returns
 returns g c =
-    let lines = c.self.inside.lines in let all = flat (settled lines) in
+    let lines = c.self.inside.ranked.lines in let all = flat (settled lines) in
     let view = ap (λ (s : Heaped g.row.T.Denot g.row.O.Denot). s.lines) c.self.view_is in
     let kept = IsPermutation-sym (flat lines) all (settled_kept lines) in
     subst (λ s. IsPermutation (entries (flat s)) c.over.result) view

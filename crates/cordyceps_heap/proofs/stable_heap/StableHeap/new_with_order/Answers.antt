@@ -5,7 +5,7 @@ use Rattle.cordyceps_heap.proofs.Settled.{holds_none, none_fresh}
 use Rattle.cordyceps_heap.proofs.stable_heap.StableHeap.new_with_order.Goals as goal
 
 pub returns-clause-nodes : goal.returns-clause-nodes
-returns-clause-nodes g c = ap flat (none_fresh c.push.new.self c.new-lines.result c.empty.result c.push.ensures c.empty.ensures ∙ c.new-lines.ensures)
+returns-clause-nodes g c = ap flat (none_fresh c.push.new.self c.new-ranked.result.lines c.empty.result c.push.ensures c.empty.ensures ∙ c.new-ranked.ensures)
 
 pub returns-clause-arrivals : goal.returns-clause-arrivals
-returns-clause-arrivals g c = λ cmp. holds_none cmp (settled c.push.new.self) (none_fresh c.push.new.self c.new-lines.result c.empty.result c.push.ensures c.empty.ensures ∙ c.new-lines.ensures)
+returns-clause-arrivals g c = λ cmp. holds_none cmp (settled c.push.new.self) (none_fresh c.push.new.self c.new-ranked.result.lines c.empty.result c.push.ensures c.empty.ensures ∙ c.new-ranked.ensures)

@@ -9,4 +9,4 @@ use Rattle.cordyceps_heap.proofs.stable_heap.StableHeap.spots_are_distinct.Goals
 pub returns : goal.returns
 returns g c =
     let view = ap (λ (s : Heaped g.row.T.Denot g.row.O.Denot). s.lines) c.self.view_is in
-    subst (λ s. AreDistinct (spots (flat s))) view (settled_distinct c.self.inside.lines c.are_distinct.ensures)
+    subst (λ s. AreDistinct (spots (flat s))) view (settled_distinct c.self.inside.ranked.lines c.are_distinct.ensures)

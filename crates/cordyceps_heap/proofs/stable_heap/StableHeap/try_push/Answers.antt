@@ -9,4 +9,4 @@ use Rattle.cordyceps_heap.proofs.stable_heap.StableHeap.try_push.Goals as goal
 pub returns-then-len-clause-distinct : goal.returns-then-len-clause-distinct
 returns-then-len-clause-distinct g c =
     let view = ap (λ (s : Heaped g.row.T.Denot g.row.O.Denot). s.lines) c.self.view_is in
-    subst (λ s. AreDistinct (spots (flat s))) view (settled_distinct c.self.inside.lines c.are_distinct.ensures)
+    subst (λ s. AreDistinct (spots (flat s))) view (settled_distinct c.self.inside.ranked.lines c.are_distinct.ensures)
