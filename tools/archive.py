@@ -52,7 +52,7 @@ def build(builds_below):
     """Proves the crate and builds its archive, unless the one that is kept is of these files. Answers its path, and
     what the proof came to. Where libraries below are missing or older than their files, they are built, which takes
     minutes, or, without `builds_below`, there is no archive."""
-    rtlib, check, kit = common.rtlib(), common.script("check"), common.kit(HEAP, "toolchain/bin/llvm-ar")
+    rtlib, check, kit = common.rtlib(), common.script("prove_crate"), common.kit(HEAP, "toolchain/bin/llvm-ar")
     crate = {it.name: it for it in rtlib.crates_below(TOP)}[CRATE]
     kept, sum = f"{crate.folder}/out/c", sum_of(crate)
     said = f"{kept}/said"
