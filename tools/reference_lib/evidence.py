@@ -1,12 +1,12 @@
 """What holds a contract: the promises of the documents of theorems, and the wrong bodies."""
 
-import importlib.machinery
-import importlib.util
 import os
 import re
 from collections import defaultdict, namedtuple
 from functools import lru_cache
 from types import SimpleNamespace
+
+from lib import bodies
 
 from . import sources
 
@@ -25,15 +25,6 @@ Call = namedtuple("Call", "name item outer")
 WrongBody = namedtuple("WrongBody", "crate name functions promises")
 
 
-@lru_cache(None)
-def judge():
-    """The tool that judges wrong bodies, as a module: it reads them, and finds their functions."""
-    loader = importlib.machinery.SourceFileLoader("wrong_bodies", f"{sources.TOP}/tools/wrong_bodies")
-    module = importlib.util.module_from_spec(importlib.util.spec_from_loader("wrong_bodies", loader))
-    loader.exec_module(module)
-    return module
-
-
 def crates():
     return sorted(os.listdir(f"{sources.TOP}/crates"))
 
@@ -41,7 +32,7 @@ def crates():
 def type_of(outer):
     """The name of the type of an `impl` or of a trait, and the trait that an `impl` is of, or an empty text."""
     header = sources.header_of(outer)
-    types = judge().bodies.types_of(header)
+    types = bodies.types_of(header)
     # (a check puts a word before the name of a type that is borrowed)
     name = re.sub(r"^Ref(Mut)?", "", types[0]) if " for &" in header else types[0]
     return name, types[1].removeprefix(types[0]) if len(types) > 1 else ""
@@ -79,7 +70,7 @@ def wrong_bodies():
         crate = SimpleNamespace(name=name, folder=f"{sources.TOP}/crates/{name}")
         folder = f"{crate.folder}/wrong_bodies"
         for file in sorted(os.listdir(folder)) if os.path.isdir(folder) else ():
-            edit, _ = judge().read_edit(crate, file)
+            edit, _ = bodies.read_edit(crate, file)
             functions = {((name, it.path), it.first) for it in edit.functions} if edit else set()
             named = re.findall(r"^# promise: (.*)$", sources.text_of(f"{folder}/{file}"), re.M)
             found.append(WrongBody(name, file.removesuffix(".edit"), frozenset(functions), tuple(named)))

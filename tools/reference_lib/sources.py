@@ -9,7 +9,7 @@ import re
 from collections import namedtuple
 from functools import lru_cache
 
-from common import TOP, text_of  # noqa: F401 (others of these files take them from here)
+from lib.common import TOP, text_of  # noqa: F401 (others of these files take them from here)
 
 # An item: the file that it stands in, the number of its first line, its kind, its name, its visibility, its lines
 # without the doc comment, that comment, its attributes, and which file of specs each word comes from that its clauses

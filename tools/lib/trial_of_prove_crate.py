@@ -4,9 +4,8 @@ ends."""
 import os
 import shutil
 
-import common
-import toolchain
-from common import text_of, write
+from . import common, toolchain
+from .common import text_of, write
 
 # A stand-in for the prover, which writes what it is called for to a log. It knows one function of each crate, and
 # refuses the crate BAD. Like the prover, it refuses a build that is asked for its progress.

@@ -4,7 +4,7 @@ import os
 import re
 from collections import namedtuple
 
-from common import text_of
+from .common import text_of
 
 # A function in the sources: its file, its lines, what a check may call its type, if it has one, its name, and the
 # beginning of the `impl` or trait that it stands in, with the imports there.

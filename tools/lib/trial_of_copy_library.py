@@ -6,13 +6,14 @@ import os
 import re
 import shutil
 
-from common import files_in, text_of, write
+from .common import files_in, text_of, write
 
 BASE = "crates/cordyceps_base/src/lib.rt"
 START = "crates/cordyceps_start"
 GONE = "crates/cordyceps_list/src/gone.rt"
 PROGRAMS = ("cordyceps_uses", "cordyceps_shared_uses")
 RECORD = "cordyceps.sums"
+PROVERS = ("tools/prove_crate", "tools/lib/__init__.py", "tools/lib/proving.py")
 SUM = "0" * 64
 NAMES_NO_FILE = "cordyceps.sums there has a line that names no file of a crate: "
 # Records that no copy has left, and what is said of each.
@@ -94,7 +95,7 @@ class Trial:
         write(f"{self.other}/crates.txt", "app: cordyceps_list\n")
         write(f"{self.top}/{GONE}", "//! Gone in the next version.\n")
         self.copied(0, "HANDLES: copied", "lists")
-        self.same(BASE, f"{START}/src/lib.rt", "HANDLES", ".gitignore", GONE, "tools/prove_crate")
+        self.same(BASE, f"{START}/src/lib.rt", "HANDLES", ".gitignore", GONE, *PROVERS)
         if not os.access(f"{self.other}/tools/prove_crate", os.X_OK):
             self.faults.append("tools/prove_crate cannot be run there")
         self.crates("cordyceps_base", "cordyceps_list", "cordyceps_start", "app")
@@ -191,7 +192,7 @@ class Trial:
         os.remove(f"{self.other}/{RECORD}")
         write(f"{self.other}/crates.txt", "app: cordyceps_list\n")
         self.copied(0, "crates.txt: lines written 3", "lists")
-        self.same(BASE, f"{START}/src/lib.rt", "HANDLES", ".gitignore", "tools/prove_crate")
+        self.same(BASE, f"{START}/src/lib.rt", "HANDLES", ".gitignore", *PROVERS)
         self.crates("cordyceps_base", "cordyceps_list", "cordyceps_start", "app")
 
 

@@ -3,7 +3,7 @@ a wrong body has and the right body has not."""
 
 import re
 
-import at_hand
+from . import at_hand
 
 BEGINS = re.compile(r"^(?:abbrev )?pub (\S+) : goal\.\S+", re.M)
 # The goals that a line of a check names as open, or as what an error in a proof is about.
