@@ -7,9 +7,10 @@ import shutil
 import tempfile
 from collections import Counter, namedtuple
 
-from . import answers, at_hand, bodies, common
-from .bodies import GOAL, functions_of, is_for_all, module_of, read_edit
+from . import answers, at_hand, common, edits, rattle_source
 from .common import text_of
+from .edits import GOAL, faults_in, parts_by, read_edit
+from .rattle_source import functions_of, is_for_all, module_of
 
 # A copy of a function under another name, with a wrong body: its file, its text, its name, and the folders of its proof
 # and of the function's, if there is one.
@@ -24,6 +25,8 @@ PROVED = re.compile(r"proved\b|no holes\b|depends on a hole\b")
 SURVIVES = "NOT REFUSED: the function is proved with this body"
 RENAMED = "NOT REFUSED: the right body's answers prove its goals, which have other names"
 CLOSURE = re.compile(r"(?:[(,={]\s*|\bmove\s+|&mut\s+)\|")
+# A body for a function of any type, where its proof is left open.
+ENDLESS = "loop {}"
 # A proof that is left open, by the module and the name of its function.
 OPEN_PROOF = """use Rattle.{module}.Statement.{{statement}}
 
@@ -97,8 +100,8 @@ def is_for_whole(crate, function):
     if not is_for_all(function.header):
         return False
     home = home_of(crate, function)
-    declared = home and bodies.declared_by(function.types[0], text_of(f"{crate.folder}/{home}"))
-    return not home or bodies.named_by(function.header) == declared
+    declared = home and rattle_source.declared_by(function.types[0], text_of(f"{crate.folder}/{home}"))
+    return not home or rattle_source.named_by(function.header) == declared
 
 
 def twin_of(crate, edit, number):
@@ -216,7 +219,7 @@ class Basis:
 
     def __init__(self, crate):
         self.crate = crate
-        files = [os.path.realpath(__file__), *(it.__file__ for it in (answers, at_hand, bodies, common))]
+        files = [os.path.realpath(__file__), *(it.__file__ for it in (answers, at_hand, common, edits, rattle_source))]
         for it in crate.below():
             read = common.files_in(f"{it.rlib}/lang", f"{it.rlib}/interface")
             # (what is left out has to do with the bodies and the proofs of the library's own functions)
@@ -227,7 +230,7 @@ class Basis:
         own = [it for it in parts["proofs"] if os.path.basename(it) in common.OWN_PROOF]
         # (what proves the law of a type belongs to no function)
         self.proofs = [it for it in own if it.split("/")[-2] in names or "/+" in it]
-        sources = [(it, bodies.without_bodies(it, text_of(it))) for it in parts["src"]]
+        sources = [(it, rattle_source.without_bodies(it, text_of(it))) for it in parts["src"]]
         said = [os.path.relpath(it, crate.folder) for it, _ in sources], [it for _, it in sources]
         libraries = [it.name for it in crate.below()]
         files += [it for it in every if it not in self.proofs]
@@ -373,9 +376,9 @@ class Judge:
                 proof = proof_of(self.crate, function, text.split("\n"))
                 if not proof or (path, function.types, function.name) in wrong:
                     continue
-                body = bodies.body_of(function, lines)
+                body = rattle_source.body_of(function, lines)
                 if body and body.stop > body.start:
-                    lines[body] = bodies.ENDLESS, *[""] * (body.stop - body.start - 1)
+                    lines[body] = ENDLESS, *[""] * (body.stop - body.start - 1)
                 folder = f"{room}/proofs/{proof}"
                 os.makedirs(folder, exist_ok=True)
                 for name in os.listdir(folder):
@@ -518,7 +521,7 @@ class Judge:
         is_there = folder and os.path.isfile(file)
         text = text_of(file) if is_there else answers.begun(self.crate.name, folder) if folder else ""
         function = min(edit.functions)
-        is_generic = bodies.is_generic(function, text_of(f"{self.crate.folder}/{function.path}"))
+        is_generic = rattle_source.is_generic(function, text_of(f"{self.crate.folder}/{function.path}"))
         drops = answers.drops_calls(*("\n".join(it) for it in zip(*lines)))
         it = answers.Suspect(folder, text, keeps, calls, named, terms, " g c" if is_generic else " c", drops)
         it.is_trusted = self.trusts
@@ -585,7 +588,7 @@ class Judge:
         if names and any(UNKNOWN.search(it) for it in said.lines):
             self.names, names = {}, ()
             said = self.check(texts, laid, twins, names, True)
-        faults = bodies.faults_in(said.lines)
+        faults = faults_in(said.lines)
         if not said.reached and not faults:
             said = self.check(texts, laid, twins, names, False)
         self.rounds += 1
@@ -602,7 +605,7 @@ class Judge:
             why = next((it for it in said.lines if "error" in it), "the check ended without a verdict")
             self.failed.append((edits[0].name, f"does not reach a verdict: {why}"))
             return []
-        parts = bodies.parts_by(faults, edits, laid, twins)
+        parts = parts_by(faults, edits, laid, twins)
         return [it for part in parts for it in self.round(part)]
 
     def run(self):

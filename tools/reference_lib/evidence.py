@@ -6,7 +6,7 @@ from collections import defaultdict, namedtuple
 from functools import lru_cache
 from types import SimpleNamespace
 
-from lib import bodies
+from lib import edits, rattle_source
 
 from . import sources
 
@@ -32,7 +32,7 @@ def crates():
 def type_of(outer):
     """The name of the type of an `impl` or of a trait, and the trait that an `impl` is of, or an empty text."""
     header = sources.header_of(outer)
-    types = bodies.types_of(header)
+    types = rattle_source.types_of(header)
     # (a check puts a word before the name of a type that is borrowed)
     name = re.sub(r"^Ref(Mut)?", "", types[0]) if " for &" in header else types[0]
     return name, types[1].removeprefix(types[0]) if len(types) > 1 else ""
@@ -70,7 +70,7 @@ def wrong_bodies():
         crate = SimpleNamespace(name=name, folder=f"{sources.TOP}/crates/{name}")
         folder = f"{crate.folder}/wrong_bodies"
         for file in sorted(os.listdir(folder)) if os.path.isdir(folder) else ():
-            edit, _ = bodies.read_edit(crate, file)
+            edit, _ = edits.read_edit(crate, file)
             functions = {((name, it.path), it.first) for it in edit.functions} if edit else set()
             named = re.findall(r"^# promise: (.*)$", sources.text_of(f"{folder}/{file}"), re.M)
             found.append(WrongBody(name, file.removesuffix(".edit"), frozenset(functions), tuple(named)))
