@@ -24,8 +24,8 @@ TICKS = os.sysconf("SC_CLK_TCK")
 MISSING = "it was called in another way than this, or lacks something that it needs: a line says what"
 
 
-# What a check came to: its status, its lines, the processor seconds that it had used when it ended with each function, by
-# the function's name, those that it used in all, and its greatest memory in KB.
+# What a check came to: its status, its lines, the processor seconds that it had used when it ended with each function,
+# by the function's name, those that it used in all, and its greatest memory in KB.
 Checked = namedtuple("Checked", "status lines after whole memory")
 
 

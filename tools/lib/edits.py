@@ -2,18 +2,28 @@
 
 import os
 import re
-from collections import namedtuple
+from dataclasses import dataclass
 
 from .common import text_of
 from .rattle_source import Function, functions_of  # noqa: F401 (the examples make a Function)
 
-# A wrong body: its name, the lines that it changes, by file and number, the functions that these lie in, whether it is
-# tried alone, the goal that it names, and the terms of the right body's answer that are at hand there.
-Edit = namedtuple("Edit", "name lines functions is_alone goal terms", defaults=[None, ()])
 # A line with which the front end refuses a crate.
 FAULT = re.compile(r"(?:\./)?(src/\S+?\.rt):(\d+):\d+: error\b")
 # The lines of an edit that name a goal, and terms that are at hand there.
 GOAL = re.compile(r"^# (?:goal|at hand): .*\n", re.M)
+
+
+@dataclass(frozen=True)
+class Edit:
+    """A wrong body: its name, the lines that it changes, by file and number, the functions that these lie in, whether
+    it is tried alone, the goal that it names, and the terms of the right body's answer that are at hand there."""
+
+    name: str
+    lines: dict
+    functions: frozenset
+    is_alone: bool
+    goal: str = None
+    terms: tuple = ()
 
 
 def faults_in(lines):

@@ -6,6 +6,7 @@ An item begins on a line of its own, and ends before the next line at its indent
 
 import re
 from collections import namedtuple
+from dataclasses import dataclass
 from functools import lru_cache
 
 # An item: the file that it stands in, the number of its first line, its kind, its name, its visibility, its lines
@@ -13,9 +14,6 @@ from functools import lru_cache
 Item = namedtuple("Item", "file line kind name visible lines doc attributes words")
 # A clause of a contract: `requires`, `ensures` or `ensures*`, its name or an empty text, and its lines.
 Clause = namedtuple("Clause", "kind name lines")
-# A function: its file, its lines, what a check may call its type, if it has one, its name, and the beginning of the
-# `impl` or trait that it stands in, with the imports there.
-Function = namedtuple("Function", "path first last types name header")
 
 CONTINUES = re.compile(r"[{})\]]|where\b")
 ATTRIBUTE = re.compile(r"#!?\[")
@@ -24,6 +22,19 @@ HEAD = re.compile(
     r"|const|static|ghost use|ghost)\b ?(?P<name>\w+)?"
 )
 CLAUSE = re.compile(r"(requires|ensures\*?) ?(\w*)")
+
+
+@dataclass(frozen=True, order=True)
+class Function:
+    """A function: its file, its lines, what a check may call its type, if it has one, its name, and the beginning of
+    the `impl` or trait that it stands in, with the imports there."""
+
+    path: str
+    first: int
+    last: int
+    types: tuple
+    name: str
+    header: str
 
 
 def indent_of(line):
