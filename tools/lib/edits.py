@@ -5,7 +5,7 @@ import re
 from dataclasses import dataclass
 
 from .common import text_of
-from .rattle_source import Function, functions_of  # noqa: F401 (the examples make a Function)
+from .rattle_source import functions_of
 
 # A line with which the front end refuses a crate.
 FAULT = re.compile(r"(?:\./)?(src/\S+?\.rt):(\d+):\d+: error\b")
@@ -50,7 +50,8 @@ def parts_by(faults, edits, laid, twins):
 def has_fault(edit, twin, faults):
     """Whether one of the faults lies in what an edit wrote, or in a function that it makes wrong.
 
-    >>> edit = Edit("a", {("src/lib.rt", 9): "    x"}, {Function("src/lib.rt", 4, 6, (), "f", "")}, False)
+    >>> functions = functions_of("src/lib.rt", "\\n\\n\\nfn f() -> u8 {\\n    1\\n}\\n")
+    >>> edit = Edit("a", {("src/lib.rt", 9): "    x"}, frozenset(functions), False)
     >>> [has_fault(edit, None, [("src/lib.rt", it)]) for it in (3, 4, 6, 7, 9)]
     [False, True, True, False, True]
     """

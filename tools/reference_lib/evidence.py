@@ -31,7 +31,7 @@ def crates():
 
 def type_of(outer):
     """The name of the type of an `impl` or of a trait, and the trait that an `impl` is of, or an empty text."""
-    header = sources.header_of(outer)
+    header = rattle_source.header_of(outer)
     types = rattle_source.types_of(header)
     # (a check puts a word before the name of a type that is borrowed)
     name = re.sub(r"^Ref(Mut)?", "", types[0]) if " for &" in header else types[0]
@@ -47,7 +47,7 @@ def calls_in(file):
             found.append(Call(item.name, item, None))
         elif item.kind in ("impl", "trait"):
             name = type_of(item)[0]
-            mark = "&" if re.search(r" for &", sources.header_of(item)) else ""
+            mark = "&" if re.search(r" for &", rattle_source.header_of(item)) else ""
             found += [Call(f"{mark}{name}::{it.name}", it, item) for it in sources.inside(item) if it.kind == "fn"]
     return found
 
@@ -241,7 +241,7 @@ def refused_by(promise):
 
 def clauses_of(call):
     """The names of the clauses of a function."""
-    return [it.name for it in sources.contract_of(call.item)[1]]
+    return [it.name for it in rattle_source.contract_of(call.item)[1]]
 
 
 def is_type(cited):

@@ -7,7 +7,7 @@ from functools import lru_cache
 
 from lib import rattle_source
 from lib.common import TOP, text_of
-from lib.rattle_source import bare, contract_of, dedented, dedented_to, header_of, items_of  # noqa: F401 (for others)
+from lib.rattle_source import items_of
 
 # A file: its crate, its path in the crate, what its `//!` lines say, its items, and its words.
 File = namedtuple("File", "crate path about items words")
