@@ -3,6 +3,8 @@
 import re
 from functools import lru_cache
 
+from lib import rattle_source
+
 from . import evidence, sources
 
 BEGINS = re.compile(r"^ *(?:abbrev (?:pub )?|(?:pub )?(?:record|data) )([\w'-]+)", re.M)
@@ -85,9 +87,9 @@ def words_in(lines, words):
 def of_contract(call, clauses):
     """The definitions that the contract of a function names, or these clauses of it, and what it requires: with those
     of the trait's items beside it, and of what contracts see of its type."""
-    told = sources.contract_of(call.item)[1]
+    told = rattle_source.contract_of(call.item)[1]
     kept = [it for it in told if not clauses or it.name in clauses or it.kind == "requires"]
-    found = dict.fromkeys(words_in(sources.bare(kept), call.item.words))
+    found = dict.fromkeys(words_in(rattle_source.bare(kept), call.item.words))
     for outer in filter(None, (call.outer, evidence.model_of(call))):
         for it in sources.inside(outer):
             if it.kind == "ghost" and it.name not in ("view", "invariant", "inverse"):

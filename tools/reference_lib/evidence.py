@@ -1,12 +1,12 @@
 """What holds a contract: the promises of the documents of theorems, and the wrong bodies."""
 
-import importlib.machinery
-import importlib.util
 import os
 import re
 from collections import defaultdict, namedtuple
 from functools import lru_cache
 from types import SimpleNamespace
+
+from lib import edits, rattle_source
 
 from . import sources
 
@@ -25,23 +25,14 @@ Call = namedtuple("Call", "name item outer")
 WrongBody = namedtuple("WrongBody", "crate name functions promises")
 
 
-@lru_cache(None)
-def judge():
-    """The tool that judges wrong bodies, as a module: it reads them, and finds their functions."""
-    loader = importlib.machinery.SourceFileLoader("wrong_bodies", f"{sources.TOP}/tools/wrong_bodies")
-    module = importlib.util.module_from_spec(importlib.util.spec_from_loader("wrong_bodies", loader))
-    loader.exec_module(module)
-    return module
-
-
 def crates():
     return sorted(os.listdir(f"{sources.TOP}/crates"))
 
 
 def type_of(outer):
     """The name of the type of an `impl` or of a trait, and the trait that an `impl` is of, or an empty text."""
-    header = sources.header_of(outer)
-    types = judge().bodies.types_of(header)
+    header = rattle_source.header_of(outer)
+    types = rattle_source.types_of(header)
     # (a check puts a word before the name of a type that is borrowed)
     name = re.sub(r"^Ref(Mut)?", "", types[0]) if " for &" in header else types[0]
     return name, types[1].removeprefix(types[0]) if len(types) > 1 else ""
@@ -56,7 +47,7 @@ def calls_in(file):
             found.append(Call(item.name, item, None))
         elif item.kind in ("impl", "trait"):
             name = type_of(item)[0]
-            mark = "&" if re.search(r" for &", sources.header_of(item)) else ""
+            mark = "&" if re.search(r" for &", rattle_source.header_of(item)) else ""
             found += [Call(f"{mark}{name}::{it.name}", it, item) for it in sources.inside(item) if it.kind == "fn"]
     return found
 
@@ -79,7 +70,7 @@ def wrong_bodies():
         crate = SimpleNamespace(name=name, folder=f"{sources.TOP}/crates/{name}")
         folder = f"{crate.folder}/wrong_bodies"
         for file in sorted(os.listdir(folder)) if os.path.isdir(folder) else ():
-            edit, _ = judge().read_edit(crate, file)
+            edit, _ = edits.read_edit(crate, file)
             functions = {((name, it.path), it.first) for it in edit.functions} if edit else set()
             named = re.findall(r"^# promise: (.*)$", sources.text_of(f"{folder}/{file}"), re.M)
             found.append(WrongBody(name, file.removesuffix(".edit"), frozenset(functions), tuple(named)))
@@ -250,7 +241,7 @@ def refused_by(promise):
 
 def clauses_of(call):
     """The names of the clauses of a function."""
-    return [it.name for it in sources.contract_of(call.item)[1]]
+    return [it.name for it in rattle_source.contract_of(call.item)[1]]
 
 
 def is_type(cited):

@@ -4,6 +4,9 @@ import re
 import textwrap
 from collections import defaultdict
 
+from lib import rattle_source
+from lib.rattle_source import dedented, header_of
+
 from . import definitions, evidence, sources
 from .evidence import Call, key_of
 
@@ -223,8 +226,8 @@ class Writer:
     def calls(self, calls):
         header = ""
         for outer, call in calls:
-            if sources.header_of(outer) != header:
-                header = sources.header_of(outer)
+            if header_of(outer) != header:
+                header = header_of(outer)
                 self.page.prose(f"Of `{header}`:")
             self.call(3, call)
 
@@ -259,22 +262,22 @@ class Writer:
         self.page.lines.append("")
 
     def call(self, level, call):
-        head, clauses = sources.contract_of(call.item)
+        head, clauses = rattle_source.contract_of(call.item)
         self.page.heading(level, f"`{call.name}`", key_of(call.item))
         self.page.code(head)
         self.page.about(call.item)
         if clauses:
-            self.page.code(sources.dedented([line for it in clauses for line in it.lines]))
+            self.page.code(dedented([line for it in clauses for line in it.lines]))
         self.held(call)
 
     def held(self, call, name=""):
         """What a call costs, what holds its contract, and where the words of that stand."""
-        clauses = sources.contract_of(call.item)[1]
+        clauses = rattle_source.contract_of(call.item)[1]
         points = {
             "Cost": cost_of_call(call),
             "Promise": ", ".join(self.promises(call)),
             "Wrong bodies": bodies_link(call.item.file[0], [it.name for it in self.holders.bodies[key_of(call.item)]]),
-            "Words": self.words(sources.bare(clauses), call.item.words),
+            "Words": self.words(rattle_source.bare(clauses), call.item.words),
         }
         if not name:
             for it in points.items():
@@ -297,12 +300,12 @@ class Writer:
 
     def of_trait(self, item, outer, trait):
         """An `impl` of a trait: what it says, and what holds the contracts of its functions."""
-        by_reference = re.search(r" for &(?:'\w+ )?(mut )?", sources.header_of(outer))
+        by_reference = re.search(r" for &(?:'\w+ )?(mut )?", header_of(outer))
         mark = f"&{by_reference[1] or ''}" if by_reference else ""
         name = f"`{mark}{item.name}` as `{trait}`"
         functions = [it for it in sources.inside(outer) if it.kind == "fn"]
         self.page.heading(3, name, key_of(outer), *map(key_of, functions))
-        self.page.code([f"{sources.header_of(outer)} {{", *inner_lines(outer), "}"])
+        self.page.code([f"{header_of(outer)} {{", *inner_lines(outer), "}"])
         for it in functions:
             self.held(Call(f"{item.name}::{it.name}", it, outer), it.name)
 
@@ -342,7 +345,7 @@ def definition_of(file, name):
     found = re.search(rf"((?:^ *--.*\n)*)(^ *{begins}.*\n(?:(?! *$).*\n)*)", text, re.M)
     if not found:
         return []
-    lines = sources.dedented((found[1] + found[2]).rstrip("\n").split("\n"))
+    lines = dedented((found[1] + found[2]).rstrip("\n").split("\n"))
     if "abbrev" in found[2]:
         words = {**dict.fromkeys(re.findall(r"^ *pub record ([\w'-]+)", text, re.M), file), **sources.imported(text)}
         for word in re.findall(r"[\w'-]+", found[2].partition("=")[2]):
@@ -357,7 +360,7 @@ def readers(file, name):
     above them."""
     text = sources.text_of(f"{sources.TOP}/crates/{file}")
     found = re.findall(rf"^((?: *--.*\n)*) *abbrev pub (\S+ : {name}\b[^→\n]*→ [^→\n]*)$", text, re.M)
-    return [line for comment, it in found for line in [*sources.dedented(comment.split("\n")[:-1]), it]]
+    return [line for comment, it in found for line in [*dedented(comment.split("\n")[:-1]), it]]
 
 
 def inner_lines(outer):
@@ -365,12 +368,12 @@ def inner_lines(outer):
     found = []
     for it in sources.inside(outer):
         if it.kind == "fn":
-            head, clauses = sources.contract_of(it)
+            head, clauses = rattle_source.contract_of(it)
             head[-1] += "" if clauses else ";"
-            text = head + [line for one in clauses for line in sources.dedented_to(one.lines, 4)]
+            text = head + [line for one in clauses for line in rattle_source.dedented_to(one.lines, 4)]
             text[-1] += ";" if clauses else ""
         elif it.kind == "type" or it.kind == "ghost" and it.name not in PROOFS:
-            text = sources.dedented(it.lines)
+            text = dedented(it.lines)
         else:
             continue
         found += [""] * bool(found) + [f"    {line}".rstrip() for line in text]
@@ -388,7 +391,7 @@ def declaration(item):
         return attributes + item.lines
     shown = [it for it in sources.inside(item) if item.kind == "enum" or it.visible == "pub"]
     hidden = [it for it in sources.inside(item) if it not in shown]
-    lines = [f"    {line}" for it in shown for line in [*(f"/// {one}" for one in it.doc), *sources.dedented(it.lines)]]
+    lines = [f"    {line}" for it in shown for line in [*(f"/// {one}" for one in it.doc), *dedented(it.lines)]]
     if not lines:
         return [*attributes, f"{item.lines[0]} .. }}"]
     return [*attributes, item.lines[0], *lines, *(["    .."] if hidden else []), "}"]
@@ -401,5 +404,5 @@ def trait_lines(item):
         if it.kind in ("type", "ghost"):
             mark = "//" if it.kind == "ghost" else "///"
             found += [""] * bool(found) + [f"    {mark} {one}" for one in it.doc]
-            found += [f"    {line}" for line in sources.dedented(it.lines)]
-    return [f"{sources.header_of(item)} {{", *found, "    ..", "}"] if found else [f"{sources.header_of(item)} .."]
+            found += [f"    {line}" for line in dedented(it.lines)]
+    return [f"{header_of(item)} {{", *found, "    ..", "}"] if found else [f"{header_of(item)} .."]

@@ -1,84 +1,23 @@
-"""Reads the sources of the crates as `rt fmt` lays them out: their items, with doc comments and contracts, and what a
-crate makes public.
-
-An item begins on a line of its own, and ends before the next line at its indent that does not go on with it.
-"""
+"""The sources of the crates: their files, the words that contracts may have, and what a crate makes public."""
 
 import os
 import re
 from collections import namedtuple
 from functools import lru_cache
 
-from common import TOP, text_of  # noqa: F401 (others of these files take them from here)
+from lib import rattle_source
+from lib.common import TOP, text_of
+from lib.rattle_source import items_of
 
-# An item: the file that it stands in, the number of its first line, its kind, its name, its visibility, its lines
-# without the doc comment, that comment, its attributes, and which file of specs each word comes from that its clauses
-# may name.
-Item = namedtuple("Item", "file line kind name visible lines doc attributes words")
 # A file: its crate, its path in the crate, what its `//!` lines say, its items, and its words.
 File = namedtuple("File", "crate path about items words")
-# A clause of a contract: `requires`, `ensures` or `ensures*`, its name or an empty text, and its lines.
-Clause = namedtuple("Clause", "kind name lines")
-
-CONTINUES = re.compile(r"[{})\]]|where\b")
-ATTRIBUTE = re.compile(r"#!?\[")
-HEAD = re.compile(
-    r'(?:pub(?:\(\w+\))? )?(?P<kind>(?:const |unsafe |extern "C" )*fn|struct|enum|trait|type|mod|use|unsafe impl|impl'
-    r"|const|static|ghost use|ghost)\b ?(?P<name>\w+)?"
-)
-CLAUSE = re.compile(r"(requires|ensures\*?) ?(\w*)")
 
 
-def indent_of(line):
-    return len(line) - len(line.lstrip())
-
-
-def dedented(lines):
-    """Lines without the indent that they all have."""
-    least = min((indent_of(it) for it in lines if it.strip()), default=0)
-    return [it[least:] for it in lines]
-
-
-def dedented_to(lines, indent):
-    """Lines with this indent in place of that which they all have."""
-    return [" " * indent + it for it in dedented(lines)]
-
-
-def parts(lines, first, last, indent):
-    """What stands at an indent between two lines: for each part the numbers of its lines, and its end."""
-    at = first
-    while at < last:
-        ends = at + 1
-        while ends < last and not (lines[ends].strip() and indent_of(lines[ends]) == indent):
-            ends += 1
-        while ends < last and CONTINUES.match(lines[ends].lstrip()):
-            ends += 1
-            while ends < last and not (lines[ends].strip() and indent_of(lines[ends]) == indent):
-                ends += 1
-        yield at, ends
-        at = ends
-
-
-def items_of(file, lines, first, last, indent, words):
-    """The items at an indent between two lines, each with the doc comment and the attributes above it."""
-    doc, attributes = [], []
-    for at, ends in parts(lines, first, last, indent):
-        text = lines[at].strip()
-        body = lines[at:ends]
-        while body and not body[-1].strip():
-            body.pop()
-        if text.startswith("//") and not text.startswith("//!"):
-            doc.append(re.sub(r"^///? ?", "", text))
-        elif ATTRIBUTE.match(text):
-            attributes.append("\n".join(dedented(body)))
-        elif text:
-            head = HEAD.match(text)
-            kind, name = (head["kind"], head["name"] or "") if head else ("part", re.match(r"(?:pub )?(\w*)", text)[1])
-            visible = re.match(r"(?:pub(?:\(\w+\))?(?= ))?", text)[0]
-            kind = "fn" if kind.endswith("fn") else kind.removeprefix("unsafe ")
-            yield Item(file, at + 1, kind, name, visible, body, doc, attributes, words)
-        if text and not text.startswith("//") and not ATTRIBUTE.match(text) or not lines[ends - 1].strip():
-            doc, attributes = [], []
+def inside(item):
+    """The items within an `impl`, a trait, a struct, an enum or a module, with the words that it and they import."""
+    found = rattle_source.inside(item)
+    words = {**item.words, **words_of(found)}
+    return [it._replace(words=words) for it in found]
 
 
 def words_of(items):
@@ -110,44 +49,6 @@ def spec_file(module):
     return None
 
 
-def inside(item):
-    """The items within an `impl`, a trait, a struct, an enum or a module."""
-    opens = next((n for n, it in enumerate(item.lines) if it.endswith("{")), None)
-    if opens is None:
-        return []
-    indent = indent_of(item.lines[0]) + 4
-    found = list(items_of(item.file, item.lines, opens + 1, len(item.lines) - 1, indent, item.words))
-    words = {**item.words, **words_of(found)}
-    return [it._replace(line=item.line + it.line - 1, words=words) for it in found]
-
-
-def contract_of(item):
-    """The lines of a function before its contract, and its clauses."""
-    indent, head, clauses = indent_of(item.lines[0]), [], []
-    for line in item.lines:
-        text = line.strip()
-        if indent_of(line) == indent and text.startswith("{"):
-            break
-        begins = CLAUSE.match(text) if indent_of(line) == indent + 4 else None
-        if begins:
-            clauses.append(Clause(begins[1], begins[2], []))
-        if clauses:
-            clauses[-1].lines.append(line.rstrip(";"))
-            if text.endswith("};"):
-                break
-            continue
-        opens = re.search(r" \{(?:.*\})?$|;$", line)
-        head.append(line[: opens.start()] if opens else line)
-        if opens:
-            break
-    return dedented(head), clauses
-
-
-def bare(clauses):
-    """The lines of clauses, without the words that begin them."""
-    return [re.sub(r"^ *(?:requires|ensures\*?) \w* ?\{", "", line) for it in clauses for line in it.lines]
-
-
 @lru_cache(None)
 def read(crate, path):
     """A file of a crate."""
@@ -176,16 +77,6 @@ def says_more(file):
 def module_of(file):
     """The path of a file's module in its crate."""
     return re.sub(r"(?:/mod)?\.rt$", "", file.path.removeprefix("src/")).replace("/", "::")
-
-
-def header_of(item):
-    """The first lines of an `impl` or a trait, up to its brace, as one line."""
-    head = []
-    for line in item.lines:
-        head.append(line.strip())
-        if line.endswith("{") or line.endswith("{}"):
-            break
-    return re.sub(r" ?\{\}?$", "", " ".join(head))
 
 
 def module_file(crate, module):

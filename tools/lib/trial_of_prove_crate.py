@@ -1,11 +1,11 @@
-"""What tools/first_run tries of tools/check in a copy of the library: which libraries it builds, and how it ends."""
+"""What tools/first_run tries of tools/prove_crate in a copy of the library: which libraries it builds, and how it
+ends."""
 
 import os
 import shutil
 
-import common
-import toolchain
-from common import text_of, write
+from . import common, toolchain
+from .common import text_of, write
 
 # A stand-in for the prover, which writes what it is called for to a log. It knows one function of each crate, and
 # refuses the crate BAD. Like the prover, it refuses a build that is asked for its progress.
@@ -34,24 +34,25 @@ ALL = ["build cordyceps_base", "build cordyceps_list", f"check {START}"]
 
 
 class Trial:
-    """A copy of a checkout's lists in another repository, and the runs of tools/check there."""
+    """A copy of a checkout's lists in another repository, and the runs of tools/prove_crate there."""
 
     def __init__(self, checkout, other):
         self.checkout, self.other, self.faults = checkout, other, []
-        kit = f"{os.path.dirname(other)}/kit of a check"
+        kit = f"{os.path.dirname(other)}/kit of a proof"
         toolchain.link(common.kit(), kit)
         toolchain.replace(f"{kit}/bin/rattle", RATTLE)
         self.path = f"{kit}/bin:{os.environ['PATH']}"
-        checkout.run(command=[f"{checkout.top}/tools/copy", other, "lists"])
+        checkout.run(command=[f"{checkout.top}/tools/copy_library", other, "lists"])
 
     def checked(self, when, status, last, called, *words, bad=""):
-        """Runs tools/check, which ends so, with a last line that begins so, and calls the prover for this."""
+        """Runs tools/prove_crate, which ends so, with a last line that begins so, and calls the prover for this."""
         environment = {"PATH": self.path, "BAD": bad}
-        ran = self.checkout.run(command=[f"{self.other}/tools/check", *words], at="/", environment=environment)
+        ran = self.checkout.run(command=[f"{self.other}/tools/prove_crate", *words], at="/", environment=environment)
         found = text_of(self.checkout.log).splitlines() if os.path.exists(self.checkout.log) else []
         write(self.checkout.log, "")
         lines = (ran.out + ran.err).splitlines()
-        if ran.status != status or found != called or not lines[-1:] or not lines[-1].startswith(f"check: {last}"):
+        has_ended = ran.status == status and bool(lines) and lines[-1].startswith(f"prove_crate: {last}")
+        if found != called or not has_ended:
             self.faults.append(f"{when}: it called the prover for {found}, and ended so: {ran}")
 
     def run(self):
@@ -84,7 +85,7 @@ class Trial:
 
 
 def faults(checkout, other):
-    """What is wrong with tools/check, as tools/copy of a checkout brings it to another repository."""
+    """What is wrong with tools/prove_crate, as tools/copy_library of a checkout brings it to another repository."""
     found = Trial(checkout, other).run()
     shutil.rmtree(other)
     return found

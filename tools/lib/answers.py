@@ -2,8 +2,10 @@
 a wrong body has and the right body has not."""
 
 import re
+from dataclasses import dataclass, field
+from enum import Enum
 
-import at_hand
+from . import at_hand
 
 BEGINS = re.compile(r"^(?:abbrev )?pub (\S+) : goal\.\S+", re.M)
 # The goals that a line of a check names as open, or as what an error in a proof is about.
@@ -38,6 +40,14 @@ SAFETY = "is not judged: only goals of safety are open, which an empty contract 
 AT_HAND = "NOT REFUSED: `search` proves its goals where it has the right body's answers at hand"
 UNFIT = "is not judged: terms of the right body's answer do not fit: keep the names, and change another value"
 LIMIT = "is not judged: `search` stopped at a limit, so the goal may hold: give it a form in which it does not"
+
+
+class Verdict(Enum):
+    """What is known of a wrong body, or of a function of it."""
+
+    REFUSED = "a goal about the result refuses it"
+    NOT_REFUSED = "its contract lets it through, or it cannot be judged"
+    OPEN = "another check has to be asked"
 
 
 def answers_of(text):
@@ -85,8 +95,8 @@ def calls_in(tokens):
 
 
 def keeps_paths(old, new):
-    """Whether a line that is replaced by another leaves the paths through its function as they are, with their names: it
-    changes a value that is returned or passed on, in no condition, and calls functions of the same names.
+    """Whether a line that is replaced by another leaves the paths through its function as they are, with their names:
+    it changes a value that is returned or passed on, in no condition, and calls functions of the same names.
 
     >>> keeps_paths("        _ => None,", "        _ => Some(Choice::List),")
     True
@@ -164,8 +174,8 @@ def renamed(text, pairs):
 
 
 def with_answers(text, ways, without):
-    """The text of an Answers.antt with answers under new names as well, each at hand of a `search`, and without some of its
-    own. What stands behind one of those, as a definition that others use, stays.
+    """The text of an Answers.antt with answers under new names as well, each at hand of a `search`, and without some of
+    its own. What stands behind one of those, as a definition that others use, stays.
 
     >>> text = "use a.{b}\\n\\npub f : goal.f\\nf c =\\n    b\\n\\ng : b\\ng = h\\n\\npub k : goal.k\\nk = g\\n"
     >>> with_answers(text, [], {"f"})
@@ -187,8 +197,8 @@ def begun(crate, folder):
 
 
 def asked_beside(text, goals, absent, binders="", questions=()):
-    """The text of an Answers.antt with a `search` as the answer to each of these goals that has the terms of its written
-    answer at hand, and with a hole for each of the others, but for those that are absent.
+    """The text of an Answers.antt with a `search` as the answer to each of these goals that has the terms of its
+    written answer at hand, and with a hole for each of the others, but for those that are absent.
 
     >>> text = "use Rattle.std.proofs.Common.{rules, arith}\\n\\npub f : goal.f\\nf g c = h c\\n\\npub k : goal.k\\nk = b\\n"
     >>> print(asked_beside(text, ["f"], {"k"}), end="")
@@ -207,8 +217,8 @@ def asked_beside(text, goals, absent, binders="", questions=()):
 
 
 def asked_of(goal, answers, binders=""):
-    """A `search` as the answer to a goal that has the terms of its written answer at hand, and a longer one where there is
-    no such answer.
+    """A `search` as the answer to a goal that has the terms of its written answer at hand, and a longer one where there
+    is no such answer.
 
     >>> asked_of("k", {}, " c").startswith("pub k : goal.k\\nk c =\\n        Prim.first_of (search rules, search rules depth")
     True
@@ -303,7 +313,8 @@ def calls_changed(old, new):
 
 
 def drops_calls(old, new):
-    """Whether a text leaves out calls of another one, and has no new ones but those without arguments, and no new paths.
+    """Whether a text leaves out calls of another one, and has no new ones but those without arguments, and no new
+    paths.
 
     >>> drops_calls("    let at = take(words); hand_out(at)", "    Stack::new()")
     True
@@ -378,8 +389,8 @@ def open_in(lines):
 
 
 def asking(text, goals, questions=()):
-    """The text of an Answers.antt with a hole for each of its answers, and one for each of these goals; and with questions
-    under other names, each as its name, its goal and its text.
+    """The text of an Answers.antt with a hole for each of its answers, and one for each of these goals; and with
+    questions under other names, each as its name, its goal and its text.
 
     >>> print(asking("use a.{b}\\npub f-requires : goal.f-requires\\nf-requires c = b\\n", ["returns", "returns"]), end="")
     use a.{b}
@@ -451,47 +462,75 @@ def is_for_callees(verdict):
     return SEARCHED not in verdict and bool(CALLS.search(verdict))
 
 
+@dataclass(eq=False)
 class Suspect:
-    """A function with a wrong body that a check did not prove, and what is tried before that counts as a refusal. Where a
-    written answer does not fit, its goal is asked of a `search` that has the answer's terms at hand. Answers that do not
-    fit are then taken away, so that other goals are tried, and the right body's answers are tried at goals that it may not
-    have.
+    """A function with a wrong body that a check did not prove, and what is tried before that counts as a refusal. Where
+    a written answer does not fit, its goal is asked of a `search` that has the answer's terms at hand. Answers that do
+    not fit are then taken away, so that other goals are tried, and the right body's answers are tried at goals that it
+    may not have.
 
     A goal refuses the body if it is about the result, if the `search` did not prove it, and if that proves the right
-    body's. So it does where the right body's answer is at hand. Where the right body needs no answer, the goal is one of
-    the right body's, or none of the right body's answers holds under its name; and if `search` stopped at a limit, a
+    body's. So it does where the right body's answer is at hand. Where the right body needs no answer, the goal is one
+    of the right body's, or none of the right body's answers holds under its name; and if `search` stopped at a limit, a
     longer one did not prove it either."""
 
-    def __init__(self, folder, text, keeps, calls, named=None, terms=(), binders="", drops=False):
-        # The folder of the function's proof, the text of its answers, with the variables of each, whether the edit leaves
-        # the paths as they are, the functions that it calls in place of others, as pairs, and whether it leaves calls out.
-        self.binders, self.folder, self.text, self.keeps, self.calls, self.drops = binders, folder, text, keeps, calls, drops
-        # The answers that are taken away, those of these whose goals are not there, the ways that were found to hold, the
-        # goals at which none did, the one goal that is looked at, with the ways to answer it that are left, and how many
-        # checks were asked for.
-        self.gone, self.absent, self.held, self.tried = set(), set(), [], set()
-        self.goal, self.ways, self.tries = None, [], 0
-        # The goals that are asked for with the right body's answers at hand, the texts of the questions that are not the
-        # first, and of these goals those that were proved, and those at which the right body's terms do not fit.
-        self.beside, self.questions, self.proved, self.unfit = [named] if named else [], {}, set(), set()
-        # For each goal the terms of its answer that do not fit, and are at hand where they stand.
-        self.terms = {named: [*terms]} if terms else {}
-        # Whether the goal is asked for that the edit names, whether the answers have other functions' names, how they were
-        # before, these names the other way round, and whether what the edit names is trusted to prove the right body's.
-        self.is_named, self.is_renamed, self.written = bool(named), False, text
-        self.back, self.is_trusted = [(new, old) for old, new in calls], True
-        if named and calls:
-            self.text = with_calls(text, calls)
-        if terms == NOTHING:
-            self.questions = {named: self.bare(named)}
-        elif terms:
-            self.questions = {named: with_terms(asked_of(named, answers_of(self.text)[1], binders), terms)}
-        # The goals that are open, each with the line that says so, and the paths of the right body's, once these are
-        # known.
-        self.open, self.right = {}, None
-        # The line that shows that the body is refused, once there is one, and the goal of it that was asked for; and before
-        # that the goal, the line and the question of which it is not known yet whether it proves the right body's goal.
-        self.refused, self.by, self.asserted = None, None, None
+    # The folder of the function's proof, the text of its answers, whether the edit leaves the paths as they are, the
+    # functions that it calls in place of others, as pairs, whether it leaves calls out, and the variables of each
+    # answer.
+    folder: str
+    text: str
+    keeps: bool
+    calls: list
+    drops: bool
+    binders: str
+    # The goal and the terms that the edit names, and whether what it names is trusted to prove the right body's.
+    named: str = None
+    named_terms: tuple = ()
+    is_trusted: bool = True
+    # The answers that are taken away, those of these whose goals are not there, the ways that were found to hold, the
+    # goals at which none did, the one goal that is looked at, with the ways to answer it that are left, and how many
+    # checks were asked for.
+    gone: set = field(default_factory=set)
+    absent: set = field(default_factory=set)
+    held: list = field(default_factory=list)
+    tried: set = field(default_factory=set)
+    goal: str = None
+    ways: list = field(default_factory=list)
+    tries: int = 0
+    # The goals that are asked for with the right body's answers at hand, the texts of the questions that are not the
+    # first, and of these goals those that were proved, and those at which the right body's terms do not fit.
+    beside: list = field(default_factory=list)
+    questions: dict = field(default_factory=dict)
+    proved: set = field(default_factory=set)
+    unfit: set = field(default_factory=set)
+    # For each goal the terms of its answer that do not fit, and are at hand where they stand.
+    terms: dict = field(default_factory=dict)
+    # Whether the answers have other functions' names.
+    is_renamed: bool = False
+    # The goals that are open, each with the line that says so, and the paths of the right body's, once these are known.
+    open: dict = field(default_factory=dict)
+    right: set = None
+    # The line that shows that the body is refused, once there is one, and the goal of it that was asked for; and before
+    # that the goal, the line and the question of which it is not known yet whether it proves the right body's goal.
+    refused: str = None
+    by: str = None
+    asserted: tuple = None
+
+    def __post_init__(self):
+        # Whether the goal is asked for that the edit names, how the answers were before they got other functions'
+        # names, and these names the other way round.
+        self.is_named, self.written, self.back = bool(self.named), self.text, [(new, old) for old, new in self.calls]
+        if not self.named:
+            return
+        self.beside = [self.named]
+        self.terms = {self.named: [*self.named_terms]} if self.named_terms else {}
+        if self.calls:
+            self.text = with_calls(self.text, self.calls)
+        if self.named_terms == NOTHING:
+            self.questions = {self.named: self.bare(self.named)}
+        elif self.named_terms:
+            question = asked_of(self.named, answers_of(self.text)[1], self.binders)
+            self.questions = {self.named: with_terms(question, self.named_terms)}
 
     def is_of_right(self, goal):
         """Whether one of the goals is known to be one of the right body's."""
@@ -500,8 +539,7 @@ class Suspect:
         return path in known or self.keeps and kind_of(goal) == ("returns", None)
 
     def takes(self, lines):
-        """Takes what a check said of the function, and answers whether another one has to be asked: not where a goal
-        refuses the body, or nothing is left to try."""
+        """Takes what a check said of the function, and judges it."""
         if self.goal and not self.has_way(lines):
             return self.goes_on()
         if self.beside:
@@ -509,7 +547,7 @@ class Suspect:
         found = {**open_in(lines), **searched_in(lines, self.text)}
         self.open = {goal: line for goal, line in found.items() if goal not in self.proved}
         if self.refuses():
-            return False
+            return Verdict.REFUSED
         fail, gone = failing_in(lines, self.text)
         new = (fail | gone) - self.gone
         if new and self.calls:
@@ -522,9 +560,9 @@ class Suspect:
         return self.asks() if self.beside or new & fail or new and not self.open else self.chooses()
 
     def has_beside(self, lines):
-        """Takes what a check said of the goals that were asked for with the right body's answers at hand: one that is open
-        refuses the body, even where `search` stopped at a limit. Where none is, all is checked without the answers that do
-        not fit; and as if the edit named no goal, if it did."""
+        """Takes what a check said of the goals that were asked for with the right body's answers at hand: one that is
+        open refuses the body, even where `search` stopped at a limit. Where none is, all is checked without the answers
+        that do not fit; and as if the edit named no goal, if it did."""
         asked, text = self.beside, self.answers()
         found = at_hand.left_open(lines, text)
         about = {goal: line for line in lines for goal in named_in(line) or asked if " error: " in line}
@@ -548,8 +586,8 @@ class Suspect:
         return self.asks()
 
     def finer(self, goal, text, line):
-        """The next question for a goal, after one in a text in which a line refuses a term: with this term at hand where it
-        stands, or else with none; and None after that."""
+        """The next question for a goal, after one in a text in which a line refuses a term: with this term at hand
+        where it stands, or else with none; and None after that."""
         place = at_hand.refused_in(text, line) if self.tries < MOST_TRIES else None
         # (what has another name is no evidence, but what the edit left out is)
         if self.terms.get(goal) == NOTHING or not place and NO_NAME in line and not self.drops:
@@ -565,13 +603,13 @@ class Suspect:
         return asked_of(goal, {goal: f"{goal}{binders_of(goal, answers_of(self.text)[1], self.binders)} = {SEARCH}\n"})
 
     def confirms(self, is_proved):
-        """Takes whether the question that the body leaves open proves the right body's goal. If so, it refuses the body, and
-        else nothing is at hand. Answers whether another check has to be asked."""
+        """Takes whether the question that the body leaves open proves the right body's goal. If so, it refuses the
+        body, and else nothing is at hand in the next check."""
         goal, line, _ = self.asserted
         self.asserted, self.beside = None, []
         if is_proved:
             self.refused, self.by = line, goal
-            return False
+            return Verdict.REFUSED
         self.terms[goal], self.questions, self.beside = NOTHING, {goal: self.bare(goal)}, [goal]
         self.is_named = False
         return self.asks()
@@ -592,17 +630,17 @@ class Suspect:
         return True
 
     def goes_on(self):
-        """Goes on with the goal that is looked at, or another one, and answers whether there is something to try."""
+        """Goes on with the goal that is looked at, or another one."""
         if self.ways:
             return self.asks()
         self.tried.add(self.goal)
         return self.chooses()
 
     def chooses(self):
-        """Chooses the goal that is looked at, and answers whether there is one."""
+        """Chooses the goal that is looked at, if there is one, and judges the function if there is none."""
         self.goal, self.ways = None, []
         if self.refuses():
-            return False
+            return Verdict.REFUSED
         left = {it: self.ways_to(it) for it in self.open if it not in self.tried and not self.is_of_right(it)}
         # (those first that can refuse the body, and of these the one that takes fewest checks)
         order = sorted((it for it in left if left[it]), key=lambda it: (not self.counts(it), len(left[it])))
@@ -612,8 +650,8 @@ class Suspect:
         return self.asks_beside()
 
     def asks_beside(self):
-        """Asks for the goals of the right body at which `search` stopped at a limit, with the right body's answers at hand,
-        and answers whether there are any."""
+        """Asks for the goals of the right body at which `search` stopped at a limit, with the right body's answers at
+        hand: if there are none, nothing is left to try."""
         at_limit = self.at_limit()
         unknown = [it for it in at_limit if not self.is_of_right(it)]
         if unknown and self.right is None:
@@ -621,12 +659,12 @@ class Suspect:
             self.goal = unknown[0]
             return self.asks()
         self.beside = [it for it in at_limit if it not in unknown]
-        return bool(self.beside) and self.asks()
+        return self.asks() if self.beside else Verdict.NOT_REFUSED
 
     def asks(self):
         """Asks for another check."""
         self.tries += 1
-        return True
+        return Verdict.OPEN
 
     def ways_to(self, goal):
         """The ways to answer a goal that the right body may not have by the right body's answers."""
@@ -647,7 +685,8 @@ class Suspect:
         return False
 
     def waits(self):
-        """Whether it has to be known which goals the right body has, or what proves one, before the next way is tried."""
+        """Whether it has to be known which goals the right body has, or what proves one, before the next way is
+        tried."""
         return bool(self.asserted) or self.goal is not None and self.right is None
 
     def answers(self):

@@ -13,7 +13,8 @@ AS_IT_IS = re.compile(r"absurd(?![\w.-])|\d+$|\[\]$|_$")
 # A term by which a goal holds whose sides compute to the same, and a name.
 COMPUTES = re.compile(r"refl|\?")
 NAME = re.compile(r"[\w+-]+")
-# What a goal is asked of, and where such a question stands: on a line of its own, so that its place tells it from others.
+# What a goal is asked of, and where such a question stands: on a line of its own, so that its place tells it from
+# others.
 SEARCH = "search rules"
 LINE = "\n        "
 ASKED = re.compile(r" +(?:Prim\.first_of \()?")
@@ -95,8 +96,8 @@ def is_closed(term, opens):
 
 
 def beside(term, bound=frozenset()):
-    """A term in which these variables are bound as a `search` that has it at hand: as `right`, where its type is known by
-    itself. Each of its parts gets one.
+    """A term in which these variables are bound as a `search` that has it at hand: as `right`, where its type is known
+    by itself. Each of its parts gets one.
 
     >>> shown = lambda term: " ".join(beside(term).split())
     >>> shown("let a = b in f a c.x")
@@ -185,7 +186,8 @@ def left_open(lines, text):
 
 
 def end_of(row, at):
-    """Where the term ends that begins at this place of a line: a whole one behind what opens a term, and else an argument.
+    """Where the term ends that begins at this place of a line: a whole one behind what opens a term, and else an
+    argument.
 
     >>> row = "let a = f (g b) c.x, h"
     >>> [row[at : end_of(row, at)] for at in (8, 10, 16)]
@@ -203,8 +205,8 @@ def end_of(row, at):
 
 
 def refused_in(text, line):
-    """The place of the term in a text of answers that a line of a check refuses for its type, or for what a tactic in it
-    did not prove: its row, where it begins and where it ends. None where the line refuses no such term.
+    """The place of the term in a text of answers that a line of a check refuses for its type, or for what a tactic in
+    it did not prove: its row, where it begins and where it ends. None where the line refuses no such term.
 
     >>> line = "./proofs/f/Answers.antt:1:19: error: `f`: the two types differ .. expected type `a` but this has type `b`"
     >>> refused_in("f c = let a = h b d.x in a", line)

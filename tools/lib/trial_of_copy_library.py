@@ -1,18 +1,19 @@
-"""What tools/first_run tries of tools/copy: a first copy, an upgrade, what stands in the way of one, and a copy that is
-broken off or whose record was tampered with."""
+"""What tools/first_run tries of tools/copy_library: a first copy, an upgrade, what stands in the way of one, and a copy
+that is broken off or whose record was tampered with."""
 
 import hashlib
 import os
 import re
 import shutil
 
-from common import files_in, text_of, write
+from .common import files_in, text_of, write
 
 BASE = "crates/cordyceps_base/src/lib.rt"
 START = "crates/cordyceps_start"
 GONE = "crates/cordyceps_list/src/gone.rt"
 PROGRAMS = ("cordyceps_uses", "cordyceps_shared_uses")
 RECORD = "cordyceps.sums"
+PROVERS = ("tools/prove_crate", "tools/lib/__init__.py", "tools/lib/proving.py")
 SUM = "0" * 64
 NAMES_NO_FILE = "cordyceps.sums there has a line that names no file of a crate: "
 # Records that no copy has left, and what is said of each.
@@ -65,15 +66,15 @@ class Trial:
         self.lines = text_of(f"{self.top}/crates.txt").splitlines()
 
     def copied(self, status, line, *words):
-        """Calls tools/copy, which ends so and writes this line."""
-        ran = self.checkout.run(command=[f"{self.top}/tools/copy", self.other, *words])
+        """Calls tools/copy_library, which ends so and writes this line."""
+        ran = self.checkout.run(command=[f"{self.top}/tools/copy_library", self.other, *words])
         if ran.status != status or ran.err or line not in ran.out.splitlines():
-            self.faults.append(f"tools/copy {' '.join(words)}: {ran}")
+            self.faults.append(f"tools/copy_library {' '.join(words)}: {ran}")
 
     def refused(self, line, *command):
-        """Calls tools/copy, which ends with status 2 and a line that begins so."""
-        ran = self.checkout.run(command=command or [f"{self.top}/tools/copy", self.other])
-        if ran.status != 2 or ran.out or not ran.err.startswith(f"copy: {line}") or ran.err.count("\n") != 1:
+        """Calls tools/copy_library, which ends with status 2 and a line that begins so."""
+        ran = self.checkout.run(command=command or [f"{self.top}/tools/copy_library", self.other])
+        if ran.status != 2 or ran.out or not ran.err.startswith(f"copy_library: {line}") or ran.err.count("\n") != 1:
             self.faults.append(f"where {line!r} was to be said: {ran}")
 
     def same(self, *paths):
@@ -94,22 +95,26 @@ class Trial:
         write(f"{self.other}/crates.txt", "app: cordyceps_list\n")
         write(f"{self.top}/{GONE}", "//! Gone in the next version.\n")
         self.copied(0, "HANDLES: copied", "lists")
-        self.same(BASE, f"{START}/src/lib.rt", "HANDLES", ".gitignore", GONE, "tools/check")
-        if not os.access(f"{self.other}/tools/check", os.X_OK):
-            self.faults.append("tools/check cannot be run there")
+        self.same(BASE, f"{START}/src/lib.rt", "HANDLES", ".gitignore", GONE, *PROVERS)
+        if not os.access(f"{self.other}/tools/prove_crate", os.X_OK):
+            self.faults.append("tools/prove_crate cannot be run there")
         self.crates("cordyceps_base", "cordyceps_list", "cordyceps_start", "app")
 
     def upgrade(self):
-        """An upgrade: here a file has changed and another went, and cordyceps_start was renamed there."""
+        """An upgrade: here a file has changed, another went, and tools/check has another name, and cordyceps_start was
+        renamed there."""
         os.remove(f"{self.top}/{GONE}")
         was = text_of(f"{self.top}/{BASE}")
         write(f"{self.top}/{BASE}", f"{was}// newer\n")
         os.rename(f"{self.other}/{START}", f"{self.other}/crates/mine")
         lines = text_of(f"{self.other}/crates.txt")
         write(f"{self.other}/crates.txt", lines.replace("cordyceps_start:", "mine:"))
+        os.rename(f"{self.other}/tools/prove_crate", f"{self.other}/tools/check")
+        record = text_of(f"{self.other}/{RECORD}")
+        write(f"{self.other}/{RECORD}", record.replace("tools/prove_crate", "tools/check"))
         self.copied(0, "crates/cordyceps_base: files changed 1")
-        self.same(BASE)
-        self.absent(GONE, START)
+        self.same(BASE, "tools/prove_crate")
+        self.absent(GONE, START, "tools/check")
         self.crates("cordyceps_base", "cordyceps_list", "mine", "app")
         self.copied(0, "crates/cordyceps_base: as it was")
         write(f"{self.top}/{BASE}", was)
@@ -172,13 +177,13 @@ class Trial:
             self.faults.append("it changed what lies outside")
         os.remove(outside)
         shutil.rmtree(f"{outside}.src")
-        self.refused("DEST is empty", f"{self.top}/tools/copy", "", "lists")
+        self.refused("DEST is empty", f"{self.top}/tools/copy_library", "", "lists")
 
     def broken_off(self):
         """A first copy that cannot write, or was broken off, is completed by the next call."""
         shutil.rmtree(self.other)
         limited = 'ulimit -f 16 && exec "$0" "$@"'
-        self.refused("/", "bash", "-c", limited, f"{self.top}/tools/copy", self.other, "lists")
+        self.refused("/", "bash", "-c", limited, f"{self.top}/tools/copy_library", self.other, "lists")
         parts = files_in(self.other)
         if not parts or any(it.endswith(".new") for it in parts) or os.path.exists(f"{self.other}/{RECORD}"):
             self.faults.append(f"where it could not write, it left {parts}")
@@ -187,12 +192,12 @@ class Trial:
         os.remove(f"{self.other}/{RECORD}")
         write(f"{self.other}/crates.txt", "app: cordyceps_list\n")
         self.copied(0, "crates.txt: lines written 3", "lists")
-        self.same(BASE, f"{START}/src/lib.rt", "HANDLES", ".gitignore", "tools/check")
+        self.same(BASE, f"{START}/src/lib.rt", "HANDLES", ".gitignore", *PROVERS)
         self.crates("cordyceps_base", "cordyceps_list", "cordyceps_start", "app")
 
 
 def faults(checkout, other):
-    """What is wrong with tools/copy of a checkout, which is left as it was."""
+    """What is wrong with tools/copy_library of a checkout, which is left as it was."""
     trial = Trial(checkout, other)
     trial.first()
     trial.upgrade()

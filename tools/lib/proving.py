@@ -1,15 +1,8 @@
-#!/usr/bin/env python3
-"""Proves a function of a crate, or the whole crate, over the libraries that `rt ci` left in crates/*/out/rlib.
+"""Proves functions and crates over the libraries that `rt ci` left in crates/*/out/rlib, and builds missing ones.
 
-`rt check` takes nothing of these, and proves the libraries below the crate first. Here a library that is missing, or
-whose files have changed since, is built, which takes as long as its proof, and so is each one above it. What was
-checked is kept in the crate's out/, so the next run is quicker. The verdict is that of these libraries; `rt ci` judges
-all.
-
-FUNCTION is its path, or the end of it, as push or Stack::push; a type or a module stands for its functions.
+It needs no other file of tools/, since tools/copy_library brings it to other repositories with tools/prove_crate.
 """
 
-import argparse
 import os
 import re
 import shutil
@@ -17,28 +10,20 @@ import subprocess
 import sys
 import time
 
-TOP = os.path.dirname(os.path.dirname(os.path.realpath(__file__)))
-EXITS = """exit status:
-  0  it is proved
-  1  it is not proved, or a library that it needs is not
-  2  it was called in another way than this, or lacks something that it needs: a line says what"""
+TOP = os.path.dirname(os.path.dirname(os.path.dirname(os.path.realpath(__file__))))
+NAME = "prove_crate"
 # A line with which a check tells that a function is proved, and one that is told at once.
 PROVED = re.compile(r"^fn (\S+): proved", re.M)
 TOLD_AT_ONCE = re.compile(r"so far: |rt: ")
 
 
-class Arguments(argparse.ArgumentParser):
-    def error(self, message):
-        stop(f"{message}; tools/check --help says more")
-
-
 def stop(why):
-    print(f"check: {why}", file=sys.stderr)
+    print(f"{NAME}: {why}", file=sys.stderr)
     sys.exit(2)
 
 
 def say(text):
-    print(f"check: {text}", flush=True)
+    print(f"{NAME}: {text}", flush=True)
 
 
 def toolchain():
@@ -135,26 +120,3 @@ def prove(rtlib, crate, path=None):
         print(said, end="")
     say(f"{what} is {'not ' if status else ''}proved, in {time.monotonic() - began:.0f} s; functions: {len(found)}")
     return not status
-
-
-def read_arguments():
-    how = {"formatter_class": argparse.RawDescriptionHelpFormatter, "allow_abbrev": False}
-    arguments = Arguments(prog="tools/check", description=__doc__, epilog=EXITS, **how)
-    arguments.add_argument("crate", metavar="CRATE", help="the crate")
-    arguments.add_argument("function", metavar="FUNCTION", nargs="?", help="the function; without it the whole crate")
-    return arguments.parse_args()
-
-
-def main():
-    asked = read_arguments()
-    rtlib = toolchain()
-    crates = {it.name: it for it in rtlib.crates_below(TOP)}
-    crate = crates.get(asked.crate) or stop(f"there is no crate {asked.crate}")
-    return 0 if build_below(rtlib, crate) and prove(rtlib, crate, asked.function) else 1
-
-
-if __name__ == "__main__":
-    try:
-        sys.exit(main())
-    except KeyboardInterrupt:
-        sys.exit(130)

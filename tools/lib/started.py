@@ -9,8 +9,8 @@ import sys
 import threading
 import time
 
-import common
-from common import text_of
+from . import common
+from .common import text_of
 
 SIGNALS = (signal.SIGHUP, signal.SIGINT, signal.SIGTERM)
 # How many seconds what was started has to end by itself.

@@ -1,9 +1,8 @@
 """What the scripts of tools/ share: where the repository and its toolchain are, what --help says, and how they end."""
 
 import argparse
+import functools
 import hashlib
-import importlib.machinery
-import importlib.util
 import os
 import re
 import shutil
@@ -13,7 +12,7 @@ import sys
 import tempfile
 from collections import namedtuple
 
-TOP = os.path.dirname(os.path.dirname(os.path.realpath(__file__)))
+TOP = os.path.dirname(os.path.dirname(os.path.dirname(os.path.realpath(__file__))))
 NAME = os.path.basename(os.path.realpath(sys.argv[0]))
 # The toolchain's compiler and linker, in its folder.
 TOOLS = ("toolchain/bin/clang", "toolchain/bin/ld.lld")
@@ -25,8 +24,8 @@ TICKS = os.sysconf("SC_CLK_TCK")
 MISSING = "it was called in another way than this, or lacks something that it needs: a line says what"
 
 
-# What a check came to: its status, its lines, the processor seconds that it had used when it ended with each function, by
-# the function's name, those that it used in all, and its greatest memory in KB.
+# What a check came to: its status, its lines, the processor seconds that it had used when it ended with each function,
+# by the function's name, those that it used in all, and its greatest memory in KB.
 Checked = namedtuple("Checked", "status lines after whole memory")
 
 
@@ -88,16 +87,6 @@ def sum_of(files, *more):
     return found.hexdigest()
 
 
-def script(name):
-    """A script of tools/ as a module, for what another one takes of it."""
-    sys.dont_write_bytecode = True
-    path = os.path.join(os.path.dirname(os.path.realpath(__file__)), name)
-    spec = importlib.util.spec_from_loader(name, importlib.machinery.SourceFileLoader(name, path))
-    module = importlib.util.module_from_spec(spec)
-    spec.loader.exec_module(module)
-    return module
-
-
 def lanes(memory=0):
     """How many processes to run side by side: one for each processor, as far as each has so many KB of free memory."""
     count = len(os.sched_getaffinity(0))
@@ -117,6 +106,7 @@ def kit(*paths):
     return folder
 
 
+@functools.lru_cache(None)
 def rtlib():
     """The toolchain's own words for a check, as a module."""
     sys.path.insert(0, f"{kit('bin/rtlib.py')}/bin")
@@ -199,11 +189,11 @@ def verdict(passed, failed):
     return 1 if failed else 0
 
 
-def run(main, *arguments):
+def run(main):
     """Runs a script, and ends with its status, or with 130 where it was interrupted."""
     # (a job in the background ignores interrupts, and what it starts would too)
     signal.signal(signal.SIGINT, signal.default_int_handler)
     try:
-        sys.exit(main(*arguments))
+        sys.exit(main())
     except KeyboardInterrupt:
         sys.exit(130)

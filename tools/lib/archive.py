@@ -7,8 +7,8 @@ import re
 import subprocess
 import tempfile
 
-import common
-from common import TOP
+from . import common, proving
+from .common import TOP
 
 CRATE = "cordyceps_c"
 NAME = "libcordyceps.a"
@@ -33,9 +33,9 @@ def sum_of(crate):
     return common.sum_of(files, [(it.name, it.of_kit) for it in (crate, *crate.below())])
 
 
-def is_fresh(check, rtlib, crate):
+def is_fresh(rtlib, crate):
     """Are the libraries below the crate there, as of the files that they were proved from?"""
-    return all(os.path.isfile(f"{it.rlib}/format") and check.is_left(rtlib, it) for it in crate.below())
+    return all(os.path.isfile(f"{it.rlib}/format") and proving.is_left(rtlib, it) for it in crate.below())
 
 
 def joined(kit, made, to):
@@ -52,7 +52,7 @@ def build(builds_below):
     """Proves the crate and builds its archive, unless the one that is kept is of these files. Answers its path, and
     what the proof came to. Where libraries below are missing or older than their files, they are built, which takes
     minutes, or, without `builds_below`, there is no archive."""
-    rtlib, check, kit = common.rtlib(), common.script("check"), common.kit(HEAP, "toolchain/bin/llvm-ar")
+    rtlib, kit = common.rtlib(), common.kit(HEAP, "toolchain/bin/llvm-ar")
     crate = {it.name: it for it in rtlib.crates_below(TOP)}[CRATE]
     kept, sum = f"{crate.folder}/out/c", sum_of(crate)
     said = f"{kept}/said"
@@ -60,10 +60,10 @@ def build(builds_below):
         before, _, told = common.text_of(said).partition("\n")
         if before == sum:
             return f"{kept}/{NAME}", told.strip()
-    if not is_fresh(check, rtlib, crate):
+    if not is_fresh(rtlib, crate):
         if not builds_below:
             raise Lacks("the libraries below cordyceps_c are not built")
-        if not check.build_below(rtlib, crate):
+        if not proving.build_below(rtlib, crate):
             raise NotProved("a library below cordyceps_c is not proved")
     os.makedirs(kept, exist_ok=True)
     with tempfile.TemporaryDirectory(prefix="archive-", dir=kept) as room:
