@@ -4,8 +4,9 @@ use crate::compared::{at_most, made, same};
 use cordyceps_base::mpsc_queue::Links;
 use cordyceps_base::node::Node;
 use cordyceps_base::shared::MAX_ROOMS;
-use cordyceps_channel::{Batch, Disconnected, Receiver, RecvTimeoutError, Sender, TryRecvError, TrySendError};
-use cordyceps_channel::channel;
+use cordyceps_channel::{
+    Batch, Disconnected, Receiver, RecvTimeoutError, Sender, TryRecvError, TrySendError, channel,
+};
 use std::alloc::Global;
 use std::mem;
 use std::process::Abort;
@@ -253,7 +254,12 @@ impl Sides {
     }
 
     /// Makes the calls of a table, and asserts what each replies.
-    pub fn replies<R: Abort + Wait + Clock>(&mut self, rt: &R, alloc: Global, lines: &[(Call, Reply)]) {
+    pub fn replies<R: Abort + Wait + Clock>(
+        &mut self,
+        rt: &R,
+        alloc: Global,
+        lines: &[(Call, Reply)],
+    ) {
         for (call, wanted) in lines {
             same(rt, self.call(rt, alloc, *call), *wanted);
         }
@@ -261,7 +267,11 @@ impl Sides {
 }
 
 /// Makes the calls of each table at a new channel of so many rooms.
-pub fn each_replies<R: Abort + Wait + Clock>(rt: &R, alloc: Global, tables: &[(usize, &[(Call, Reply)])]) {
+pub fn each_replies<R: Abort + Wait + Clock>(
+    rt: &R,
+    alloc: Global,
+    tables: &[(usize, &[(Call, Reply)])],
+) {
     for (rooms, lines) in tables {
         Sides::new(rt, alloc, *rooms).replies(rt, alloc, lines);
     }

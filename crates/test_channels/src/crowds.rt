@@ -3,7 +3,9 @@
 use crate::calls::{Handle, element};
 use crate::compared::{at_most, made, same};
 use cordyceps_base::shared::MAX_ROOMS;
-use cordyceps_channel::{Batch, Receiver, RecvTimeoutError, Sender, TryRecvError, TrySendError, channel};
+use cordyceps_channel::{
+    Batch, Receiver, RecvTimeoutError, Sender, TryRecvError, TrySendError, channel,
+};
 use std::alloc::Global;
 use std::process::Abort;
 use std::sync::Wait;
@@ -22,6 +24,7 @@ const PART: u64 = 25;
 
 /// How many plans are drawn, and the start of the sequence.
 const RUNS: u64 = 200;
+
 const START: u64 = 1;
 
 /// How far the first numbers of threads are apart.
@@ -145,7 +148,9 @@ fn poll_recv<R: Wait + Clock>(rt: &R, receiver: &mut Receiver<Counted>) -> Optio
 /// Receives an element by calls with a deadline, or returns `None` if all senders have ended.
 fn recv_in_time<R: Wait + Clock>(rt: &R, receiver: &mut Receiver<Counted>) -> Option<Handle> {
     for _ in 0..u64::MAX {
-        let deadline = Instant::now(rt).ok()?.checked_add(Duration::from_micros(100))?;
+        let deadline = Instant::now(rt)
+            .ok()?
+            .checked_add(Duration::from_micros(100))?;
         match receiver.recv_deadline(rt, deadline) {
             Ok(node) => return Some(node),
             Err(RecvTimeoutError::Disconnected) => return None,
