@@ -1,6 +1,6 @@
 -- The rule of a transfer stack's table where a receipt is made and learned.
-use Rattle.std.proofs.Common.{◌≡◌, ◌≢◌, ℕ, List, [], ◌∷◌, ◌++◌, set, refl, sym, ap, ◌∙◌, subst, arith, append-nil}
-use mathlib.Core.Option.{some, none}
+use Rattle.std.proofs.Common.{◌≡◌, ◌≢◌, ℕ, List, [], ◌∷◌, ◌++◌, set, refl, sym, ◌∙◌, subst, arith, append-nil}
+use mathlib.Core.Option.{none}
 use Rattle.atomic_table.specs.Table.{keeps, step, Allows, Splits, Joins}
 use Rattle.atomic_table.proofs.Lists.{set_again}
 use Rattle.cordyceps_shared.specs.Knowing.{SharesDisjoint, AllAgree, all_seen}

@@ -1,7 +1,7 @@
 -- What a receipt is, and what a party is of which one was split off, or which learned one.
 use Rattle.std.proofs.Common.{◌≡◌, [], length, refl, sym, ap, ◌∙◌, subst}
 use Rattle.atomic_table.specs.Seated.{TableId}
-use Rattle.cordyceps_shared.specs.FreeChains.{FreeChain, Tracks}
+use Rattle.cordyceps_shared.specs.FreeChains.{Tracks}
 use Rattle.cordyceps_shared.specs.Histories.{plain}
 use Rattle.cordyceps_shared.specs.Shares.{IsShare}
 use Rattle.cordyceps_shared.specs.Slots.{Near}

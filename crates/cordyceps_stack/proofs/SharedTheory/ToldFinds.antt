@@ -1,11 +1,11 @@
 -- What a look says that finds nothing, and what a taking of all says to a party that was told of elements.
-use Rattle.std.proofs.Common.{◌≡◌, ◌≢◌, ◌+◌, List, [], ◌∷◌, ◌++◌, map, length, reverse, Bool, true, false, refl, sym, ap, ◌∙◌, inr, ⊎_elim, subst, arith, append_assoc, length-append, append-nil}
+use Rattle.std.proofs.Common.{◌≡◌, ◌+◌, List, [], ◌∷◌, ◌++◌, map, length, reverse, Bool, true, false, refl, sym, ap, ◌∙◌, inr, ⊎_elim, subst, arith, append_assoc, length-append, append-nil}
 use Rattle.std.proofs.lemmas.List.{reverse-reverse}
 use Rattle.cordyceps_shared.specs.Histories.{plain, own, others}
 use Rattle.cordyceps_shared.specs.Shares.{Name, first_name}
 use Rattle.cordyceps_shared.specs.Standings.{name_of}
 use Rattle.cordyceps_shared.proofs.Adding.{adds_then, plain_append, sees_at}
-use Rattle.cordyceps_shared.proofs.HistoryMarks.{own_append, others_append}
+use Rattle.cordyceps_shared.proofs.HistoryMarks.{own_append}
 use Rattle.cordyceps_stack.specs.History.{Event, Load, Push, Taken, held, pushes, taken_elements, Legal, actor}
 use Rattle.cordyceps_stack.specs.Laws.{EmptyMeansGone, ToldFinds}
 use Rattle.cordyceps_stack.specs.Shared.Calls.{PartyOf, Adds, Looks, Takes}
