@@ -1,4 +1,3 @@
-use Rattle.freelist.specs.Blocks.{GetsTold}
 use Rattle.freelist.proofs.ToldGets.{gets_told, gets_gone, gets_others}
 use Rattle.freelist.proofs.laws.get_told.Goals as goal
 
