@@ -1,5 +1,5 @@
-//! Laws of transfer stacks. Each is a function whose contract is the law. One about all histories has an empty body, and
-//! one about calls has these calls as its body.
+//! Laws of transfer stacks. Each is a function whose contract is the law. One about all histories has an empty body,
+//! and one about calls has these calls as its body.
 ghost use Rattle.std.specs.Prelude.{◌≡◌, List, [], map};
 ghost use Rattle.cordyceps_stack.specs.Laws.{CallsBalance, NoRoomIsLost, EmptyMeansGone, ToldFinds};
 ghost use Rattle.cordyceps_stack.specs.Shared.Calls.{Takes};
