@@ -2,6 +2,6 @@
 
 pub use cordyceps_base::stack::Links;
 pub use cordyceps_stack::stack::{
-    Inbox, MAX_ROOMS, Party, QUANTUM, Replay, Stack, StepError, TransferAnswer, TransferCore,
-    TransferStack, TransferStep, TryPushError, replay,
+    Inbox, MAX_ROOMS, Party, QUANTUM, Receipt, Replay, Stack, StepError, TransferAnswer,
+    TransferCore, TransferStack, TransferStep, TryPushError, replay,
 };

@@ -11,9 +11,12 @@ pub mod PartyBalances
 pub mod PartyMoves
 pub mod PoolJoins
 pub mod PoolKeeps
+pub mod ReceiptKeeps
+pub mod ReceiptSeats
 pub mod Sending
 pub mod SlotMoves
 pub mod StepTells
 pub mod StepsKeep
+pub mod ToldFinds
 pub mod TriesHold
 pub mod WordsKeep

@@ -7,7 +7,9 @@ pub mod Order
 pub mod Parting
 pub mod Parts
 pub mod Plays
+pub mod Receipts
 pub mod Rule
 pub mod Slots
+pub mod Telling
 pub mod View
 pub mod Words

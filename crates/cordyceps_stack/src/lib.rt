@@ -10,8 +10,9 @@
 //!
 //! Proved: what each call adds to the history that its party has seen, whatever other threads do between its steps;
 //! that a batch is all that was held, in order; that no element and no room is lost or duplicated; that a whole party's
-//! push succeeds at its first try. Only tested: that calls which may wait return, that a drop leaves no node, and how
-//! many rooms of the pool a party that is not whole takes.
+//! push succeeds at its first try; that who was told of elements by a receipt takes some, unless others did. Only
+//! tested: that calls which may wait return, that a drop leaves no node, and how many rooms of the pool a party that is
+//! not whole takes.
 //!
 //! A room takes 16 bytes, and `new` allocates them all, at most 1,048,576; a node takes 32 bytes and its value. A try
 //! to push is O(1): one load and one compare-exchange of the head. One of n elements has also a step on each of n

@@ -53,6 +53,10 @@
 //!
 //! A slot that a load of `QUIET` returned is next filled by the same party, or by one that got its room.
 //!
+//! A `receipt` is a seat without share, rooms and slots. It takes no step, so no rule asks for it, and it may be
+//! dropped: it only knows that some list is a prefix of the history. A party that learns it loads `HEAD`, sees the
+//! whole history, and so knows that the list is a prefix of what it has seen (`HasHeard`).
+//!
 //! Why it is so:
 //!
 //! - There is no pop of one element, since it would read the link of a slot that another party may have in hand. So an
@@ -84,6 +88,7 @@ pub(crate) mod parting;
 pub(crate) mod plays;
 pub(crate) mod pool;
 pub(crate) mod push_error;
+pub(crate) mod receipt;
 pub(crate) mod slot;
 pub(crate) mod steps;
 pub(crate) mod table;

@@ -1,7 +1,10 @@
 -- The blocks of a free list, and what its calls do to them.
 use Rattle.std.specs.Prelude.{◌≡◌, List, [], ◌∷◌, ◌++◌, map, reverse, Option, Some, None}
 use Rattle.cordyceps_base.specs.Element.{Element}
+use Rattle.cordyceps_shared.specs.Shares.{Name}
+use Rattle.cordyceps_stack.specs.History.{Event}
 use Rattle.cordyceps_stack.specs.Shared.Calls.{PartyOf, Takes}
+use Rattle.cordyceps_stack.specs.Shared.Receipts.{Learns}
 
 -- what a contract sees of the local part: its blocks, the last put back first, and its party
 pub record LocalOf (T H : Type 0) : Type 0 where
@@ -24,3 +27,8 @@ module _ {T H : Type 0} (element : H → Element T) where
   abbrev pub TakesShared : List (Element T) → PartyOf H → LocalOf T H → Type 0
   TakesShared blocks party after =
       (batch : List H) × Takes batch party after.party × (after.blocks ≡ reverse (map element batch) ++ blocks)
+
+  -- the party learned a history, and then a block came out, or none
+  abbrev pub GetsTold : List (Event Name H) → LocalOf T H → Option H → LocalOf T H → Type 0
+  GetsTold told before result after =
+      (learned : PartyOf H) × Learns told before.party learned × GetsFrom before.blocks learned result after

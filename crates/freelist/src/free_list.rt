@@ -8,12 +8,15 @@ ghost use Rattle.cordyceps_stack.specs.History.{held, Legal};
 ghost use Rattle.cordyceps_stack.specs.Shared.Calls.{PushesAt, PushesAllAt, Misses};
 ghost use Rattle.cordyceps_stack.specs.Shared.Calls.{Refills, GivesAllBack, HasAllRooms, LacksRooms};
 ghost use Rattle.cordyceps_stack.specs.Shared.Calls.{PushesRefilled, FailsToPush, IsCertainlyFull};
+ghost use Rattle.cordyceps_stack.specs.Shared.Receipts.{Learns};
 
 use crate::local::Local;
 use cordyceps_base::linked::Linked;
 use cordyceps_base::stack::Links;
 use cordyceps_shared::required;
-use cordyceps_stack::stack::{MAX_ROOMS, Party, QUANTUM, Stack, TransferStack, TryPushError};
+use cordyceps_stack::stack::{
+    MAX_ROOMS, Party, QUANTUM, Receipt, Stack, TransferStack, TryPushError,
+};
 use std::alloc::{AllocError, Global};
 use std::marker::Model;
 
@@ -260,6 +263,49 @@ impl<T: Linked<Links<T>>> FreeList<T> {
         ensures { Absorbs (λ h. Legal h) party.old other party.new }
     {
         self.shared.absorb(party, other);
+    }
+
+    /// Returns a receipt: it tells another thread's party what this party has seen.
+    ///
+    /// # Complexity
+    /// O(1): one load.
+    ///
+    /// # Waits
+    /// Never.
+    pub fn receipt(&self, party: &mut Party<T>) -> Receipt<T>
+        requires { party.old.table ≡ self.now }
+        ensures party { party.new ≡ party.old }
+        ensures receipt { (result.table ≡ self.now) × (result.told ≡ plain party.old.seen) }
+    {
+        self.shared.receipt(party)
+    }
+
+    /// Returns a second receipt that tells the same.
+    ///
+    /// # Complexity
+    /// O(1): one load.
+    ///
+    /// # Waits
+    /// Never.
+    pub fn copy_receipt(&self, receipt: &mut Receipt<T>) -> Receipt<T>
+        requires { receipt.old.table ≡ self.now }
+        ensures { (receipt.new ≡ receipt.old) × (result ≡ receipt.old) }
+    {
+        self.shared.copy_receipt(receipt)
+    }
+
+    /// Learns a receipt: the party has then seen all that the receipt tells, and what it had seen itself.
+    ///
+    /// # Complexity
+    /// O(1): two loads.
+    ///
+    /// # Waits
+    /// Never.
+    pub fn learn(&self, party: &mut Party<T>, receipt: Receipt<T>)
+        requires { (party.old.table ≡ self.now) × (receipt.table ≡ self.now) }
+        ensures { Learns receipt.told party.old party.new }
+    {
+        self.shared.learn(party, receipt);
     }
 
     /// Creates a local part without blocks, for the owner of a party. There can be several at a time.

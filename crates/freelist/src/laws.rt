@@ -12,6 +12,8 @@ ghost use Rattle.std.specs.Prelude.{◌≡◌, ◌≤◌, [], ◌∷◌, ◌++�
 ghost use Rattle.cordyceps_shared.specs.Histories.{plain};
 ghost use Rattle.cordyceps_shared.specs.Shares.{whole};
 ghost use Rattle.cordyceps_stack.specs.History.{held};
+ghost use Rattle.cordyceps_stack.specs.Shared.Receipts.{TellsOfMore, AllTaken, OthersTook};
+ghost use Rattle.freelist.specs.Blocks.{GetsTold};
 ghost use Rattle.freelist.specs.Users.{alone, closing, CarriesOut, BothCarryOut, BothRun};
 ghost use Rattle.freelist.specs.Users.{Life, all_parties, Met, EachOnce};
 ghost use Rattle.freelist.specs.declared.laws.Command.TheVariants as kinds;
@@ -20,7 +22,7 @@ use crate::free_list::FreeList;
 use crate::local::{Local, pile};
 use cordyceps_base::linked::Linked;
 use cordyceps_base::stack::Links;
-use cordyceps_stack::stack::{Party, Stack};
+use cordyceps_stack::stack::{Party, Receipt, Stack};
 use std::alloc::{AllocError, Global};
 use std::marker::Model;
 
@@ -227,6 +229,26 @@ pub fn close_all<T: Linked<Links<T>>>(list: FreeList<T>, party: Party<T>) -> Sta
     // its contract states what is true of the party
     party.rooms();
     list.close(party)
+}
+
+/// Learns a receipt, and gets a block. If it finds none, each block that was put back for all by what the receipt tells
+/// has gone out. If the receipt tells of more such blocks than had gone out by what the party had seen, other parties
+/// took some meanwhile.
+///
+/// # Complexity
+/// That of `get`.
+pub fn get_told<T: Linked<Links<T>>>(
+    local: &mut Local<'_, T>,
+    receipt: Receipt<T>,
+) -> Option<T::Handle>
+    requires { receipt.table ≡ local.old.party.table }
+    ensures gets { GetsTold T.element receipt.told local.old result local.new }
+    ensures gone { result ≡ None → AllTaken receipt.told local.new.party }
+    ensures others { result ≡ None → TellsOfMore receipt.told local.old.party
+        → OthersTook local.old.party local.new.party }
+{
+    local.learn(receipt);
+    local.get()
 }
 
 /// Which of two users carries out which command.

@@ -1,13 +1,15 @@
 //! The part of a free list that one owner has.
 ghost use Rattle.std.specs.Prelude.{◌≡◌, [], ◌∷◌, ◌++◌, reverse, false};
+ghost use Rattle.cordyceps_shared.specs.Histories.{plain};
 ghost use Rattle.cordyceps_shared.specs.Standings.{GivesBack};
 ghost use Rattle.cordyceps_stack.specs.Shared.Calls.{LacksRooms};
+ghost use Rattle.cordyceps_stack.specs.Shared.Receipts.{Learns};
 ghost use Rattle.cordyceps_shared.specs.Shares.{whole};
 ghost use Rattle.freelist.specs.Blocks.{GetsFrom, TakesShared};
 
 use cordyceps_base::linked::Linked;
 use cordyceps_base::stack::Links;
-use cordyceps_stack::stack::{Party, Stack, TransferStack};
+use cordyceps_stack::stack::{Party, Receipt, Stack, TransferStack};
 use std::marker::Model;
 
 /// The local part of a free list: the blocks of one owner, who takes the shared ones when these run out. A contract
@@ -134,6 +136,43 @@ impl<'a, T: Linked<Links<T>>> Local<'a, T> {
     {
         let rooms = self.party.rooms();
         self.shared.give_back(&mut self.party, rooms)
+    }
+
+    /// Returns a receipt: it tells another thread's party what this one has seen.
+    ///
+    /// # Complexity
+    /// O(1): one load.
+    ///
+    /// # Waits
+    /// Never.
+    pub fn receipt(&mut self) -> Receipt<T>
+        ensures local { self.new ≡ self.old }
+        ensures receipt { (result.table ≡ self.old.party.table) × (result.told ≡ plain self.old.party.seen) }
+    {
+        self.shared.receipt(&mut self.party)
+    }
+
+    /// Learns a receipt: the party has then seen all that the receipt tells, and what it had seen itself. If a `get`
+    /// then finds no block, each block that was put back for all by what the receipt tells has gone out.
+    ///
+    /// # Complexity
+    /// O(1): two loads.
+    ///
+    /// # Waits
+    /// Never.
+    ///
+    /// # Examples
+    /// From `laws::get_told` of `freelist`:
+    /// ```
+    /// local.learn(receipt);
+    /// local.get()
+    /// ```
+    pub fn learn(&mut self, receipt: Receipt<T>)
+        requires { receipt.table ≡ self.old.party.table }
+        ensures blocks { self.new.blocks ≡ self.old.blocks }
+        ensures party { Learns receipt.told self.old.party self.new.party }
+    {
+        self.shared.learn(&mut self.party, receipt);
     }
 
     /// Ends the local part, and returns its blocks and its party.

@@ -228,32 +228,33 @@ fn batches_and_deadlines_reply(rt: HostRuntime) {
     each_replies(&rt, rt.alloc(), &[(4, &BATCHES[..]), (3, &BATCH_DROPS[..])]);
 }
 
-/// Ends a sender, and asserts what came of it and in which order, after an element that had been received before.
+// What a closed sender had sent comes out in its order, behind an element that was received before.
 #[test]
 fn a_closed_sender_is_received_in_its_order(rt: HostRuntime) {
     let drops = made(&rt, Drops::new(rt.alloc()));
     at_most(&rt, 4, MAX_ROOMS);
-    let (sender, receiver) = made(&rt, channel::<Counted>(rt.alloc(), 4));
-    let (mut sender, mut receiver) = (sender, receiver);
-    for number in 1..4 {
-        let node = element(&rt, rt.alloc(), number, &drops);
-        same(&rt, sender.try_send(node).is_ok(), true);
-    }
-    let first = sender.receipt();
-    drop(first);
-    same(&rt, made(&rt, receiver.recv(&rt)).id(), 1);
-    let all = made(
+    let (mut sender, mut receiver) = made(&rt, channel::<Counted>(rt.alloc(), 4));
+    let earlier = sender.receipt();
+    let Ok(()) = sender.try_send(element(&rt, rt.alloc(), 1, &drops)) else {
+        panic!(rt; "no room is free");
+    };
+    let Ok(()) = sender.try_send(element(&rt, rt.alloc(), 2, &drops)) else {
+        panic!(rt; "no room is free");
+    };
+    drop(earlier);
+    let Ok(first) = receiver.try_recv() else {
+        panic!(rt; "no element is there");
+    };
+    same(&rt, first.id(), 1);
+    let mut all = made(
         &rt,
         close_and_receive(&rt, rt.alloc(), sender, &mut receiver),
     );
-    let mut numbers = (0, 0, all.len());
-    if let Some(node) = all.get(0) {
-        numbers.0 = node.id();
-    }
-    if let Some(node) = all.get(1) {
-        numbers.1 = node.id();
-    }
-    same(&rt, numbers, (2, 3, 2));
-    drop(all);
-    same(&rt, drops.count(), 3);
+    let Some(second) = all.pop() else {
+        panic!(rt; "the second element is not there");
+    };
+    same(&rt, (second.id(), all.len()), (2, 0));
+    drop(first);
+    drop(second);
+    same(&rt, drops.count(), 2);
 }

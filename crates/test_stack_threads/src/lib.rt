@@ -14,6 +14,8 @@ mod pools;
 #[cfg(test)]
 mod pushed_at_once;
 #[cfg(test)]
+mod receipts;
+#[cfg(test)]
 mod seats;
 #[cfg(test)]
 mod transfer_drops;

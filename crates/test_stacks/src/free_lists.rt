@@ -182,6 +182,39 @@ fn parties_share_the_rooms_of_the_pool(rt: HostRuntime) {
     dropped(&rt, &drops, 2);
 }
 
+/// Tells an owner of blocks by a receipt and by its copy, after the owner has told that it has seen nothing.
+fn tell_an_owner(
+    rt: &impl Abort,
+    list: &FreeList<Counted>,
+    party: Party<Counted>,
+    blocks: (Handle, Handle),
+)
+    requires { party.table ≡ list.now }
+{
+    let mut party = party;
+    let (one, two) = blocks;
+    let other = list.split(&mut party, 0);
+    let mut local = list.local(other);
+    list.learn(&mut party, local.receipt());
+    puts(rt, list, &mut party, one, true);
+    puts(rt, list, &mut party, two, false);
+    let mut receipt = list.receipt(&mut party);
+    local.learn(list.copy_receipt(&mut receipt));
+    local.learn(receipt);
+    drop(list.receipt(&mut party));
+    gets(rt, &mut local, &[Some(2), Some(1), None]);
+    finishes(rt, local, 2);
+}
+
+#[test]
+fn an_owner_who_was_told_gets_each_block(rt: HostRuntime) {
+    let drops = no_drops(&rt, rt.alloc());
+    let two = pair(&rt, rt.alloc(), 1, &drops);
+    let (list, party) = made(&rt, FreeList::new(rt.alloc(), 2));
+    tell_an_owner(&rt, &list, party, two);
+    dropped(&rt, &drops, 2);
+}
+
 /// Puts a block back for all and gets it.
 fn put_and_get_one(
     rt: &impl Abort,

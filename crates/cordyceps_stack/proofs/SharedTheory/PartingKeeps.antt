@@ -32,7 +32,7 @@ use Rattle.cordyceps_stack.proofs.SharedTheory.SlotMoves.{vacant_cut, vacant_joi
 use Rattle.cordyceps_stack.proofs.SharedTheory.WordsKeep.{does_frame, rests, forks}
 use Rattle.cordyceps_stack.proofs.SharedTheory.StepsKeep.{step_keeps, untouched, unwritten, few_rooms}
 
-legal_front : {P E : Type 0} (xs ys : List (Event P E)) → Legal (xs ++ ys) → Legal xs
+pub legal_front : {P E : Type 0} (xs ys : List (Event P E)) → Legal (xs ++ ys) → Legal xs
 legal_front xs ys l before after p batch e = l before (after ++ ys) p batch (ap (λ z. z ++ ys) e ∙ append_assoc before (Taken p batch ∷ after) ys)
 
 module _ {E : Type 0} where

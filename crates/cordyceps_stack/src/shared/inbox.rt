@@ -1,11 +1,14 @@
 //! An inbox, from which one thread receives what others pushed, in order.
 ghost use Rattle.std.specs.Prelude.{◌≡◌, [], false};
+ghost use Rattle.cordyceps_shared.specs.Histories.{plain};
 ghost use Rattle.cordyceps_shared.specs.Shares.{whole};
 ghost use Rattle.cordyceps_shared.specs.Standings.{GivesBack};
 ghost use Rattle.cordyceps_stack.specs.Shared.Calls.{LacksRooms};
 ghost use Rattle.cordyceps_stack.specs.Shared.Inboxes.{ReceivesFrom};
+ghost use Rattle.cordyceps_stack.specs.Shared.Receipts.{Learns};
 
 use crate::shared::calls::{Party, TransferStack};
+use crate::shared::receipt::Receipt;
 use cordyceps_base::linked::Linked;
 use cordyceps_base::stack::Links;
 use cordyceps_single::stack::Stack;
@@ -113,6 +116,35 @@ impl<'a, T: Linked<Links<T>>> Inbox<'a, T> {
     {
         let rooms = self.party.rooms();
         self.shared.give_back(&mut self.party, rooms)
+    }
+
+    /// Returns a receipt: it tells another thread's party what this one has seen.
+    ///
+    /// # Complexity
+    /// O(1): one load.
+    ///
+    /// # Waits
+    /// Never.
+    pub fn receipt(&mut self) -> Receipt<T>
+        ensures inbox { self.new ≡ self.old }
+        ensures receipt { (result.table ≡ self.old.party.table) × (result.told ≡ plain self.old.party.seen) }
+    {
+        self.shared.receipt(&mut self.party)
+    }
+
+    /// Learns a receipt: the party has then seen all that the receipt tells, and what it had seen itself.
+    ///
+    /// # Complexity
+    /// O(1): two loads.
+    ///
+    /// # Waits
+    /// Never.
+    pub fn learn(&mut self, receipt: Receipt<T>)
+        requires { receipt.table ≡ self.old.party.table }
+        ensures taken { self.new.taken ≡ self.old.taken }
+        ensures party { Learns receipt.told self.old.party self.new.party }
+    {
+        self.shared.learn(&mut self.party, receipt);
     }
 
     /// Ends the inbox, and returns the elements that were taken and not handed out, and the party.

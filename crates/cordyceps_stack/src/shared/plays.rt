@@ -5,6 +5,7 @@ ghost use Rattle.cordyceps_stack.specs.Shared.Plays.{after_hold, after_hold_last
 ghost use Rattle.cordyceps_stack.specs.Shared.Plays.{after_refill, after_glance, after_give_back, after_give_rest};
 ghost use Rattle.cordyceps_stack.specs.Shared.Parting.{after_learn, view_keeping, view_giving};
 ghost use Rattle.cordyceps_stack.specs.Shared.Parting.{view_absorbing, view_absorbed};
+ghost use Rattle.cordyceps_stack.specs.Shared.Telling.{view_as_is, view_telling, view_hearing, after_hear};
 
 use crate::shared::slot::Slot;
 use crate::shared::table::SeatView;
@@ -148,4 +149,29 @@ impl<E> Join<SeatView<E>> for Merge {
     ghost both = { view_absorbing };
 
     ghost spent = { view_absorbed };
+}
+
+/// A split, at which a receipt is made.
+pub(crate) struct Tell;
+
+impl<E> Split<SeatView<E>> for Tell {
+    ghost left = { view_as_is };
+
+    ghost right = { view_telling };
+}
+
+/// A join, at which a receipt is taken in.
+pub(crate) struct Hear;
+
+impl<E> Join<SeatView<E>> for Hear {
+    ghost both = { view_hearing };
+
+    ghost spent = { view_absorbed };
+}
+
+/// A load of the head after a receipt was taken in.
+pub(crate) struct Heard;
+
+impl<E> Play<Slot<E>, SeatView<E>> for Heard {
+    ghost then = { after_hear };
 }
