@@ -20,7 +20,8 @@
 //!   else first.
 //! - `pop_front` takes the first node if bucket 0 has one. Otherwise the clock becomes the least time of the lowest
 //!   bucket, and `advance` spreads that bucket over the lower ones, in order. Other nodes stay in their buckets.
-//! - `remove` reads the times of the node's neighbours: they say whether the bucket ends elsewhere without it.
+//! - `remove` reads the times of the node's two neighbours. If the node was the last of its bucket, these say whether
+//!   the bucket now ends at the neighbour in front or is empty.
 //!
 //! So each pop that moves a node brings it into a lower bucket, which happens at most 64 times after its push. All
 //! buckets are one list, so a spot reaches its node whichever bucket that is in. For that a push also writes to the
@@ -429,8 +430,9 @@ impl<T: Linked<Links<T>>, O: Times<T>> ClockQueue<T, O> {
     /// element without the bits below the highest in which that differs from the clock. So it is the clock only if an
     /// element is due then, and it is exact if that bit is the lowest one.
     ///
-    /// Whoever sleeps until then and calls `pop_due` either gets the first element or has moved the clock so far that the
-    /// highest bit in which the two differ is a lower one. So he wakes at most 64 times before the first element is due.
+    /// A caller that sleeps until then and calls `pop_due` either gets the first element or has moved the clock so far
+    /// that the highest bit in which the two differ is a lower one. So it wakes at most 64 times before the first
+    /// element is due.
     ///
     /// # Complexity
     /// O(1).

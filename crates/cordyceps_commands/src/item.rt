@@ -7,8 +7,7 @@ ghost use Rattle.std.specs.Ordering.{as_partial_cmp};
 ghost use Rattle.cordyceps_commands.specs.Items.{by_value_then_number};
 
 use cordyceps_base::linked::Linked;
-use cordyceps_base::node::Node;
-use cordyceps_base::{list, mpsc_queue, stack};
+use cordyceps_base::node::{Kind, Node};
 use std::cmp::Ordering;
 
 /// A value and a number. Items are ordered by value, and then by number.
@@ -49,55 +48,19 @@ impl PartialOrd for Item {
     }
 }
 
-impl Linked<list::Links<Item>> for Item {
-    type Handle = Node<Item, list::Links<Item>>;
+impl<L: Kind> Linked<L> for Item {
+    type Handle = Node<Item, L>;
 
     ghost element = { λ h. h };
 
-    fn into_ptr(handle: Node<Item, list::Links<Item>>) -> Node<Item, list::Links<Item>> {
+    fn into_ptr(handle: Node<Item, L>) -> Node<Item, L> {
         handle
     }
 
-    fn from_ptr(node: Node<Item, list::Links<Item>>) -> Node<Item, list::Links<Item>>
+    fn from_ptr(node: Node<Item, L>) -> Node<Item, L>
         ensures { result ≡ node }
     {
-        // a list's node is its handle
-        node
-    }
-}
-
-impl Linked<stack::Links<Item>> for Item {
-    type Handle = Node<Item, stack::Links<Item>>;
-
-    ghost element = { λ h. h };
-
-    fn into_ptr(handle: Node<Item, stack::Links<Item>>) -> Node<Item, stack::Links<Item>> {
-        handle
-    }
-
-    fn from_ptr(node: Node<Item, stack::Links<Item>>) -> Node<Item, stack::Links<Item>>
-        ensures { result ≡ node }
-    {
-        // a stack's node is its handle
-        node
-    }
-}
-
-impl Linked<mpsc_queue::Links<Item>> for Item {
-    type Handle = Node<Item, mpsc_queue::Links<Item>>;
-
-    ghost element = { λ h. h };
-
-    fn into_ptr(
-        handle: Node<Item, mpsc_queue::Links<Item>>,
-    ) -> Node<Item, mpsc_queue::Links<Item>> {
-        handle
-    }
-
-    fn from_ptr(node: Node<Item, mpsc_queue::Links<Item>>) -> Node<Item, mpsc_queue::Links<Item>>
-        ensures { result ≡ node }
-    {
-        // a queue's node is its handle
+        // a node is its own handle
         node
     }
 }

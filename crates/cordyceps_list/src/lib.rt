@@ -5,9 +5,10 @@
 //!
 //! A list is a double chain and two fingers (`finger`). A `CursorMut` and an `IterMut` are guards: the contract of
 //! their `Drop` says that the list has the guard's elements. A `CursorMut` takes the nodes out of its list until it is
-//! dropped (`owned`). An `IterMut` borrows its list, keeps places as numbers, and finds nodes by the fingers; with an
-//! address or a borrowed chain its caller would not know the list afterwards. A `Cursor` and an `Iter` read alone, and
-//! have the address of their node. A `DrainFilter` has a place, a list and a predicate.
+//! dropped (`owned`). An `IterMut` borrows its list, keeps places as numbers, and finds nodes by the fingers. It keeps
+//! no address of a node and no borrowed part of the chain: with those, no contract could say what the list has after
+//! the drop. A `Cursor` and an `Iter` only read, and keep the address of their node. A `DrainFilter` has a place, a
+//! list and a predicate.
 //!
 //! Proved: that each call does what it does on a plain sequence, at all lengths; how many links a split follows, by
 //! `try_split_off_in`. Only tested: that steps of a guard take few moves, and that a drop leaves no node.

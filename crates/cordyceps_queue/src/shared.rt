@@ -65,9 +65,9 @@
 //! table's words spell the plain ones (`SpellsWords`, and `uses`); `UsesKeep`, `UsesWrite` and `UsesShare` show that
 //! steps keep that.
 //!
-//! A `receipt` is a seat without share, rooms and slots. It takes no step, so no rule asks for it, and it may be
-//! dropped: it only knows that some list is a prefix of the history. A party that learns it loads `HEAD`, sees the
-//! whole history, and so knows that the list is a prefix of what it has seen (`HasHeard`).
+//! A `receipt` is a seat without share, rooms and slots. It knows that some list is a prefix of the history, and
+//! nothing else. The rule of the table never refers to it, so it may be dropped at any time. A party that learns it
+//! loads `HEAD`, sees the whole history, and so knows that the list is a prefix of what it has seen (`HasHeard`).
 //!
 //! **Why not otherwise.**
 //!
@@ -75,9 +75,9 @@
 //!   enqueue and each time that the stub is put in.
 //! - The store of a link is a locked instruction. A release store would do, and in a model an enqueue took a third less
 //!   with it. But each step of the table is sequentially consistent, and it has no other store.
-//! - An enqueue takes one element. Elements that are linked already could go in by one swap of `HEAD` and one link. But
-//!   that is no sequence of the machine's steps: a try may return `Inconsistent` only if the element of the party's
-//!   last swap is one of the oldest two, and behind one swap of three elements it is the third.
+//! - An enqueue takes one element. A chain of linked elements could go in by one swap of `HEAD` and one link, but the
+//!   contract of a try excludes it. By that contract a try returns `Inconsistent` only while the element of an
+//!   unfinished swap is the oldest or the second oldest. Where one swap puts three elements in, it may be the third.
 //! - `close` is a loop of tries. It has a whole party, whose tries are certain: none of its names is pending or has the
 //!   right, and the whole share has every name.
 //!

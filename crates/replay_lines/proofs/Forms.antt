@@ -11,7 +11,7 @@ use Rattle.std.proofs.lemmas.List.Splits.{slice_split_at, slice_split_none, join
 use Rattle.std.proofs.lemmas.Slice.Eq.{bytes_eq-Decides}
 use Rattle.cordyceps_commands.specs.declared.item.Item.{Item}
 use Rattle.replay_lines.specs.Words.{words, number_of, structure_number_of}
-use Rattle.replay_lines.specs.LineWords.{only_word_of, only, before, nothing_of, structure_of, value_of, item_of, party_and_number_of, party_and_item_of, perhaps_item_of, party_and_perhaps_item_of, item_words, perhaps_item_words, HasItemNumbers, HasPerhapsItemNumbers}
+use Rattle.replay_lines.specs.LineWords.{only_word_of, only, before, no_word_of, structure_of, value_of, item_of, party_and_number_of, party_and_item_of, perhaps_item_of, party_and_perhaps_item_of, item_words, perhaps_item_words, HasItemNumbers, HasPerhapsItemNumbers}
 use Rattle.replay_lines.proofs.Numbers.{is_numeral, numeral_read, numeral_digits, both, from_if}
 
 pub mapped : {A B : Type 0} (f : A → B) (o : Option A) (b : B) → option_map f o ≡ Some b → (a : A) × (o ≡ Some a) × (f a ≡ b)
@@ -88,9 +88,9 @@ structure_kind = record {
   one = λ n few. let small : n < 2 ^ 64 = omega arith in digits_word (decimal n) (numeral_digits n small);
 }
 
-pub nothing_form : IsForm nothing_of (λ (none : Unit {0}). []) (λ none. Unit {0})
+pub nothing_form : IsForm no_word_of (λ (none : Unit {0}). []) (λ none. Unit {0})
 nothing_form = record { sound = no_words; complete = λ none can. refl; ones = λ none can. tt } where
-  no_words : (ws : List (List ℕ)) (none : Unit {0}) → nothing_of ws ≡ Some none → (ws ≡ []) × Unit {0}
+  no_words : (ws : List (List ℕ)) (none : Unit {0}) → no_word_of ws ≡ Some none → (ws ≡ []) × Unit {0}
   no_words [] none is = (refl, tt)
   no_words (word ∷ ws) none is = cc
 

@@ -7,7 +7,7 @@ use Rattle.cordyceps_commands.specs.declared.list_command.CursorCommand.TheVaria
 use Rattle.replay_lines.specs.declared.cursor_command.CursorVerb.{CursorVerb}
 use Rattle.replay_lines.specs.declared.cursor_command.CursorVerb.TheVariants as verbs
 use Rattle.replay_lines.specs.Words.{words}
-use Rattle.replay_lines.specs.LineWords.{only, nothing_of, structure_of, value_of, item_of}
+use Rattle.replay_lines.specs.LineWords.{only, no_word_of, structure_of, value_of, item_of}
 use Rattle.replay_lines.specs.ListWords.{filter_of}
 
 -- the commands that are one word
@@ -41,7 +41,7 @@ verb_of word =
 
 -- what a command word and the words after it mean
 abbrev pub command_with : CursorVerb → List (List ℕ) → Option CursorCommand
-command_with (verbs.Bare command) words = option_map (λ none. command) (nothing_of words)
+command_with (verbs.Bare command) words = option_map (λ none. command) (no_word_of words)
 command_with verbs.Set words = option_map (λ value. lines.Set value) (value_of words)
 command_with verbs.SetNext words = option_map (λ value. lines.SetNext value) (value_of words)
 command_with verbs.SetPrev words = option_map (λ value. lines.SetPrev value) (value_of words)

@@ -20,9 +20,9 @@ before kind rest [] = None
 before kind rest (word ∷ words) = option_and_then (λ a. option_map (λ b. (a, b)) (rest words)) (kind word)
 
 -- no words
-abbrev pub nothing_of : List (List ℕ) → Option (Unit {0})
-nothing_of [] = Some tt
-nothing_of (word ∷ words) = None
+abbrev pub no_word_of : List (List ℕ) → Option (Unit {0})
+no_word_of [] = Some tt
+no_word_of (word ∷ words) = None
 
 -- the word S
 abbrev pub structure_of : List (List ℕ) → Option ℕ

@@ -10,7 +10,7 @@ use Rattle.cordyceps_commands.specs.ListCommands.{Fits}
 use Rattle.replay_lines.specs.declared.list_command.Verb.{Verb}
 use Rattle.replay_lines.specs.declared.list_command.Verb.TheVariants as verbs
 use Rattle.replay_lines.specs.Words.{words, structure_number_of}
-use Rattle.replay_lines.specs.LineWords.{nothing_of, structure_of, value_of, item_of}
+use Rattle.replay_lines.specs.LineWords.{no_word_of, structure_of, value_of, item_of}
 use Rattle.replay_lines.specs.ListWords.{turns_word_of, split_words_of, drain_words_of, end_word_of}
 use Rattle.replay_lines.specs.ListVerbs.{verb_of}
 
@@ -31,13 +31,13 @@ meaning_of_command command = plain command
 abbrev pub meaning_with : Verb → ℕ → List (List ℕ) → Option Meaning
 meaning_with verbs.PushFront list words = option_map (λ item. plain (commands.PushFront list item)) (item_of words)
 meaning_with verbs.PushBack list words = option_map (λ item. plain (commands.PushBack list item)) (item_of words)
-meaning_with verbs.PopFront list words = option_map (λ none. plain (commands.PopFront list)) (nothing_of words)
-meaning_with verbs.PopBack list words = option_map (λ none. plain (commands.PopBack list)) (nothing_of words)
-meaning_with verbs.Front list words = option_map (λ none. plain (commands.Front list)) (nothing_of words)
-meaning_with verbs.Back list words = option_map (λ none. plain (commands.Back list)) (nothing_of words)
+meaning_with verbs.PopFront list words = option_map (λ none. plain (commands.PopFront list)) (no_word_of words)
+meaning_with verbs.PopBack list words = option_map (λ none. plain (commands.PopBack list)) (no_word_of words)
+meaning_with verbs.Front list words = option_map (λ none. plain (commands.Front list)) (no_word_of words)
+meaning_with verbs.Back list words = option_map (λ none. plain (commands.Back list)) (no_word_of words)
 meaning_with verbs.SetFront list words = option_map (λ value. plain (commands.SetFront list value)) (value_of words)
 meaning_with verbs.SetBack list words = option_map (λ value. plain (commands.SetBack list value)) (value_of words)
-meaning_with verbs.Len list words = option_map (λ none. plain (commands.Len list)) (nothing_of words)
+meaning_with verbs.Len list words = option_map (λ none. plain (commands.Len list)) (no_word_of words)
 meaning_with verbs.Append list words = option_map (λ other. plain (commands.Append list other)) (structure_of words)
 meaning_with verbs.Split list words = option_map (λ x. plain (commands.Split list x.0 x.1)) (split_words_of words)
 meaning_with verbs.Remove list words = option_map (λ id. plain (commands.Remove list id)) (value_of words)
@@ -45,7 +45,7 @@ meaning_with verbs.Bump list words = option_map (λ by. plain (commands.Bump lis
 meaning_with verbs.Walk list words = option_map (λ turns. walk list turns) (turns_word_of words)
 meaning_with verbs.Into list words = option_map (λ turns. into list turns) (turns_word_of words)
 meaning_with verbs.Drain list words = option_map (λ x. plain (commands.Drain list x.0 x.1)) (drain_words_of words)
-meaning_with verbs.Show list words = option_map (λ none. plain (commands.Show list)) (nothing_of words)
+meaning_with verbs.Show list words = option_map (λ none. plain (commands.Show list)) (no_word_of words)
 meaning_with verbs.Cursor list words = option_map (λ end. cursor list end []) (end_word_of words)
 
 -- the number of a structure, and what is read with it of the words after it

@@ -3,7 +3,7 @@ use Rattle.std.specs.Prelude.{ℕ, List, [], ◌∷◌, Option, None, Some, if�
 use Rattle.std.specs.Option.{option_map, option_and_then}
 use Rattle.std.specs.Str.{bytes_eq}
 use Rattle.replay_lines.specs.Words.{words}
-use Rattle.replay_lines.specs.LineWords.{nothing_of, value_of, party_and_number_of, party_and_item_of}
+use Rattle.replay_lines.specs.LineWords.{no_word_of, value_of, party_and_number_of, party_and_item_of}
 use Rattle.replay_lines.specs.LineWords.{party_and_perhaps_item_of}
 use Rattle.replay_lines.specs.declared.queue_command.QueueCommand.{QueueCommand}
 use Rattle.replay_lines.specs.declared.queue_command.QueueCommand.TheVariants as commands
@@ -33,7 +33,7 @@ verb_of word =
 
 -- what a command word and the words after it mean
 abbrev pub command_with : Verb → List (List ℕ) → Option QueueCommand
-command_with verbs.Party words = option_map (λ none. commands.Party) (nothing_of words)
+command_with verbs.Party words = option_map (λ none. commands.Party) (no_word_of words)
 command_with verbs.Room words = option_map (λ p. commands.Room p) (value_of words)
 command_with verbs.Clear words = option_map (λ x. commands.Clear x.0 x.1) (party_and_perhaps_item_of words)
 command_with verbs.Swap words = option_map (λ p. commands.Swap p) (value_of words)

@@ -3,7 +3,7 @@ use Rattle.std.specs.Prelude.{ℕ, List, [], ◌∷◌, Option, None, Some, if�
 use Rattle.std.specs.Option.{option_map, option_and_then}
 use Rattle.std.specs.Str.{bytes_eq}
 use Rattle.replay_lines.specs.Words.{words}
-use Rattle.replay_lines.specs.LineWords.{nothing_of, value_of, party_and_item_of}
+use Rattle.replay_lines.specs.LineWords.{no_word_of, value_of, party_and_item_of}
 use Rattle.replay_lines.specs.declared.transfer_command.TransferCommand.{TransferCommand}
 use Rattle.replay_lines.specs.declared.transfer_command.TransferCommand.TheVariants as commands
 use Rattle.replay_lines.specs.declared.transfer_command.Verb.{Verb}
@@ -24,7 +24,7 @@ verb_of word =
 
 -- what a command word and the words after it mean
 abbrev pub command_with : Verb → List (List ℕ) → Option TransferCommand
-command_with verbs.Party words = option_map (λ none. commands.Party) (nothing_of words)
+command_with verbs.Party words = option_map (λ none. commands.Party) (no_word_of words)
 command_with verbs.Room words = option_map (λ p. commands.Room p) (value_of words)
 command_with verbs.Load words = option_map (λ x. commands.Load x.0 x.1) (party_and_item_of words)
 command_with verbs.SetNext words = option_map (λ p. commands.SetNext p) (value_of words)

@@ -6,7 +6,7 @@ ghost use Rattle.replay_lines.specs.CursorScript.{bare_of, verb_of, command_with
 ghost use Rattle.replay_lines.specs.CursorSpelling.{spelling_of, HasNumbers};
 ghost use Rattle.cordyceps_commands.specs.declared.list_command.CursorCommand.{CursorCommand};
 
-use crate::line_words::{item, nothing, only_word, structure, value};
+use crate::line_words::{item, no_word, only_word, structure, value};
 use crate::list_words::filter;
 use crate::words::Words;
 use cordyceps_commands::CursorCommand;
@@ -99,7 +99,7 @@ fn read_with(verb: CursorVerb, words: Words) -> Option<CursorCommand>
     ensures { result ≡ command_with verb (words_left words.entry.rest) }
 {
     match verb {
-        CursorVerb::Bare(command) => nothing(words).map(|()| command),
+        CursorVerb::Bare(command) => no_word(words).map(|()| command),
         CursorVerb::Set => value(words).map(CursorCommand::Set),
         CursorVerb::SetNext => value(words).map(CursorCommand::SetNext),
         CursorVerb::SetPrev => value(words).map(CursorCommand::SetPrev),

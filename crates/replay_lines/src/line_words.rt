@@ -2,7 +2,7 @@
 //! and takes O(b), for b bytes of the words.
 ghost use Rattle.std.specs.Prelude.{◌≡◌, ◌∷◌, [], None, MatchOption};
 ghost use Rattle.replay_lines.specs.Words.{words_left};
-ghost use Rattle.replay_lines.specs.LineWords.{only_word_of, nothing_of, structure_of, value_of, item_of, two_structures_of, structure_and_item_of, party_and_number_of, party_and_item_of, perhaps_item_of, party_and_perhaps_item_of};
+ghost use Rattle.replay_lines.specs.LineWords.{only_word_of, no_word_of, structure_of, value_of, item_of, two_structures_of, structure_and_item_of, party_and_number_of, party_and_item_of, perhaps_item_of, party_and_perhaps_item_of};
 
 use crate::words::{Words, number, structure_number};
 use cordyceps_commands::Item;
@@ -20,8 +20,8 @@ pub fn only_word<'a>(mut words: Words<'a>) -> Option<&'a [u8]>
 }
 
 /// Reads no word.
-pub fn nothing(mut words: Words) -> Option<()>
-    ensures { result ≡ nothing_of (words_left words.entry.rest) }
+pub fn no_word(mut words: Words) -> Option<()>
+    ensures { result ≡ no_word_of (words_left words.entry.rest) }
 {
     match words.next_word() {
         Some(_) => None,

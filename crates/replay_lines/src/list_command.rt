@@ -2,13 +2,13 @@
 ghost use Rattle.std.specs.Prelude.{◌≡◌, true, Some, is_some, IfOk, OnErr, IfSome};
 ghost use Rattle.std.specs.Option.{option_map};
 ghost use Rattle.replay_lines.specs.Words.{words_left};
-ghost use Rattle.replay_lines.specs.LineWords.{nothing_of};
+ghost use Rattle.replay_lines.specs.LineWords.{no_word_of};
 ghost use Rattle.replay_lines.specs.ListVerbs.{end_verb_of, verb_of};
 ghost use Rattle.replay_lines.specs.ListScript.{meaning_of_command, meaning_with, meaning_of, LineFits};
 ghost use Rattle.replay_lines.specs.Spelling.{spelling_of, HasNumbers};
 ghost use Rattle.cordyceps_commands.specs.declared.list_command.ListCommand.{ListCommand};
 
-use crate::line_words::{item, nothing, structure, value};
+use crate::line_words::{item, no_word, structure, value};
 use crate::list_words::{drain_words, end_word, split_words, turns_word};
 use crate::words::{Words, structure_number};
 use cordyceps_commands::ListCommand;
@@ -110,9 +110,9 @@ pub(crate) fn read_verb(word: &[u8]) -> Option<Verb>
 
 /// Returns the command, unless a word is left.
 fn bare(words: Words, command: ListCommand) -> Option<ListCommand>
-    ensures { result ≡ option_map (λ none. command) (nothing_of (words_left words.entry.rest)) }
+    ensures { result ≡ option_map (λ none. command) (no_word_of (words_left words.entry.rest)) }
 {
-    nothing(words)?;
+    no_word(words)?;
     Some(command)
 }
 

@@ -4,7 +4,7 @@ ghost use Rattle.replay_lines.specs.Words.{words_left};
 ghost use Rattle.replay_lines.specs.QueueScript.{call_of, verb_of, command_with, command_of};
 ghost use Rattle.replay_lines.specs.QueueSpelling.{spelling_of, HasNumbers};
 
-use crate::line_words::{nothing, party, party_and_item, party_and_number, party_and_perhaps_item};
+use crate::line_words::{no_word, party, party_and_item, party_and_number, party_and_perhaps_item};
 use crate::words::Words;
 use cordyceps_commands::Item;
 
@@ -112,7 +112,7 @@ fn read_with(verb: Verb, words: Words) -> Option<QueueCommand>
     ensures { result ≡ command_with verb (words_left words.entry.rest) }
 {
     match verb {
-        Verb::Party => nothing(words).map(|()| QueueCommand::Party),
+        Verb::Party => no_word(words).map(|()| QueueCommand::Party),
         Verb::Room => party(words).map(QueueCommand::Room),
         Verb::Clear => party_and_perhaps_item(words).map(|(p, i)| QueueCommand::Clear(p, i)),
         Verb::Swap => party(words).map(QueueCommand::Swap),

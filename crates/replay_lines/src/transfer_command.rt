@@ -4,7 +4,7 @@ ghost use Rattle.replay_lines.specs.Words.{words_left};
 ghost use Rattle.replay_lines.specs.TransferScript.{verb_of, command_with, command_of};
 ghost use Rattle.replay_lines.specs.TransferSpelling.{spelling_of, HasNumbers};
 
-use crate::line_words::{nothing, party, party_and_item};
+use crate::line_words::{no_word, party, party_and_item};
 use crate::words::Words;
 use cordyceps_commands::Item;
 
@@ -85,7 +85,7 @@ fn read_with(verb: Verb, words: Words) -> Option<TransferCommand>
     ensures { result ≡ command_with verb (words_left words.entry.rest) }
 {
     match verb {
-        Verb::Party => nothing(words).map(|()| TransferCommand::Party),
+        Verb::Party => no_word(words).map(|()| TransferCommand::Party),
         Verb::Room => party(words).map(TransferCommand::Room),
         Verb::Load => party_and_item(words).map(|(p, i)| TransferCommand::Load(p, i)),
         Verb::SetNext => party(words).map(TransferCommand::SetNext),

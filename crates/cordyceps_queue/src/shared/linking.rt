@@ -64,7 +64,7 @@ pub(crate) fn add_room<E: Drop>(
 
 /// Returns the word that leads to the free room after the first `rooms`, and the last of these. Where these are all, no
 /// link is read.
-pub(crate) fn pass<E: Drop>(
+pub(crate) fn skip_rooms<E: Drop>(
     words: &Words<E>,
     seat: &mut PartySeat<E>,
     spare: &Spare,

@@ -10,7 +10,7 @@ ghost use Rattle.cordyceps_queue.specs.Shared.Plays.{IsResting, LegalReversed};
 ghost use Rattle.cordyceps_queue.specs.Shared.Parts.{IsSeatOf, AreNewWords, Relinked, HasAbsorbed, TracksEnd};
 ghost use Rattle.cordyceps_queue.specs.Shared.View.{newcomer, free_chain};
 
-use crate::shared::linking::{pass, tie};
+use crate::shared::linking::{skip_rooms, tie};
 use crate::shared::plays::{Cut, Learn, Merge};
 use crate::shared::spare::Spare;
 use crate::shared::table::{OwnedTable, PartySeat, Words};
@@ -77,7 +77,7 @@ pub(crate) fn split<E: Drop>(
     ensures tracks { TracksEnd spare.new (free_chain (view seat.new.me))
         × TracksEnd result.1 (free_chain (view result.0.me)) }
 {
-    let (after, last) = pass(words, seat, spare, rooms);
+    let (after, last) = skip_rooms(words, seat, spare, rooms);
     let given = Spare {
         rooms: FreeRooms {
             first: spare.rooms.first,

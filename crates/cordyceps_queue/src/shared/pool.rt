@@ -8,7 +8,7 @@ ghost use Rattle.cordyceps_queue.specs.Shared.Parts.{GivesRest, RefillsTo, Refil
 ghost use Rattle.cordyceps_queue.specs.Shared.Plays.{IsResting, FindsPool, LacksRooms, Sees};
 ghost use Rattle.cordyceps_queue.specs.Shared.View.{free_chain, all_rooms, view_returned};
 
-use crate::shared::linking::{pass, tie};
+use crate::shared::linking::{skip_rooms, tie};
 use crate::shared::plays::{Gather, GiveBack, GiveRest, Glance, Refill};
 use crate::shared::spare::Spare;
 use crate::shared::table::{PartySeat, Words};
@@ -120,7 +120,7 @@ pub(crate) fn give_back<E: Drop>(
     if !has_none {
         return false;
     }
-    let (after, last) = pass(words, seat, spare, rooms);
+    let (after, last) = skip_rooms(words, seat, spare, rooms);
     let given = FreeRooms {
         first: spare.rooms.first,
         last,
@@ -170,7 +170,7 @@ fn give_rest<E: Drop>(
     ensures lacks { result ≡ false → LacksRooms words.now.table_id.slots seat.old.me }
     ensures tracks { TracksEnd spare.new (free_chain (view seat.new.me)) }
 {
-    let (after, last) = pass(words, seat, spare, rooms);
+    let (after, last) = skip_rooms(words, seat, spare, rooms);
     let given = FreeRooms {
         first: after,
         last: spare.rooms.last,

@@ -146,7 +146,7 @@ fn next<E: Drop>(words: &Words<E>, seat: &mut PartySeat<E>, room: usize) -> u64
 
 /// Returns the word that leads to the free room after the first `rooms`, and the last of these. Where these are all, no
 /// link is read.
-pub(crate) fn pass<E: Drop>(
+pub(crate) fn skip_rooms<E: Drop>(
     words: &Words<E>,
     seat: &mut PartySeat<E>,
     free: &FreeRooms,
@@ -189,7 +189,7 @@ pub(crate) fn split<E: Drop>(
         × (result.0.me ≡ (view_giving rooms (view seat.old.me), [])) }
     ensures tracks { Tracks free.new (view seat.new.me).free × Tracks result.1 (view result.0.me).free }
 {
-    let (after, last) = pass(words, seat, free, rooms);
+    let (after, last) = skip_rooms(words, seat, free, rooms);
     let given = FreeRooms {
         first: free.first,
         last,

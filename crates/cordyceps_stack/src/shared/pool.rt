@@ -7,7 +7,7 @@ ghost use Rattle.cordyceps_stack.specs.Shared.Parts.{GivesRest, RefillsTo, Refil
 ghost use Rattle.cordyceps_stack.specs.Shared.Plays.{IsResting, FindsPool, LacksRooms, Sees};
 ghost use Rattle.cordyceps_stack.specs.Shared.Slots.{view};
 
-use crate::shared::parting::{lead, link_to_first, pass, put_in_front};
+use crate::shared::parting::{lead, link_to_first, put_in_front, skip_rooms};
 use crate::shared::plays::{GiveBack, GiveRest, Glance, Refill, Return};
 use crate::shared::table::{PartySeat, QUIET, Words};
 use cordyceps_shared::free::{Count, FreeRooms};
@@ -103,7 +103,7 @@ pub(crate) fn give_back<E: Drop>(
     if !look_at_pool(words, seat) {
         return false;
     }
-    let (after, last) = pass(words, seat, free, rooms);
+    let (after, last) = skip_rooms(words, seat, free, rooms);
     let given = FreeRooms {
         first: free.first,
         last,
@@ -155,7 +155,7 @@ fn give_rest<E: Drop>(
     if !look_at_pool(words, seat) {
         return false;
     }
-    let (after, last) = pass(words, seat, free, rooms);
+    let (after, last) = skip_rooms(words, seat, free, rooms);
     let given = FreeRooms {
         first: after,
         last: free.last,

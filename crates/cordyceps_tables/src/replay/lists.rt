@@ -246,7 +246,7 @@ impl Default for Lists {
 }
 
 /// Removes the first command.
-fn pass(commands: &mut VecDeque<ListCommand>)
+fn discard_first(commands: &mut VecDeque<ListCommand>)
     ensures { commands.new.items ≡ drop 1 commands.old.items }
 {
     commands.pop_front();
@@ -283,7 +283,7 @@ pub fn replay_lists(
         let Ok(()) = replies.push(reply) else {
             unreachable!()
         };
-        pass(&mut rest);
+        discard_first(&mut rest);
     }
     Played { replies, rest }
 }

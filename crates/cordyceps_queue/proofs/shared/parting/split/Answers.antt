@@ -9,7 +9,7 @@ use Rattle.cordyceps_queue.proofs.shared.parting.split.Goals as goal
 pub returns-clause-tracks : goal.returns-clause-tracks
 returns-clause-tracks g c =
     let n = c.args.rooms in
-    let p = c.pass-after in
+    let p = c.skip_rooms-after in
     let spare = c.args.spare.now in
     let chain = free_chain c.args.seat.now.me.0 in
     let t = c.requires.rooms in

@@ -7,7 +7,7 @@ use Rattle.cordyceps_stack.proofs.shared.parting.split.Goals as goal
 pub returns-clause-tracks : goal.returns-clause-tracks
 returns-clause-tracks g c =
     let n = c.args.rooms in
-    let p = c.pass-after in
+    let p = c.skip_rooms-after in
     let m = c.args.seat.now.me.0.free in
     let t = c.requires.rooms in
     let v = c.cut.ensures.views in

@@ -11,23 +11,23 @@ pub pack-requires : goal.pack-requires
 pack-requires g c =
     let m = c.args.seat.now.me in
     let n = c.args.rooms in
-    let first = c.pass-after.result.0 in
+    let first = c.skip_rooms-after.result.0 in
     let e = c.look_at_pool.ensures in
     let t = c.requires.rooms in
     let many = c.requires.table.1.1 in
     fits_left c.args.words.now.table_id.slots n first c.args.free.now m.0.free c.requires.rest.near (omega arith) e.few t.0 t.1
-    (left_first n first m c.look_at_pool.new.seat.me e.same.1 c.pass-after.ensures.first)
+    (left_first n first m c.look_at_pool.new.seat.me e.same.1 c.skip_rooms-after.ensures.first)
 
 pub put_rest-requires-clause-packs : goal.put_rest-requires-clause-packs
 put_rest-requires-clause-packs g c =
     let m = c.args.seat.now.me in
     let n = c.args.rooms in
-    let first = c.pass-after.result.0 in
+    let first = c.skip_rooms-after.result.0 in
     let e = c.look_at_pool.ensures in
     let t = c.requires.rooms in
     let many = c.requires.table.1.1 in
-    let first_is = left_first n first m c.look_at_pool.new.seat.me e.same.1 c.pass-after.ensures.first in
-    subst (λ (q : FreeChain). Packs c.pack.result (rest_rooms n q)) (sym (ap (λ q. q.0.free) (c.pass-after.ensures.seat.1 ∙ e.same.1)))
+    let first_is = left_first n first m c.look_at_pool.new.seat.me e.same.1 c.skip_rooms-after.ensures.first in
+    subst (λ (q : FreeChain). Packs c.pack.result (rest_rooms n q)) (sym (ap (λ q. q.0.free) (c.skip_rooms-after.ensures.seat.1 ∙ e.same.1)))
     (packs_left n first c.pack.result c.args.free.now m.0.free c.pack.ensures
     (fits_left c.args.words.now.table_id.slots n first c.args.free.now m.0.free c.requires.rest.near (omega arith) e.few t.0 t.1 first_is)
     t.0 t.1 first_is)
@@ -37,7 +37,7 @@ returns-clause-tracks g c =
     let m = c.args.seat.now.me in
     let n = c.args.rooms in
     let free = c.args.free.now in
-    let p = c.pass-after in
+    let p = c.skip_rooms-after in
     let e = c.look_at_pool.ensures in
     let t = c.requires.rooms in
     let kept : FreeRooms = record { first = free.first; last = p.result.1; count = n } in

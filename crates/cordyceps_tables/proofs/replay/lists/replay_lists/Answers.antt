@@ -13,8 +13,8 @@ loop-command-preserved c =
     let before : Plays step c.args.lists.now c.args.commands.items c.loop-command.replies.items (command ∷ drop 1 waiting) c.loop-command.lists = rw split at c.loop-command.invariant.played in
     let after = plays_more step c.args.lists.now c.loop-command.lists c.run.new.self c.args.commands.items (drop 1 waiting) c.loop-command.replies.items command c.in-Ok.reply before c.in-Ok.ensures.ok in
     record {
-      played = rw (c.pass.ensures, c.in-Ok-push.ensures.items, c.reserve.ensures.items) after;
-      fit = rw c.pass.ensures (All-drop Fits 1 waiting c.loop-command.invariant.fit);
+      played = rw (c.discard_first.ensures, c.in-Ok-push.ensures.items, c.reserve.ensures.items) after;
+      fit = rw c.discard_first.ensures (All-drop Fits 1 waiting c.loop-command.invariant.fit);
     }
 
 pub loop-command-init : goal.loop-command-init

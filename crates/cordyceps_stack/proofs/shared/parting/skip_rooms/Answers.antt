@@ -6,7 +6,7 @@ use Rattle.cordyceps_stack.specs.Shared.Slots.{vacant, all_vacant, last_link}
 use Rattle.cordyceps_stack.specs.Shared.View.{held_rooms}
 use Rattle.cordyceps_stack.proofs.SharedTheory.PartsJoin.{leads_first, passes_first, held_long, next_free, next_vacant, follows_next, follows_all, vacant_back, back_joins}
 use Rattle.cordyceps_stack.proofs.SharedTheory.StepsKeep.{returns}
-use Rattle.cordyceps_stack.proofs.shared.parting.pass.Goals as goal
+use Rattle.cordyceps_stack.proofs.shared.parting.skip_rooms.Goals as goal
 
 pub loop-room-init : goal.loop-room-init
 loop-room-init g c =

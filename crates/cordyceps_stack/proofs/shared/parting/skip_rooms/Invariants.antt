@@ -2,7 +2,7 @@ use Rattle.std.proofs.Common.{◌≡◌}
 use Rattle.cordyceps_shared.specs.FreeChains.{leads}
 use Rattle.cordyceps_stack.specs.Shared.View.{held_rooms}
 use Rattle.cordyceps_stack.proofs.SharedTheory.PartsJoin.{Follows}
-use Rattle.cordyceps_stack.proofs.shared.parting.pass.Given as goal
+use Rattle.cordyceps_stack.proofs.shared.parting.skip_rooms.Given as goal
 
 abbrev pub ghosts-hold : goal.ghosts-hold
 ghosts-hold g a = record { rooms = a.rooms }

@@ -1,5 +1,5 @@
 use Rattle.std.proofs.Common.{rules}
-use Rattle.replay_lines.proofs.line_words.nothing.Goals as goal
+use Rattle.replay_lines.proofs.line_words.no_word.Goals as goal
 
 pub returns-in-None : goal.returns-in-None
 returns-in-None c = search rules

@@ -5,7 +5,7 @@ use Rattle.cordyceps_shared.specs.declared.layout.TheConstants.{LINKS}
 use Rattle.cordyceps_queue.proofs.SharedTheory.UsesShare.{skips}
 use Rattle.cordyceps_shared.proofs.TrackRooms.{room_at, last_same}
 use Rattle.cordyceps_queue.proofs.SharedTheory.StepTells.{told}
-use Rattle.cordyceps_queue.proofs.shared.linking.pass.Goals as goal
+use Rattle.cordyceps_queue.proofs.shared.linking.skip_rooms.Goals as goal
 
 pub overflow_sub-last : goal.overflow_sub-last
 overflow_sub-last g c =

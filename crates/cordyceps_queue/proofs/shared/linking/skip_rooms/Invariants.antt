@@ -1,6 +1,6 @@
 use Rattle.std.proofs.Common.{◌≡◌, ◌<◌, ℕ, suc, List, [], ◌∷◌, ◌++◌, take, drop}
 use Rattle.cordyceps_shared.specs.FreeChains.{leads}
-use Rattle.cordyceps_queue.proofs.shared.linking.pass.Given as goal
+use Rattle.cordyceps_queue.proofs.shared.linking.skip_rooms.Given as goal
 
 abbrev pub invariant-loop-room : goal.invariant-loop-room
 invariant-loop-room g l =

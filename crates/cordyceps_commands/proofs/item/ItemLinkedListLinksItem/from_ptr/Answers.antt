@@ -1,5 +1,0 @@
-use Rattle.std.proofs.Common.{rules}
-use Rattle.cordyceps_commands.proofs.item.ItemLinkedListLinksItem.from_ptr.Goals as goal
-
-pub returns : goal.returns
-returns c = search rules

@@ -1,5 +1,0 @@
-use Rattle.std.proofs.Common.{refl}
-use Rattle.cordyceps_commands.proofs.item.ItemLinkedStackLinksItem.into_ptr.Goals as goal
-
-pub returns : goal.returns
-returns c = refl
