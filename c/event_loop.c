@@ -18,14 +18,21 @@
 #include <unistd.h>
 
 #include "cordyceps.h"
+#include "cordyceps_waker.h"
 
 /* An inbox has more rooms than there are connections, and a worker has at most one line of each. */
 enum { CONNECTIONS = 6, WORKERS = 2, ROOMS = 64, TEXT = 64, IDLE_MS = 300, MESSAGES = 30 };
 
+/* What a thread sleeps on, and whether it has to be woken. */
+struct sleep {
+  cordyceps_waker waker;
+  int fd;
+};
+
 struct worker {
   pthread_t thread;
   cordyceps_inbox lines, jobs, results; /* to send it lines, to receive them, and to send them back to the loop */
-  int wake, wake_loop;
+  struct sleep sleep, *of_loop;
 };
 
 struct connection {
@@ -41,7 +48,8 @@ struct connection {
 struct loop {
   cordyceps_inbox inbox;
   cordyceps_timers timers;
-  int wake, poll;
+  struct sleep sleep;
+  int poll;
   struct connection connections[CONNECTIONS];
   unsigned lines, results, expired;
 };
@@ -65,12 +73,15 @@ static void give_back(cordyceps_inbox *it) {
     sched_yield();
 }
 
-/* Sends to an inbox, and wakes its thread. If no room is free, another thread is about to give some back. */
-static void post(cordyceps_inbox *to, struct connection *payload, int wake) {
+/* Sends to an inbox, and wakes its thread if that sleeps. If no room is free, another thread is about to give some
+ * back. */
+static void post(cordyceps_inbox *to, struct connection *payload, struct sleep *of) {
   uint32_t answer;
   while ((answer = cordyceps_inbox_send(to, (uintptr_t)payload)) == CORDYCEPS_FULL)
     sched_yield();
-  ends_unless(answer == CORDYCEPS_DONE && eventfd_write(wake, 1) == 0, "a line was not sent");
+  ends_unless(answer == CORDYCEPS_DONE, "a line was not sent");
+  if (cordyceps_waker_disarm(&of->waker))
+    ends_unless(eventfd_write(of->fd, 1) == 0, "a thread was not woken");
 }
 
 /* Receives from an inbox. false: nothing is there, or a thread is about to send, which then wakes this one. */
@@ -89,38 +100,39 @@ static void *work(void *given) {
   struct connection *of;
   eventfd_t count;
   for (;;) {
+    cordyceps_waker_arm(&it->sleep.waker);
     while (take(&it->jobs, &of)) {
       if (!of)
         return NULL;
       for (size_t i = 0; i < of->line; i++)
         of->text[i] = (char)toupper((unsigned char)of->text[i]);
-      post(&it->results, of, it->wake_loop);
+      post(&it->results, of, it->of_loop);
     }
     give_back(&it->results);
-    ends_unless(eventfd_read(it->wake, &count) == 0, "a worker does not sleep");
+    ends_unless(eventfd_read(it->sleep.fd, &count) == 0, "a worker does not sleep");
   }
 }
 
 static void start_worker(struct loop *loop, struct worker *it) {
-  *it = (struct worker){.wake = eventfd(0, EFD_CLOEXEC), .wake_loop = loop->wake};
-  ends_unless(it->wake >= 0 && cordyceps_inbox_new(ROOMS, &it->lines), "there is no inbox with an eventfd");
+  *it = (struct worker){.sleep = {.fd = eventfd(0, EFD_CLOEXEC)}, .of_loop = &loop->sleep};
+  ends_unless(it->sleep.fd >= 0 && cordyceps_inbox_new(ROOMS, &it->lines), "there is no inbox with an eventfd");
   ends_unless(cordyceps_inbox_split(&it->lines, &it->jobs), "memory was refused");
   ends_unless(cordyceps_inbox_split(&loop->inbox, &it->results), "memory was refused");
   ends_unless(pthread_create(&it->thread, NULL, work, it) == 0, "a thread was refused");
 }
 
 static void end_worker(struct loop *loop, struct worker *it) {
-  post(&it->lines, NULL, it->wake);
+  post(&it->lines, NULL, &it->sleep);
   ends_unless(pthread_join(it->thread, NULL) == 0, "a thread did not end");
   ends_unless(cordyceps_inbox_absorb(&loop->inbox, &it->results), "a handle was of nothing");
   ends_unless(cordyceps_inbox_free(&it->jobs) && cordyceps_inbox_free(&it->lines), "a handle was of nothing");
-  close(it->wake);
+  close(it->sleep.fd);
 }
 
 static void make_loop(struct loop *it) {
   struct epoll_event event = {.events = EPOLLIN, .data.ptr = NULL};
-  *it = (struct loop){.wake = eventfd(0, EFD_NONBLOCK | EFD_CLOEXEC), .poll = epoll_create1(EPOLL_CLOEXEC)};
-  ends_unless(epoll_ctl(it->poll, EPOLL_CTL_ADD, it->wake, &event) == 0, "there is no epoll of an eventfd");
+  *it = (struct loop){.sleep = {.fd = eventfd(0, EFD_NONBLOCK | EFD_CLOEXEC)}, .poll = epoll_create1(EPOLL_CLOEXEC)};
+  ends_unless(epoll_ctl(it->poll, EPOLL_CTL_ADD, it->sleep.fd, &event) == 0, "there is no epoll of an eventfd");
   ends_unless(cordyceps_inbox_new(ROOMS, &it->inbox) && cordyceps_timers_new(0, &it->timers), "memory was refused");
   give_back(&it->inbox);
 }
@@ -153,7 +165,7 @@ static void go_on(struct loop *it, struct connection *of) {
   if (end) {
     of->line = (size_t)(end - of->text) + 1;
     it->lines++;
-    post(&of->worker->lines, of, of->worker->wake);
+    post(&of->worker->lines, of, &of->worker->sleep);
   } else {
     await_text(it, of, EPOLL_CTL_MOD);
   }
@@ -210,19 +222,22 @@ static int pause_of(struct loop *it, uint64_t now) {
   return until <= now ? 0 : (int)(until - now);
 }
 
-/* Waits, and does what there is to do. Timers fire by the time before the wait, so that a line that came in time is
- * read first. They fire after the events, so that no event is of a connection that is closed. */
+/* Waits, and does what there is to do. The waker is armed before the last look at the inbox, so that a result that
+ * comes after it ends the wait. Timers fire by the time before the wait, so that a line that came in time is read
+ * first. They fire after the events, so that no event is of a connection that is closed. */
 static void turn(struct loop *it) {
   struct epoll_event events[CONNECTIONS + 1];
   uint64_t now = now_ms();
   eventfd_t count;
+  cordyceps_waker_arm(&it->sleep.waker);
+  take_results(it);
   int many = epoll_wait(it->poll, events, CONNECTIONS + 1, pause_of(it, now));
   ends_unless(many >= 0 || errno == EINTR, "epoll does not wait");
   for (int i = 0; i < many; i++)
     if (events[i].data.ptr)
       take_text(it, events[i].data.ptr);
     else
-      eventfd_read(it->wake, &count);
+      eventfd_read(it->sleep.fd, &count);
   take_results(it);
   expire(it, now);
 }
@@ -292,7 +307,7 @@ int main(void) {
     ends_unless(!clients[i].lacks_answer || loop.connections[i].line > 0, "a line was not answered");
   }
   ends_unless(cordyceps_inbox_free(&loop.inbox) && cordyceps_timers_free(&loop.timers), "a handle was of nothing");
-  close(loop.wake);
+  close(loop.sleep.fd);
   close(loop.poll);
   printf("event_loop: %u lines; %u of %d connections expired\n", loop.results, loop.expired, CONNECTIONS);
   return 0;

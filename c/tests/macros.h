@@ -1,8 +1,14 @@
-/* Uses each macro of the header, so that each compiler reads what it stands for, as C and as C++. */
+/* Uses each macro of the header and each inline function, so that each compiler reads them, as C and as C++. */
 #ifndef MACROS_H
 #define MACROS_H
 
 #include "cordyceps.h"
+#include "cordyceps_waker.h"
+
+static inline bool is_armed_once(cordyceps_waker *waker) {
+  cordyceps_waker_arm(waker);
+  return cordyceps_waker_disarm(waker) && !cordyceps_waker_disarm(waker);
+}
 
 struct embedding {
   int number;

@@ -12,7 +12,7 @@ from .common import TOP
 
 CRATE = "cordyceps_c"
 NAME = "libcordyceps.a"
-HEADER = f"{TOP}/c/cordyceps.h"
+HEADERS = (f"{TOP}/c/cordyceps.h", f"{TOP}/c/cordyceps_waker.h")
 # The toolchain's functions by which the archive calls malloc, realloc and free.
 HEAP = "c/liblibc_c.a"
 PARTS = ("src", "specs", "proofs")
