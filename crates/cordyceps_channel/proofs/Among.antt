@@ -1,6 +1,7 @@
 -- That what a sender sent is among what came in, in its order.
-use Rattle.std.proofs.Common.{◌≡◌, Bool, true, false, List, [], ◌∷◌, ◌++◌, cond, refl, ap, ◌∙◌, subst, sym, append_assoc, inl, inr, ⊎_elim}
+use Rattle.std.proofs.Common.{◌≡◌, Bool, true, false, ◌≤◌, List, [], ◌∷◌, ◌++◌, length, cond, refl, ap, ◌∙◌, subst, sym, append_assoc, inl, inr, ⊎_elim, arith}
 use Rattle.std.specs.Prelude.{Result, Ok, Err, IfOk}
+use Rattle.std.proofs.lemmas.List.{append-nil, length-append}
 use Rattle.std.proofs.lemmas.List.Concat.{flat_map-append}
 use Rattle.cordyceps_shared.specs.Histories.{plain, own}
 use Rattle.cordyceps_shared.specs.Interleaving.{Interleaves}
@@ -8,8 +9,8 @@ use Rattle.cordyceps_shared.specs.Knowing.{IsPrefixOf}
 use Rattle.cordyceps_shared.specs.Shares.{Name}
 use Rattle.cordyceps_queue.specs.History.{Event, comes, came}
 use Rattle.cordyceps_queue.specs.Shared.Calls.{PartyOf}
-use Rattle.cordyceps_channel.specs.Channels.{AreAmong, Receives, IsOver, sent, received}
-use Rattle.cordyceps_channel.proofs.Received.{receives_then}
+use Rattle.cordyceps_channel.specs.Channels.{AreAmong, Sends, Receives, TellsOfMore, IsOver, sent, received}
+use Rattle.cordyceps_channel.proofs.Received.{receives_then, moves_sent}
 
 module _ {E : Type 0} where
   none_of : (zs : List E) → Interleaves [] zs zs
@@ -29,8 +30,8 @@ module _ {E : Type 0} where
   then_others : (xs ys zs more : List E) → Interleaves xs ys zs → Interleaves xs (ys ++ more) (zs ++ more)
   then_others xs ys [] more h = subst (λ l. Interleaves l (ys ++ more) more) (sym h.0) (subst (λ l. Interleaves [] (l ++ more) more) (sym h.1) (none_of more))
   then_others xs ys (z ∷ zs) more h = ⊎_elim
-      (λ t. inl (t.0, t.1, then_others t.0 ys zs more t.2))
-      (λ t. inr (t.0 ++ more, ap (λ l. l ++ more) t.1, then_others xs t.0 zs more t.2)) h
+      (λ t. let (rest, is, then) = t in inl (rest, is, then_others rest ys zs more then))
+      (λ t. let (rest, is, then) = t in inr (rest ++ more, ap (λ l. l ++ more) is, then_others xs rest zs more then)) h
 
   own_among : (xs : List (Bool × Event Name E)) → AreAmong (came (own xs)) (came (plain xs))
   own_among [] = ([], (refl, refl))
@@ -59,3 +60,26 @@ module _ {E : Type 0} where
       let all = later.1 ∙ (ap (λ l. l ++ later.0) told.1 ∙ append_assoc (plain u.seen) told.0 later.0) in
       subst (λ l. AreAmong (sent u) l) (sym h.1.all) (sent_among u (plain w.seen) (told.0 ++ later.0, all))
   order_kept items (Err e) u v w told h = h
+
+  -- who knows of more elements than it has received finds the channel not over
+  pub not_over : (told : List (Event Name E)) (u v w : PartyOf E) → Receives [] u v → IsPrefixOf told (plain v.seen) → Receives [] v w → TellsOfMore told u → IsOver w → ⊥
+  not_over told u v w first knows second more over =
+      let later = second.seen in
+      let all : plain w.seen ≡ told ++ (knows.0 ++ later.0) = later.1 ∙ (ap (λ l. l ++ later.0) knows.1 ∙ append_assoc told knows.0 later.0) in
+      let in_all : came (plain w.seen) ≡ came told ++ came (knows.0 ++ later.0) = ap came all ∙ flat_map-append comes told (knows.0 ++ later.0) in
+      let none : received w ≡ received u = second.elements ∙ (append-nil (received v) ∙ (first.elements ∙ append-nil (received u))) in
+      let same : received u ≡ came told ++ came (knows.0 ++ later.0) = sym none ∙ (over.all ∙ in_all) in
+      omega (arith, ap length same, length-append (came told) (came (knows.0 ++ later.0)), more)
+
+  no_more : (xs ys zs : List E) → Interleaves xs ys zs → length xs ≤ length zs
+  no_more xs ys [] h = subst (λ l. length l ≤ 0) (sym h.0) (omega arith)
+  no_more xs ys (z ∷ zs) h = ⊎_elim
+      (λ t. let (rest, is, then) = t in omega (arith, ap length is, no_more rest ys zs then))
+      (λ t. let (rest, is, then) = t in omega (arith, no_more xs rest zs then)) h
+
+  -- a sender that sent an element knows of more than a receiver has received that received nothing
+  pub tells_of : (e : E) (u v w : PartyOf E) → Sends e u w → received v ≡ [] → TellsOfMore (plain w.seen) v
+  tells_of e u v w m none =
+      let mine = own_among w.seen in
+      let few : length (sent w) ≤ length (came (plain w.seen)) = no_more (sent w) mine.0 (came (plain w.seen)) mine.1 in
+      omega (arith, few, ap length (moves_sent u w (e ∷ []) m), length-append (sent u) (e ∷ []), ap length none)

@@ -1,7 +1,8 @@
-mod Among
+pub mod Among
 mod Ending
 mod Placing
 mod Received
 mod Registering
+mod Selecting
 mod Taking
 mod Waiting

@@ -9,13 +9,13 @@ use Rattle.cordyceps_shared.specs.Standings.{Absorbs, GivesBack}
 use Rattle.cordyceps_shared.proofs.Adding.{plain_append}
 use Rattle.cordyceps_shared.proofs.HistoryMarks.{own_append}
 use Rattle.cordyceps_shared.proofs.Moving.{moves_none, moves_then, moves_given, moves_by}
-use Rattle.cordyceps_queue.specs.History.{Event, actor, goes, went}
+use Rattle.cordyceps_queue.specs.History.{Event, actor, comes, goes, came, went}
 use Rattle.cordyceps_queue.specs.Shared.Calls.{PartyOf, Legal, GivesAllBack}
 use Rattle.cordyceps_queue.specs.Shared.Batches.{StopsAt, TakesLinked}
 use Rattle.cordyceps_queue.specs.Shared.Moves.{put_by, got_by, Moves}
 use Rattle.cordyceps_queue.specs.Shared.Receipts.{Learns}
-use Rattle.cordyceps_queue.proofs.SharedTheory.PartyMoves.{all_got, moves_linked}
-use Rattle.cordyceps_channel.specs.Channels.{received, Receives, ReceivesBatch, Stays}
+use Rattle.cordyceps_queue.proofs.SharedTheory.PartyMoves.{all_put, all_got, moves_linked}
+use Rattle.cordyceps_channel.specs.Channels.{sent, received, Receives, ReceivesBatch, Stays}
 
 module _ {E : Type 0} where
   went_append : (g h : List (Event Name E)) → went (g ++ h) ≡ went g ++ went h
@@ -34,6 +34,16 @@ module _ {E : Type 0} where
         elements = ap (λ l. went (own l)) a.is ∙ (went_own u.seen a.rest ∙ ap (λ l. went (own u.seen) ++ l) got);
         seen = (plain a.rest, ap plain a.is ∙ plain_append u.seen a.rest);
       }
+
+  -- what a party put in in a call is what it sent
+  came_own : (xs ys : List (Bool × Event Name E)) → came (own (xs ++ ys)) ≡ came (own xs) ++ came (own ys)
+  came_own xs ys = ap came (own_append xs ys) ∙ flat_map-append comes (own xs) (own ys)
+
+  pub moves_sent : {got : List E} (u w : PartyOf E) (es : List E) → Moves (λ x. x) es got u w → sent w ≡ sent u ++ es
+  moves_sent u w es m =
+      let a = m.acts in
+      let put : came (own a.rest) ≡ es = ap came a.adds ∙ (sym (map-id (came m.events)) ∙ (sym (all_put (λ (x : E). x) m.events) ∙ m.put_in)) in
+      ap (λ l. came (own l)) a.is ∙ (came_own u.seen a.rest ∙ ap (λ l. came (own u.seen) ++ l) put)
 
   pub receives_none : (u : PartyOf E) → Receives [] u u
   receives_none u = record { table = refl; elements = sym (append-nil (received u)); seen = ([], sym (append-nil (plain u.seen))) }
@@ -126,12 +136,3 @@ module _ {E : Type 0} where
 
   pub batch_then : {A : Type 0} (f : E → A) (max : ℕ) (batch : List A) (u v w : PartyOf E) → Receives [] u v → ReceivesBatch f max batch v w → ReceivesBatch f max batch u w
   batch_then f max batch u v w before b = record { elements = b.elements; items = b.items; some = b.some; few = b.few; receives = receives_then u v w [] b.elements before b.receives }
-
-  pub then_stays : {A : Type 0} (f : E → A) (max : ℕ) (batch : List A) (u v w : PartyOf E) → ReceivesBatch f max batch u v → Stays v w → ReceivesBatch f max batch u w
-  then_stays f max batch u v w b after = record {
-    elements = b.elements;
-    items = b.items;
-    some = b.some;
-    few = b.few;
-    receives = subst (λ l. Receives l u w) (append-nil b.elements) (receives_then u v w b.elements [] b.receives after.receives);
-  }

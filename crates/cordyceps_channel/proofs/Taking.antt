@@ -1,5 +1,5 @@
 -- What is known of a receiver's party by where it is: in a consumer, or at rest.
-use Rattle.std.proofs.Common.{◌≡◌, true, refl, sym, ap, ◌∙◌, subst, inr, ⊎_elim}
+use Rattle.std.proofs.Common.{◌≡◌, refl, sym, ap, ◌∙◌, subst, inr, ⊎_elim}
 use Rattle.std.specs.Prelude.{Option, Some, None, MatchOption}
 use Rattle.atomic_table.specs.Seated.{TableId}
 use Rattle.cordyceps_queue.specs.Shared.Calls.{PartyOf}
@@ -23,22 +23,12 @@ pub consumer_party : {E A : Type 0} (consumer : Option (OwnedOf E)) (resting : O
 consumer_party consumer resting it e = ap (λ c. (taker_of c resting).party) e
 
 module _ {E A : Type 0} (table_of : A → TableId) (consumer : Option (OwnedOf E)) (resting : Option (A × PartyOf E)) where
-  pub holds_it : IsTaker table_of consumer resting → resting ≡ None → (taker_of consumer resting).holds ≡ true
-  holds_it t e = ⊎_elim (λ h. ap (λ c. (taker_of c resting).holds) h.is) (λ r. absurd (cc (sym r.is ∙ e))) t
-
   -- a party at rest, and its queue
   pub resting_party : IsTaker table_of consumer resting → (it : A × PartyOf E) → resting ≡ Some it → (taker_of consumer resting).party ≡ it.1
   resting_party t it e = ⊎_elim (λ h. absurd (cc (sym e ∙ h.none))) (λ r. λ i. (taker_of (r.none i) (e i)).party) t
 
   pub resting_table : IsTaker table_of consumer resting → (it : A × PartyOf E) → resting ≡ Some it → table_of it.0 ≡ it.1.table
   resting_table t it e = ⊎_elim (λ h. absurd (cc (sym e ∙ h.none))) (λ r. subst (λ x. table_of x.0 ≡ x.1.table) (ap (inside it) (sym r.is ∙ e)) r.table) t
-
-  -- the queue of a consumer
-  pub consumer_table : IsTaker table_of consumer resting → (it : OwnedOf E) → consumer ≡ Some it → it.queue.table ≡ it.party.table
-  consumer_table t it e = ⊎_elim (λ h. subst (λ x. x.queue.table ≡ x.party.table) (ap (inside it) (sym h.is ∙ e)) h.table) (λ r. absurd (cc (sym e ∙ r.none))) t
-
-  pub consumer_alone : IsTaker table_of consumer resting → (it : OwnedOf E) → consumer ≡ Some it → resting ≡ None
-  consumer_alone t it e = ⊎_elim (λ h. h.none) (λ r. absurd (cc (sym e ∙ r.none))) t
 
   pub resting_alone : IsTaker table_of consumer resting → (it : A × PartyOf E) → resting ≡ Some it → consumer ≡ None
   resting_alone t it e = ⊎_elim (λ h. absurd (cc (sym e ∙ h.none))) (λ r. r.none) t

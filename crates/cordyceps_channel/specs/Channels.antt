@@ -1,10 +1,10 @@
 -- What the senders and the receiver of a channel promise.
-use Rattle.std.specs.Prelude.{◌≡◌, ◌≢◌, ◌≤◌, ℕ, zero, suc, List, [], ◌∷◌, ◌++◌, length, map, Bool, true, false}
+use Rattle.std.specs.Prelude.{◌≡◌, ◌≢◌, ◌<◌, ◌≤◌, ℕ, zero, suc, List, [], ◌∷◌, ◌++◌, length, map, Bool, true, false}
 use Rattle.atomic_table.specs.Seated.{TableId}
 use Rattle.cordyceps_shared.specs.Histories.{plain, own}
 use Rattle.cordyceps_shared.specs.Knowing.{IsPrefixOf}
 use Rattle.cordyceps_shared.specs.Shares.{Name, whole, keeps_half, gives_half}
-use Rattle.cordyceps_queue.specs.History.{came, went}
+use Rattle.cordyceps_queue.specs.History.{Event, came, went}
 use Rattle.cordyceps_shared.specs.Interleaving.{Interleaves}
 use Rattle.cordyceps_queue.specs.Shared.Calls.{PartyOf, FindsFull, capacity}
 use Rattle.cordyceps_queue.specs.Shared.Moves.{Moves}
@@ -34,6 +34,10 @@ module _ {E : Type 0} where
 
   abbrev pub received : PartyOf E → List E
   received u = went (own u.seen)
+
+  -- a history tells of more elements that came in than a party has received
+  abbrev pub TellsOfMore : List (Event Name E) → PartyOf E → Type 0
+  TellsOfMore told w = length (received w) < length (came told)
 
   -- from u to w the sender sent e, and nothing else; it sent nothing
   abbrev pub Sends : E → PartyOf E → PartyOf E → Type 0

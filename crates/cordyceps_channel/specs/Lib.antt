@@ -1,3 +1,4 @@
 pub mod Channels
 pub mod Places
+pub mod Selects
 pub mod Takers

@@ -5,12 +5,13 @@ ghost use Rattle.cordyceps_channel.specs.Channels.{Receives, ReceivesBatch, Find
 use crate::bell::Listening;
 use crate::errors::{Disconnected, TryRecvError};
 use crate::receiver::Receiver;
+use crate::wake::Wake;
 use cordyceps_base::linked::Linked;
 use cordyceps_base::mpsc_queue::Links;
 use cordyceps_queue::mpsc_queue::Batch;
 use std::sync::Wait;
 
-impl<T: Linked<Links<T>>> Receiver<T> {
+impl<T: Linked<Links<T>>, W: Wake + Drop> Receiver<T, W> {
     /// Receives up to `max` elements, the oldest first, if one is there. Requires that `max` is at least 1. Allocates
     /// nothing.
     ///

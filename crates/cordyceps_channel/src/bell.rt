@@ -1,8 +1,9 @@
 //! A bell, for which threads sleep until another rings it.
 
+use crate::wake::Wake;
 use crossbeam_utils::Backoff;
 use std::sync::Wait;
-use std::sync::atomic::{AtomicU64, Ordering};
+use std::sync::atomic::{AtomicBool, AtomicU64, Ordering};
 use std::time::{Clock, Instant};
 
 /// The bits of a number of rings that a sleep compares.
@@ -16,11 +17,16 @@ const LOOKS: u32 = 20;
 /// A thread looks for what it waits for between two calls of `wait`: the first begins to listen, and the second sleeps.
 /// A thread that makes it come rings afterwards. All steps have one order, so either the look finds it, or the ring
 /// finds the listener and ends its sleep. This is tested, but no contract states it.
+///
+/// A bell has a waker. While it is armed, the next ring disarms it and calls the waker. An armed bell counts as a
+/// listener.
 #[derive(Drop)]
-pub(crate) struct Bell {
+pub(crate) struct Bell<W: Wake + Drop> {
     rings: AtomicU64,
     listeners: AtomicU64,
     sleepers: AtomicU64,
+    is_armed: AtomicBool,
+    waker: W,
 }
 
 /// How often a bell had rung when a thread began to listen, or `None` if it does not listen.
@@ -36,13 +42,15 @@ impl Listening {
     }
 }
 
-impl Bell {
+impl<W: Wake + Drop> Bell<W> {
     /// Creates a bell that nobody listens to.
-    pub fn new() -> Bell {
+    pub fn new(waker: W) -> Bell<W> {
         Bell {
             rings: AtomicU64::new(0),
             listeners: AtomicU64::new(0),
             sleepers: AtomicU64::new(0),
+            is_armed: AtomicBool::new(false),
+            waker,
         }
     }
 
@@ -53,7 +61,33 @@ impl Bell {
             if self.sleepers.load(Ordering::SeqCst) > 0 {
                 self.rings.wake_all();
             }
+            self.wake();
         }
+    }
+
+    /// Calls the waker, if the bell is armed, and disarms the bell.
+    fn wake(&self) {
+        if self.disarm() {
+            self.waker.wake();
+        }
+    }
+
+    /// Arms the bell, so that its next ring calls the waker.
+    pub fn arm(&self) {
+        // The listener comes first, so that a ring in between takes none away that is not there yet.
+        self.listeners.fetch_add(1, Ordering::SeqCst);
+        if self.is_armed.swap(true, Ordering::SeqCst) {
+            self.listeners.fetch_sub(1, Ordering::SeqCst);
+        }
+    }
+
+    /// Disarms the bell, and returns whether it was armed.
+    pub fn disarm(&self) -> bool {
+        let was_armed = self.is_armed.swap(false, Ordering::SeqCst);
+        if was_armed {
+            self.listeners.fetch_sub(1, Ordering::SeqCst);
+        }
+        was_armed
     }
 
     /// Begins to listen, if the thread does not, and returns at once. Otherwise it waits until the bell has rung since,

@@ -5,12 +5,13 @@ ghost use Rattle.cordyceps_channel.specs.Channels.{Receives, FindsNoneInTime};
 use crate::bell::Listening;
 use crate::errors::{RecvTimeoutError, TryRecvError};
 use crate::receiver::Receiver;
+use crate::wake::Wake;
 use cordyceps_base::linked::Linked;
 use cordyceps_base::mpsc_queue::Links;
 use std::sync::Wait;
 use std::time::{Clock, Instant};
 
-impl<T: Linked<Links<T>>> Receiver<T> {
+impl<T: Linked<Links<T>>, W: Wake + Drop> Receiver<T, W> {
     /// Receives the oldest element, and waits while none is there, until a deadline.
     ///
     /// # Errors

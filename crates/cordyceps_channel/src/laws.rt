@@ -1,12 +1,14 @@
 //! Calls of a channel in a row, whose contracts are laws.
-ghost use Rattle.std.specs.Prelude.{◌≡◌, IfOk};
-ghost use Rattle.cordyceps_channel.specs.Channels.{IsOver, Receives, AreAmong, sent, received};
+ghost use Rattle.std.specs.Prelude.{◌≡◌, [], ◌∷◌, IfOk};
+ghost use Rattle.cordyceps_channel.specs.Channels.{IsOver, Receives, AreAmong, TellsOfMore, sent, received};
 
 use crate::errors::Disconnected;
 use crate::receiver::Receiver;
 use crate::sender::Sender;
+use crate::wake::Wake;
 use cordyceps_base::linked::Linked;
 use cordyceps_base::mpsc_queue::Links;
+use cordyceps_queue::mpsc_queue::Receipt;
 use std::alloc::{AllocError, Global};
 use std::sync::Wait;
 
@@ -21,10 +23,10 @@ use std::sync::Wait;
 ///
 /// # Waits
 /// Until all senders have ended.
-pub fn receive_all<T: Linked<Links<T>>, R: Wait>(
+pub fn receive_all<T: Linked<Links<T>>, W: Wake + Drop, R: Wait>(
     rt: &R,
     alloc: Global,
-    receiver: &mut Receiver<T>,
+    receiver: &mut Receiver<T, W>,
 ) -> Result<Vec<T::Handle>, AllocError>
     ensures { IfOk result (λ all. Receives all.items receiver.old receiver.new × IsOver receiver.new) }
 {
@@ -49,11 +51,11 @@ pub fn receive_all<T: Linked<Links<T>>, R: Wait>(
 ///
 /// # Waits
 /// Until all senders have ended.
-pub fn close_and_receive<T: Linked<Links<T>>, R: Wait>(
+pub fn close_and_receive<T: Linked<Links<T>>, W: Wake + Drop, R: Wait>(
     rt: &R,
     alloc: Global,
-    sender: Sender<T>,
-    receiver: &mut Receiver<T>,
+    sender: Sender<T, W>,
+    receiver: &mut Receiver<T, W>,
 ) -> Result<Vec<T::Handle>, AllocError>
     requires { sender.table ≡ receiver.old.table }
     ensures all { IfOk result (λ all. Receives all.items receiver.old receiver.new × IsOver receiver.new) }
@@ -61,4 +63,28 @@ pub fn close_and_receive<T: Linked<Links<T>>, R: Wait>(
 {
     receiver.learn(sender.close());
     receive_all(rt, alloc, receiver)
+}
+
+/// Receives the oldest element, where a receipt tells of more elements than the receiver has received. So whoever was
+/// told that an element was sent gets an element, and never `Disconnected`.
+///
+/// # Complexity
+/// That of `Receiver::recv`.
+///
+/// # Waits
+/// For an element whose sender is still in `send` or `try_send`, if one is in front of all that the receipt tells of.
+pub fn recv_told<T: Linked<Links<T>>, W: Wake + Drop, R: Wait>(
+    rt: &R,
+    receiver: &mut Receiver<T, W>,
+    receipt: Receipt<T>,
+) -> T::Handle
+    requires table { receipt.table ≡ receiver.old.table }
+    requires more { TellsOfMore receipt.told receiver.old }
+    ensures { Receives (result ∷ []) receiver.old receiver.new }
+{
+    receiver.learn(receipt);
+    match receiver.recv(rt) {
+        Ok(element) => element,
+        Err(Disconnected { value: () }) => unreachable!(),
+    }
 }

@@ -4,13 +4,13 @@
 //! makes others by `try_clone`, also while elements go through. Sending takes no memory. `send` waits while the channel
 //! is full and `recv` while it is empty, and both sleep if that lasts. An end is told by a drop: when all senders are
 //! dropped, the receiver gets what is left, and then `Disconnected`; when the receiver is dropped, a sender gets its
-//! element back. Take an `MpscQueue` of `cordyceps_queue` itself where no thread may sleep, where a thread takes
-//! elements out by batches, or where parties have rooms of their own.
+//! element back. A `Select` receives from several channels, and an event loop can be woken by a `Wake`. Take an
+//! `MpscQueue` of `cordyceps_queue` itself where no thread may sleep, or where parties have rooms of their own.
 //!
-//! `pair` creates a channel, `sender` and `receiver` have its two sides, with `batches` and `deadline`, and `errors` has
-//! what they return where nothing goes through. `laws` has calls in a row. `register` has the parties of senders that
-//! ended, `place` the place in which each is left, `taker` the receiver's party, `bell` what threads sleep on, and
-//! `shared` what both sides share.
+//! `pair` creates a channel, `sender` and `receiver` have its two sides, with `batches` and `deadline`, `select` has the
+//! receivers of several channels, and `errors` what they return where nothing goes through. `laws` has calls in a row.
+//! `register` has the parties of senders that ended, `place` the place in which each is left, `taker` the receiver's
+//! party, `bell` what threads sleep on, `wake` what wakes an event loop, and `shared` what both sides share.
 //!
 //! Proved: each element that a sender sends is put in once, or comes back; the receiver receives elements in the order
 //! in which they came in; where it gets `Disconnected`, all senders have ended, and it has received each element that
@@ -31,12 +31,16 @@ mod pair;
 mod place;
 mod receiver;
 mod register;
+mod select;
 mod sender;
 mod shared;
 mod taker;
+mod wake;
 
 pub use cordyceps_queue::mpsc_queue::{Batch, Receipt};
 pub use errors::{Disconnected, RecvTimeoutError, TryRecvError, TrySendError};
-pub use pair::channel;
+pub use pair::{channel, channel_with_waker};
 pub use receiver::Receiver;
+pub use select::{Select, Selected};
 pub use sender::Sender;
+pub use wake::{NoWake, Wake};

@@ -9,6 +9,7 @@ use crate::register::Register;
 use crate::sender::Sender;
 use crate::shared::Shared;
 use crate::taker::Taker;
+use crate::wake::{NoWake, Wake};
 use cordyceps_base::linked::Linked;
 use cordyceps_base::mpsc_queue::Links;
 use cordyceps_base::shared::MAX_ROOMS;
@@ -61,16 +62,36 @@ pub fn channel<T: Linked<Links<T>>>(
     requires { rooms ≤ MAX_ROOMS }
     ensures { IfOk result (λ ends. IsChannel rooms ends.0 ends.1) }
 {
-    let bell = Arc::new(alloc, Bell::new())?;
+    let bell = Arc::new(alloc, Bell::new(NoWake))?;
+    channel_at(bell, alloc, rooms)
+}
+
+/// Creates a channel as `channel` does, whose receiver can be waited for by an event loop: once it is armed
+/// (`Receiver::arm`), the next sender that sends or ends calls the waker. Requires that `rooms` is at most `MAX_ROOMS`.
+///
+/// # Errors
+/// If memory is refused, it returns `AllocError`, and nothing is kept.
+///
+/// # Complexity
+/// O(`rooms`).
+pub fn channel_with_waker<T: Linked<Links<T>>, W: Wake + Drop>(
+    alloc: Global,
+    rooms: usize,
+    waker: W,
+) -> Result<(Sender<T, W>, Receiver<T, W>), AllocError>
+    requires { rooms ≤ MAX_ROOMS }
+    ensures { IfOk result (λ ends. IsChannel rooms ends.0 ends.1) }
+{
+    let bell = Arc::new(alloc, Bell::new(waker))?;
     channel_at(bell, alloc, rooms)
 }
 
 /// Creates a channel whose receiver listens to this bell.
-pub(crate) fn channel_at<T: Linked<Links<T>>>(
-    bell: Arc<Bell, Global>,
+pub(crate) fn channel_at<T: Linked<Links<T>>, W: Wake + Drop>(
+    bell: Arc<Bell<W>, Global>,
     alloc: Global,
     rooms: usize,
-) -> Result<(Sender<T>, Receiver<T>), AllocError>
+) -> Result<(Sender<T, W>, Receiver<T, W>), AllocError>
     requires { rooms ≤ MAX_ROOMS }
     ensures { IfOk result (λ ends. IsChannel rooms ends.0 ends.1) }
 {

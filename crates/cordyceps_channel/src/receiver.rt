@@ -17,6 +17,7 @@ use crate::errors::{Disconnected, TryRecvError};
 use crate::register::{Register, RegisterPlace};
 use crate::shared::Shared;
 use crate::taker::Taker;
+use crate::wake::{NoWake, Wake};
 use cordyceps_base::linked::Linked;
 use cordyceps_base::mpsc_queue::Links;
 use cordyceps_queue::mpsc_queue::Receipt;
@@ -35,14 +36,14 @@ use std::sync::{Arc, Wait};
 ///
 /// # Complexity
 /// Dropping a receiver is O(1), unless it is the last of the channel's two sides: then the queue is dropped too.
-pub struct Receiver<T: Linked<Links<T>>> {
-    pub(crate) shared: Arc<Shared<T>, Global>,
+pub struct Receiver<T: Linked<Links<T>>, W: Wake + Drop = NoWake> {
+    pub(crate) shared: Arc<Shared<T, W>, Global>,
     register: RegisterPlace<T>,
     pub(crate) taker: Taker<T>,
     is_last: bool,
 }
 
-impl<T: Linked<Links<T>>> Model for Receiver<T> {
+impl<T: Linked<Links<T>>, W: Wake + Drop> Model for Receiver<T, W> {
     ghost use Rattle.std.specs.Arc.{arc_value};
     ghost use Rattle.cordyceps_queue.specs.Shared.Calls.{PartyOf};
     ghost use Rattle.cordyceps_channel.specs.Channels.{IsReceiver};
@@ -55,7 +56,7 @@ impl<T: Linked<Links<T>>> Model for Receiver<T> {
         IsReceiver (arc_value (arc_value r.shared).queue).table r.register r.is_last r.taker.party };
 }
 
-impl<T: Linked<Links<T>>> Drop for Receiver<T> {
+impl<T: Linked<Links<T>>, W: Wake + Drop> Drop for Receiver<T, W> {
     /// Ends the receiver, and tells the senders.
     ///
     /// # Complexity
@@ -74,13 +75,13 @@ impl<T: Linked<Links<T>>> Drop for Receiver<T> {
     }
 }
 
-impl<T: Linked<Links<T>>> Receiver<T> {
+impl<T: Linked<Links<T>>, W: Wake + Drop> Receiver<T, W> {
     /// Makes a receiver of a taker.
     pub(crate) fn of(
-        shared: Arc<Shared<T>, Global>,
+        shared: Arc<Shared<T, W>, Global>,
         register: RegisterPlace<T>,
         taker: Taker<T>,
-    ) -> Receiver<T>
+    ) -> Receiver<T, W>
         requires register { HasRegister (arc_value (arc_value shared).queue).table false register }
         requires table { taker.party.table ≡ (arc_value (arc_value shared).queue).table }
         requires share { taker.party.share ≡ gives_half whole }
@@ -209,6 +210,36 @@ impl<T: Linked<Links<T>>> Receiver<T> {
             }
         }
         unreachable!()
+    }
+
+    /// Arms the receiver: the next sender that sends or ends calls the waker of `channel_with_waker`, once. Does nothing
+    /// in a channel without a waker.
+    ///
+    /// An event loop arms the receiver, and then receives until nothing is there before it sleeps: what comes after the
+    /// last try finds the receiver armed.
+    ///
+    /// # Complexity
+    /// O(1).
+    ///
+    /// # Waits
+    /// Never.
+    pub fn arm(&mut self)
+        ensures { self.new ≡ self.old }
+    {
+        self.shared.sent.arm();
+    }
+
+    /// Disarms the receiver, and returns whether it was armed, which it is until a sender has called the waker.
+    ///
+    /// # Complexity
+    /// O(1).
+    ///
+    /// # Waits
+    /// Never.
+    pub fn disarm(&mut self) -> bool
+        ensures { self.new ≡ self.old }
+    {
+        self.shared.sent.disarm()
     }
 
     /// Learns a receipt of a sender. The receiver has then seen all that the receipt tells. Requires that the receipt

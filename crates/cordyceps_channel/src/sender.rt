@@ -14,6 +14,7 @@ use crate::bell::Listening;
 use crate::errors::{Disconnected, TrySendError};
 use crate::register::{Home, Opened, Register, RegisterPlace};
 use crate::shared::{Shared, give_all_back};
+use crate::wake::{NoWake, Wake};
 use cordyceps_base::linked::Linked;
 use cordyceps_base::mpsc_queue::Links;
 use cordyceps_queue::mpsc_queue::{Party, Receipt};
@@ -36,14 +37,14 @@ use std::sync::{Arc, Wait};
 ///
 /// # Waits
 /// Dropping a sender never waits.
-pub struct Sender<T: Linked<Links<T>>> {
-    shared: Arc<Shared<T>, Global>,
+pub struct Sender<T: Linked<Links<T>>, W: Wake + Drop = NoWake> {
+    shared: Arc<Shared<T, W>, Global>,
     register: RegisterPlace<T>,
     home: Home<T>,
     party: Party<T>,
 }
 
-impl<T: Linked<Links<T>>> Model for Sender<T> {
+impl<T: Linked<Links<T>>, W: Wake + Drop> Model for Sender<T, W> {
     ghost use Rattle.std.specs.Arc.{arc_value};
     ghost use Rattle.cordyceps_queue.specs.Shared.Calls.{PartyOf};
     ghost use Rattle.cordyceps_channel.specs.Channels.{IsSender};
@@ -55,7 +56,7 @@ impl<T: Linked<Links<T>>> Model for Sender<T> {
     ghost invariant = { λ s. IsSender (arc_value (arc_value s.shared).queue).table s.register s.party s.home };
 }
 
-impl<T: Linked<Links<T>>> Drop for Sender<T> {
+impl<T: Linked<Links<T>>, W: Wake + Drop> Drop for Sender<T, W> {
     /// Ends the sender: gives its rooms back, leaves its party in its place, and tells the receiver.
     ///
     /// # Complexity
@@ -76,13 +77,13 @@ impl<T: Linked<Links<T>>> Drop for Sender<T> {
     }
 }
 
-impl<T: Linked<Links<T>>> Sender<T> {
+impl<T: Linked<Links<T>>, W: Wake + Drop> Sender<T, W> {
     /// Makes a sender of an opened party.
     pub(crate) fn of(
-        shared: Arc<Shared<T>, Global>,
+        shared: Arc<Shared<T, W>, Global>,
         register: RegisterPlace<T>,
         opened: Opened<T>,
-    ) -> Sender<T>
+    ) -> Sender<T, W>
         requires register { HasRegister (arc_value (arc_value shared).queue).table false register }
         requires opened { IsOpened (arc_value (arc_value shared).queue).table opened.party opened.home }
         ensures { result ≡ opened.party }
@@ -221,7 +222,7 @@ impl<T: Linked<Links<T>>> Sender<T> {
     ///
     /// # Waits
     /// While another thread clones a sender of this channel.
-    pub fn try_clone<R: Wait>(&mut self, rt: &R) -> Result<Sender<T>, AllocError>
+    pub fn try_clone<R: Wait>(&mut self, rt: &R) -> Result<Sender<T, W>, AllocError>
         ensures same { self.new ≡ self.old }
         ensures made { IfOk result (λ sender. sender.table ≡ self.old.table) }
     {

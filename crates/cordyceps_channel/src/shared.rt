@@ -4,6 +4,7 @@ ghost use Rattle.std.specs.Prelude.{◌≡◌, [], true};
 ghost use Rattle.cordyceps_channel.specs.Channels.{SendsNothing};
 
 use crate::bell::Bell;
+use crate::wake::{NoWake, Wake};
 use cordyceps_base::linked::Linked;
 use cordyceps_base::mpsc_queue::Links;
 use cordyceps_queue::mpsc_queue::{MpscQueue, Party};
@@ -22,7 +23,7 @@ const TRIES: usize = 1000;
 
 /// What senders and receiver of a channel share.
 #[derive(Drop)]
-pub(crate) struct Shared<T: Linked<Links<T>>> {
+pub(crate) struct Shared<T: Linked<Links<T>>, W: Wake + Drop> {
     /// The queue through which elements go. The receiver's consumer shares its ownership.
     pub queue: Arc<MpscQueue<T>, Global>,
     /// The memory of new senders.
@@ -32,23 +33,23 @@ pub(crate) struct Shared<T: Linked<Links<T>>> {
     /// Whether the receiver has ended.
     pub receiver_has_ended: AtomicBool,
     /// Rings when an element is sent and when a sender ends.
-    pub sent: Arc<Bell, Global>,
+    pub sent: Arc<Bell<W>, Global>,
     /// Rings when rooms become free and when the receiver ends.
-    pub freed: Bell,
+    pub freed: Bell<NoWake>,
     /// How many rooms a sender takes at a time.
     pub quantum: usize,
     /// With how many rooms the receiver frees them.
     pub batch: usize,
 }
 
-impl<T: Linked<Links<T>>> Shared<T> {
+impl<T: Linked<Links<T>>, W: Wake + Drop> Shared<T, W> {
     /// Creates what is shared by a channel over this queue, of so many rooms, whose receiver listens to this bell.
     pub fn new(
         queue: Arc<MpscQueue<T>, Global>,
-        sent: Arc<Bell, Global>,
+        sent: Arc<Bell<W>, Global>,
         alloc: Global,
         rooms: usize,
-    ) -> Shared<T>
+    ) -> Shared<T, W>
         ensures { result.queue ≡ queue }
     {
         Shared {
@@ -57,7 +58,7 @@ impl<T: Linked<Links<T>>> Shared<T> {
             senders: AtomicU64::new(0),
             receiver_has_ended: AtomicBool::new(false),
             sent,
-            freed: Bell::new(),
+            freed: Bell::new(NoWake),
             quantum: (rooms / SENDERS).clamp(1, MAX_QUANTUM),
             batch: (rooms / 4).max(1),
         }

@@ -14,4 +14,6 @@ mod memory;
 #[cfg(test)]
 mod one_thread;
 #[cfg(test)]
+mod selecting;
+#[cfg(test)]
 mod travels;

@@ -1,7 +1,7 @@
 //! Channels that are refused memory. This says more where an allocation is made to fail, as `tools/refusals` does.
 
 use crate::compared::same;
-use cordyceps_channel::{Sender, TryRecvError, channel};
+use cordyceps_channel::{Select, Selected, Sender, TryRecvError, channel};
 use std::alloc::AllocError;
 use std::sync::Wait;
 use test_support::counted::{Counted, Drops, counted_node};
@@ -47,6 +47,40 @@ fn a_channel_goes_on_after_refused_memory(rt: HostRuntime) -> Result<(), AllocEr
         &rt,
         (sent, numbers, is_over, drops.count()),
         ((true, true), (1, 2), true, 2),
+    );
+    Ok(())
+}
+
+/// Creates a channel of a select, by a second call where the first was refused memory.
+fn opened(select: &mut Select<Counted>) -> Result<Sender<Counted>, AllocError> {
+    match select.channel(2) {
+        Ok(sender) => Ok(sender),
+        Err(AllocError) => select.channel(2),
+    }
+}
+
+#[test]
+fn a_select_goes_on_after_refused_memory(rt: HostRuntime) -> Result<(), AllocError> {
+    let drops = Drops::new(rt.alloc())?;
+    let node = counted_node(rt.alloc(), 1, 1, &drops)?;
+    let mut select = match Select::<Counted>::new(rt.alloc()) {
+        Ok(select) => select,
+        Err(AllocError) => Select::new(rt.alloc())?,
+    };
+    let first = opened(&mut select)?;
+    let mut second = opened(&mut select)?;
+    let is_sent = second.try_send(node).is_ok();
+    drop(first);
+    drop(second);
+    let mut came = (0, 0);
+    if let Ok(Selected { index, value }) = select.try_recv() {
+        came = (index, value.id());
+    }
+    let is_over = matches!(select.try_recv(), Err(TryRecvError::Disconnected));
+    same(
+        &rt,
+        (is_sent, select.len(), came, is_over, drops.count()),
+        (true, 2, (1, 1), true, 1),
     );
     Ok(())
 }

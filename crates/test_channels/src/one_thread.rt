@@ -4,7 +4,7 @@ use crate::calls::{Call, Reply, Sides, each_replies, element};
 use crate::compared::{at_most, made, same};
 use cordyceps_base::shared::MAX_ROOMS;
 use cordyceps_channel::channel;
-use cordyceps_channel::laws::close_and_receive;
+use cordyceps_channel::laws::{close_and_receive, recv_told};
 use test_support::counted::{Counted, Drops};
 
 /// A call, and what it has to reply.
@@ -257,4 +257,24 @@ fn a_closed_sender_is_received_in_its_order(rt: HostRuntime) {
     drop(first);
     drop(second);
     same(&rt, drops.count(), 2);
+}
+
+// Who was told of an element receives it.
+#[test]
+fn a_receiver_that_is_told_receives(rt: HostRuntime) {
+    let drops = made(&rt, Drops::new(rt.alloc()));
+    at_most(&rt, 2, MAX_ROOMS);
+    let (mut sender, mut receiver) = made(&rt, channel::<Counted>(rt.alloc(), 2));
+    let Ok(()) = sender.try_send(element(&rt, rt.alloc(), 7, &drops)) else {
+        panic!(rt; "no room is free");
+    };
+    let told = sender.receipt();
+    let element = recv_told(&rt, &mut receiver, told);
+    same(&rt, element.id(), 7);
+    drop(element);
+    same(
+        &rt,
+        (receiver.try_recv().is_err(), drops.count()),
+        (true, 1),
+    );
 }

@@ -16,8 +16,8 @@ returns-clause-answer g c =
     let same = sym (consumer_party _ c.self.inside.resting c.in-Some.consumer c.in-Some.is) ∙ ap (λ v. v.party) c.self.view_is in
     elim c.match-take_linked.branch [
       | in-Ok k ↦
-          let a = k.in-Ok.ensures.answer in
-          let took = takes_receives g.T.Linked.element c.args.max k.in-Ok.batch a.0 u w a.1 a.2 in
+          let (es, items, takes) = k.in-Ok.ensures.answer in
+          let took = takes_receives g.T.Linked.element c.args.max k.in-Ok.batch es u w items takes in
           some_case _ _ c.match-take_linked.result k.in-Ok.batch k.result-is
           (batch_then g.T.Linked.element c.args.max k.in-Ok.batch c.args.self.now.party c.hold.new.self.party w held.receives (subst (λ v. ReceivesBatch g.T.Linked.element c.args.max k.in-Ok.batch v w) same took))
       | in-Err k ↦
