@@ -1,41 +1,46 @@
 """What stands in for the toolchain and for Python where tools/first_run tries ./replay."""
 
-# A stand-in for rt. It asks that what a crate uses is built, and writes to its log that it is called, and with how many
-# jobs. Of the crate SLOW it says how far it is and takes some seconds, and of the crate BAD it fails. As `rt try` it
-# takes TRY_SECONDS, and links a program, but fills the disk if there is a FULL.
+# A stand-in for rt. It writes to its log what it is called for.
+#
+# As `rt ci` it lists the files that it finds, with their sums, beside its log. It leaves a temporary file, says of one
+# crate that it is proved, and takes CI_SECONDS, and END_SECONDS more where it is ended. It fills the disk if there is a
+# FULL, or refuses the crate BAD; else it builds the program.
+#
+# As `rt try` it takes TRY_SECONDS, and links a program, but fills the disk if there is a FULL.
 STAND_IN = """#!/usr/bin/env bash
 set -euo pipefail
-name=${PWD##*/}
-root=${PWD%/crates/*}
-echo "$1 $name $3" >> "$STAND_IN_LOG"
+fill() { [ -z "${FULL-}" ] || { touch "$FULL"; echo "stand-in: the disk is full" >&2; exit 2; }; }
 if [ "$1" = try ]; then
+  echo "$*" >> "$STAND_IN_LOG"
   sleep "${TRY_SECONDS-0}"
-  [ -z "${FULL-}" ] || { touch "$FULL"; echo "stand-in: the disk is full" >&2; exit 2; }
+  fill
   exec "${0%/bin/rt}/toolchain/bin/ld.lld" -o "$TMPDIR/linked"
 fi
-for it in $(sed -n "s/^$name\\\\b[^:]*://p" "$root/crates.txt"); do
-  if [ -d "$root/crates/$it" ]; then
-    [ -f "$root/crates/$it/out/rlib/stamp" ] || { echo "stand-in: $it is not built"; exit 1; }
-  fi
-done
-if [ "$name" = "${SLOW-}" ]; then
-  echo "so far: 3 of 7 functions checked"
-  sleep "$SLOW_SECONDS"
-fi
-if [ "$name" = "${BAD-}" ]; then
-  echo "stand-in: $name is refused"
+[ "$*" = ci ]
+{ find crates HANDLES -type f -exec sha256sum {} + && cat crates.txt; } > "$STAND_IN_LOG.room"
+mktemp > /dev/null
+echo "== cordyceps_base"
+echo "stand-in: 7 of 7 functions"
+echo "rt: cordyceps_base proved"
+trap 'sleep "${END_SECONDS-0}"; exit 1' TERM
+# (so that this line has been read)
+sleep 0.2
+echo "$*" >> "$STAND_IN_LOG"
+sleep "${CI_SECONDS-0}"
+fill
+if [ -n "${BAD-}" ]; then
+  echo "stand-in: $BAD is refused"
+  echo "rt: FAILED: $BAD"
   exit 1
 fi
-if [ "$1" = run ]; then
-  mkdir -p out
-  printf '#!/bin/sh\\necho "proved $1"\\n' > "out/$name"
-  chmod +x "out/$name"
-else
-  mkdir -p out/rlib out/incremental
-  echo "$name" > "out/rlib/$name.rlib"
-  echo "$name" > out/rlib/stamp
-fi
+app=crates/cordyceps_replay/out/cordyceps_replay
+mkdir -p "${app%/*}"
+printf '#!/bin/sh\\necho "proved $1"\\n' > "$app"
+chmod +x "$app"
 """
+
+# What it says as `rt ci` before it takes its time.
+SAID = ["== cordyceps_base", "stand-in: 7 of 7 functions", "rt: cordyceps_base proved"]
 
 # A stand-in for the linker of `rt try`.
 LINKER = """#!/bin/sh
