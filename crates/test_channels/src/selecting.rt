@@ -384,7 +384,6 @@ fn exchange<R: Abort + Threads + Wait + Sync>(
     rooms: usize,
     is_parked: bool,
 ) {
-    at_most(rt, rooms, MAX_ROOMS);
     let parker = made(rt, Parker::new(alloc));
     let unparker: Unparker = made(rt, parker.unparker().clone());
     let mut select = made(rt, Select::with_waker(alloc, unparker));
@@ -392,6 +391,7 @@ fn exchange<R: Abort + Threads + Wait + Sync>(
     let told = &drops;
     let came = thread::scope(thread::scope_env(), rt, |scope| {
         for channel in 0..channels {
+            at_most(rt, rooms, MAX_ROOMS);
             let sender = made(rt, select.channel(rooms));
             let first = channel.wrapping_mul(FAR);
             made(
