@@ -62,10 +62,7 @@ fn pushes_and_pops(rt: HostRuntime) -> Result<(), Fail> {
 }
 
 /// Makes a handle of a node of an item, and asserts the node that it returns.
-fn is_its_handle<L: Kind>(rt: &impl Abort, node: Node<Item, L>, item: Item)
-where
-    Item: Linked<L>,
-{
+fn is_its_handle<L: Kind>(rt: &impl Abort, node: Node<Item, L>, item: Item) {
     let node: Node<Item, L> = Item::into_ptr(Item::from_ptr(node));
     same(rt, (node.id(), *node.get()), (item.id, item));
 }
