@@ -1,3 +1,4 @@
+pub mod Channels
 pub mod Cursors
 pub mod Elements
 pub mod Orders

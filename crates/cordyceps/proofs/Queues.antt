@@ -8,5 +8,7 @@ pub use Rattle.cordyceps_queue.proofs.SharedTheory.OwnNames
 pub use Rattle.cordyceps_queue.proofs.SharedTheory.PartyBalances
 pub use Rattle.cordyceps_queue.proofs.SharedTheory.PartyMoves
 pub use Rattle.cordyceps_queue.proofs.SharedTheory.Sending
+pub use Rattle.cordyceps_queue.proofs.SharedTheory.SleeperCalls
+pub use Rattle.cordyceps_queue.proofs.SharedTheory.SleeperLaw
 pub use Rattle.cordyceps_queue.proofs.SharedTheory.ToldFinds
 pub use Rattle.cordyceps_queue.proofs.SharedTheory.WaitingTries

@@ -2,7 +2,7 @@
 use Rattle.std.proofs.Common.{◌≡◌, ℕ, suc, ◌+◌, ◌-◌, ◌<◌, List, [], ◌∷◌, ◌++◌, length, reverse, refl, ap, sym, ◌∙◌, subst, inl, inr, arith}
 use Rattle.std.proofs.lemmas.List.{reverse-reverse}
 use Rattle.cordyceps_queue.specs.History as told
-use Rattle.cordyceps_queue.specs.History.{Event, Swap, Link, Take, Busy, Look, Out, Empty, Free, is_swap, is_link, is_look, looks_by}
+use Rattle.cordyceps_queue.specs.History.{Event, Swap, Link, Take, Busy, Look, Out, Empty, Free, Ring, Clear, is_swap, is_link, is_look, looks_by}
 use Rattle.cordyceps_queue.specs.Past as past
 use Rattle.cordyceps_queue.specs.Past.{IsOpen, HasLooked}
 use Rattle.cordyceps_queue.proofs.CoreTheory.Basics.{open_from}
@@ -54,6 +54,8 @@ module _ {P E : Type 0} (same : Discrete P) where
   looked_counts q (Out p e ∷ g) l = looked_counts q g l
   looked_counts q (Empty p ∷ g) l = looked_counts q g l
   looked_counts q (Free p ∷ g) l = looked_counts q g l
+  looked_counts q (Ring p ∷ g) l = looked_counts q g l
+  looked_counts q (Clear p ∷ g) l = looked_counts q g l
 
   counts_looked : (q : P) (g : List (Event P E)) → 0 < looks_by same q g → HasLooked q g
   counts_looked q [] l = absurd (omega arith)
@@ -65,6 +67,8 @@ module _ {P E : Type 0} (same : Discrete P) where
   counts_looked q (Out p e ∷ g) l = counts_looked q g l
   counts_looked q (Empty p ∷ g) l = counts_looked q g l
   counts_looked q (Free p ∷ g) l = counts_looked q g l
+  counts_looked q (Ring p ∷ g) l = counts_looked q g l
+  counts_looked q (Clear p ∷ g) l = counts_looked q g l
 
   -- where a blocked prefix ends that has the party's last look
   record Cut (q : P) (g : List (Event P E)) : Type 0 where

@@ -3,7 +3,7 @@ use Rattle.std.proofs.Common.{◌≡◌, ◌≢◌, ℕ, ◌+◌, List, [], ◌�
 use Rattle.std.proofs.lemmas.List.{reverse-append}
 use Rattle.std.proofs.lemmas.List.Concat.{flat_map-append}
 use Rattle.cordyceps_queue.specs.History as told
-use Rattle.cordyceps_queue.specs.History.{Event, Swap, Link, Take, Busy, Look, Out, Empty, Free, holder_after, holder_from, actor, more_if, count_of}
+use Rattle.cordyceps_queue.specs.History.{Event, Swap, Link, Take, Busy, Look, Out, Empty, Free, Ring, Clear, holder_after, holder_from, actor, more_if, count_of}
 use Rattle.cordyceps_queue.specs.Past as past
 
 -- what came out of a legal history, followed by what it holds, is what came in
@@ -19,6 +19,8 @@ in_order P E (Event.Busy p ∷ h) legal = in_order P E h legal.1
 in_order P E (Event.Look p ∷ h) legal = in_order P E h legal.1
 in_order P E (Event.Empty p ∷ h) legal = in_order P E h legal.1
 in_order P E (Event.Free p ∷ h) legal = in_order P E h legal.1
+in_order P E (Event.Ring p ∷ h) legal = in_order P E h legal.1
+in_order P E (Event.Clear p ∷ h) legal = in_order P E h legal.1
 
 pub reverse-cons : {A : Type 0} (x : A) (xs : List A) → reverse (x ∷ xs) ≡ reverse xs ++ x ∷ []
 reverse-cons x xs = reverse-append (x ∷ []) xs
@@ -38,6 +40,8 @@ module _ {P E : Type 0} where
   came_last (Out p e) g = append-nil (past.came_reversed g)
   came_last (Empty p) g = append-nil (past.came_reversed g)
   came_last (Free p) g = append-nil (past.came_reversed g)
+  came_last (Ring p) g = append-nil (past.came_reversed g)
+  came_last (Clear p) g = append-nil (past.came_reversed g)
 
   went_last : (x : Event P E) (g : List (Event P E)) → past.went_reversed g ++ told.went (x ∷ []) ≡ past.went_reversed (x ∷ g)
   went_last (Out p e) g = refl
@@ -48,6 +52,8 @@ module _ {P E : Type 0} where
   went_last (Swap p e) g = append-nil (past.went_reversed g)
   went_last (Empty p) g = append-nil (past.went_reversed g)
   went_last (Free p) g = append-nil (past.went_reversed g)
+  went_last (Ring p) g = append-nil (past.went_reversed g)
+  went_last (Clear p) g = append-nil (past.went_reversed g)
 
   pub came-reverse : (g : List (Event P E)) → told.came (reverse g) ≡ past.came_reversed g
   came-reverse [] = refl

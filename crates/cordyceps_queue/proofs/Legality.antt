@@ -4,7 +4,7 @@ use Rattle.std.proofs.lemmas.List.{reverse-append, reverse-reverse, append_cance
 use Rattle.std.proofs.lemmas.List.Concat.{flat_map-append}
 use Rattle.std.proofs.Math.Seq.{drop-append_seam}
 use Rattle.cordyceps_queue.specs.History as told
-use Rattle.cordyceps_queue.specs.History.{Event, Swap, Link, Take, Busy, Look, Out, Empty, Free, comes, goes, is_swap, is_link, one_if_dec, swaps_by, links_by, IsPending, MayFollow}
+use Rattle.cordyceps_queue.specs.History.{Event, Swap, Link, Take, Busy, Look, Out, Empty, Free, Ring, Clear, comes, goes, is_swap, is_link, one_if_dec, swaps_by, links_by, IsPending, MayFollow}
 use Rattle.cordyceps_queue.specs.Past as past
 use Rattle.cordyceps_queue.specs.Past.{IsSettled, IsOpen, IsPendingAt, HasLooked, MayCome}
 use Rattle.cordyceps_queue.proofs.HistoryEnds.{reverse-cons, came-reverse, went-reverse, holder-reverse, count-append, count-reverse, in_order}
@@ -51,6 +51,8 @@ module _ {P E : Type 0} where
   follows_of h (Out p e) legal may = holder_of h ∙ may.0
   follows_of h (Empty p) legal may = (holder_of h ∙ may.0, sym (append-nil (told.went h)) ∙ ap (λ l. told.went h ++ l) (sym may.1) ∙ whole h legal)
   follows_of h (Free p) legal may = holder_of h ∙ may
+  follows_of h (Ring p) legal may = tt
+  follows_of h (Clear p) legal may = tt
 
   pub turned_split : (h before later : List (Event P E)) → h ≡ before ++ later → reverse h ≡ reverse later ++ reverse before
   turned_split h before later e = ap reverse e ∙ reverse-append before later
@@ -88,6 +90,8 @@ module _ {P E : Type 0} (same : Discrete P) where
   counts (Out p e ∷ h) legal q = counts h legal.1 q
   counts (Empty p ∷ h) legal q = counts h legal.1 q
   counts (Free p ∷ h) legal q = counts h legal.1 q
+  counts (Ring p ∷ h) legal q = counts h legal.1 q
+  counts (Clear p ∷ h) legal q = counts h legal.1 q
 
   pub settled_or_open : (h : List (Event P E)) (q : P) → IsSettled q h ⊎ IsOpen q h
   settled_or_open [] q = inl tt
@@ -105,6 +109,8 @@ module _ {P E : Type 0} (same : Discrete P) where
   settled_or_open (Out p e ∷ h) q = settled_or_open h q
   settled_or_open (Empty p ∷ h) q = settled_or_open h q
   settled_or_open (Free p ∷ h) q = settled_or_open h q
+  settled_or_open (Ring p ∷ h) q = settled_or_open h q
+  settled_or_open (Clear p ∷ h) q = settled_or_open h q
 
   -- as many links as swaps, or one fewer
   even_or_one : (h : List (Event P E)) → past.IsLegalReversed (reverse h) → (q : P) → (links_by same q h ≡ swaps_by same q h) ⊎ IsPending same q h
@@ -123,16 +129,20 @@ module _ {P E : Type 0} (same : Discrete P) where
     turns = λ before later x e.
         let l : past.IsLegalReversed (x ∷ reverse before) = front_legal (reverse later) (x ∷ reverse before) (subst past.IsLegalReversed (turned_at h before later x e) legal) in
         follows_of before x l.1 l.0;
+    rings = λ before later p e.
+        let l : past.IsLegalReversed (Ring p ∷ reverse before) = front_legal (reverse later) (Ring p ∷ reverse before) (subst past.IsLegalReversed (turned_at h before later (Ring p) e) legal) in
+        sym (count-reverse same is_link p before) ∙ ((counts (reverse before) l.1 p).0 l.0 ∙ count-reverse same is_swap p before);
   }
     where
       front_of : (before later : List (Event P E)) → h ≡ before ++ later → past.IsLegalReversed (reverse before)
       front_of before later e = front_legal (reverse later) (reverse before) (subst past.IsLegalReversed (turned_split h before later e) legal)
 
-  legal_front : (h t : List (Event P E)) → told.IsLegal same (h ++ t) → told.IsLegal same h
+  pub legal_front : (h t : List (Event P E)) → told.IsLegal same (h ++ t) → told.IsLegal same h
   legal_front h t L = record {
     in_order = λ before later e. L.in_order before (later ++ t) (ap (λ l. l ++ t) e ∙ append_assoc before later t);
     links = λ before later e. L.links before (later ++ t) (ap (λ l. l ++ t) e ∙ append_assoc before later t);
     turns = λ before later x e. L.turns before (later ++ t) x (ap (λ l. l ++ t) e ∙ append_assoc before (x ∷ later) t);
+    rings = λ before later p e. L.rings before (later ++ t) p (ap (λ l. l ++ t) e ∙ append_assoc before (Ring p ∷ later) t);
   }
 
   -- the counts of both, with and without the newest event
@@ -175,6 +185,13 @@ module _ {P E : Type 0} (same : Discrete P) where
       let both : past.went_reversed g ++ past.held_reversed g ≡ past.went_reversed g ++ [] = in_order P E g legal ∙ sym (came-reverse g) ∙ sym m.1 ∙ went-reverse g ∙ sym (append-nil (past.went_reversed g)) in
       (sym (held_by g legal (Empty p) L) ∙ m.0, append_cancel_left (past.went_reversed g) (past.held_reversed g) [] both)
   came_next g legal (Free p) L = sym (held_by g legal (Free p) L) ∙ may g legal (Free p) L
+  came_next g legal (Ring p) L = elim (settled_or_open g p) [
+    | inl a ↦ a
+    | inr b ↦
+        let even : links_by same p g ≡ swaps_by same p g = sym (count-reverse same is_link p g) ∙ (L.rings (reverse g) [] p refl ∙ count-reverse same is_swap p g) in
+        let c = (counts g legal p).1 b in absurd (omega arith)
+  ]
+  came_next g legal (Clear p) L = tt
 
   pub past_legal : (g : List (Event P E)) → told.IsLegal same (reverse g) → past.IsLegalReversed g
   past_legal [] L = tt
@@ -215,6 +232,8 @@ module _ {P E : Type 0} (same : Discrete P) where
   stood (Out p e ∷ h) legal q n w = stood_on q n (suc n) (Out p e) h (λ l s. s) (omega (arith, length-append (past.went_reversed h) (e ∷ []))) (stood h legal.1 q (suc n) w)
   stood (Empty p ∷ h) legal q n w = stood_on q n n (Empty p) h (λ l s. s) refl (stood h legal.1 q n w)
   stood (Free p ∷ h) legal q n w = stood_on q n n (Free p) h (λ l s. s) refl (stood h legal.1 q n w)
+  stood (Ring p ∷ h) legal q n w = stood_on q n n (Ring p) h (λ l s. s) refl (stood h legal.1 q n w)
+  stood (Clear p ∷ h) legal q n w = stood_on q n n (Clear p) h (λ l s. s) refl (stood h legal.1 q n w)
 
   -- what is there is pending
   pub stands : (l before : List (Event P E)) (q : P) (e : E) (n : ℕ) → past.IsLegalReversed (l ++ Swap q e ∷ before) → IsOpen q (l ++ Swap q e ∷ before) → swaps_by same q l ≡ 0 → length (past.came_reversed before) ≡ length (past.went_reversed (l ++ Swap q e ∷ before)) + n → IsPendingAt q n (l ++ Swap q e ∷ before)
@@ -231,3 +250,5 @@ module _ {P E : Type 0} (same : Discrete P) where
       stands l before q e (suc n) legal.1 unlinked none (omega (arith, there, length-append (past.went_reversed (l ++ Swap q e ∷ before)) (x ∷ [])))
   stands (Empty p ∷ l) before q e n legal unlinked none there = stands l before q e n legal.1 unlinked none there
   stands (Free p ∷ l) before q e n legal unlinked none there = stands l before q e n legal.1 unlinked none there
+  stands (Ring p ∷ l) before q e n legal unlinked none there = stands l before q e n legal.1 unlinked none there
+  stands (Clear p ∷ l) before q e n legal unlinked none there = stands l before q e n legal.1 unlinked none there

@@ -2,7 +2,7 @@
 use Rattle.std.proofs.Common.{◌≡◌, ◌⊎◌, List, [], ◌∷◌, ◌++◌, map, take, drop, reverse, length, Option, Some, None, refl, ap, sym, ◌∙◌, subst, inl, inr, append-nil, arith}
 use Rattle.std.proofs.lemmas.List.{take-append-drop, take-map, drop-map, map-append}
 use Rattle.std.proofs.Math.Seq.{take-append_seam, drop-append_seam}
-use Rattle.cordyceps_queue.specs.History.{Event, Swap, Link, Take, Busy, Look, Out, Empty, Free, IsLegal, actor, comes, came, went, held, holder, is_take, is_free}
+use Rattle.cordyceps_queue.specs.History.{Event, Swap, Link, Take, Busy, Look, Out, Empty, Free, Ring, Clear, IsLegal, actor, comes, came, went, held, holder, is_take, is_free}
 use Rattle.cordyceps_queue.specs.Laws.{first_if, sends_in, sent_by, takes_by, frees_by, HasRight, ProducersInOrder, OneHolder}
 use Rattle.cordyceps_queue.specs.Past as past
 use Rattle.cordyceps_queue.proofs.CoreTheory.Basics.{some_inj, none_some}
@@ -53,6 +53,8 @@ module _ {P E : Type 0} (same : Discrete P) (q : P) where
   counted (Look p ∷ g) legal = counted g legal.1
   counted (Out p e ∷ g) legal = counted g legal.1
   counted (Empty p ∷ g) legal = counted g legal.1
+  counted (Ring p ∷ g) legal = counted g legal.1
+  counted (Clear p ∷ g) legal = counted g legal.1
 
 module _ {P : Type 0} (same : Discrete P) where
   is_of : (o : Option P) (q : P) → (o ≡ Some q) ⊎ (o ≡ Some q → ⊥)

@@ -1,5 +1,8 @@
 -- Lemmas on what threads share.
 pub mod BatchTries
+pub mod BellKeeps
+pub mod BellSeats
+pub mod BellWord
 pub mod BlockedLook
 pub mod BlockedPast
 pub mod CallsHold
@@ -24,7 +27,10 @@ pub mod Regroups
 pub mod ReturnKeeps
 pub mod RightHolds
 pub mod SeatNames
+pub mod SeesAll
 pub mod Sending
+pub mod SleeperCalls
+pub mod SleeperLaw
 pub mod SpareKeeps
 pub mod SpareRooms
 pub mod StepTells

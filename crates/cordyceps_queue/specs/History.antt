@@ -15,6 +15,9 @@ pub data Event (P E : Type 0) : Type 0 where
   Empty : P → Event P E
   -- it gave the right back
   Free : P → Event P E
+  -- it rang the bell, or cleared it
+  Ring : P → Event P E
+  Clear : P → Event P E
 
 -- tries of a party, each of which gave an element
 abbrev pub outs : {P E : Type 0} → P → List E → List (Event P E)
@@ -32,6 +35,8 @@ module _ {P E : Type 0} where
   actor (Out p e) = p
   actor (Empty p) = p
   actor (Free p) = p
+  actor (Ring p) = p
+  actor (Clear p) = p
 
   -- the elements that an event puts in, and those that it takes out
   abbrev pub comes : Event P E → List E
@@ -76,6 +81,8 @@ module _ {P E : Type 0} where
   MayFollow h (Out p e) = holder h ≡ Some p
   MayFollow h (Empty p) = (holder h ≡ Some p) × (went h ≡ came h)
   MayFollow h (Free p) = holder h ≡ Some p
+  MayFollow h (Ring p) = Unit {0}
+  MayFollow h (Clear p) = Unit {0}
 
 abbrev pub one_if_dec : {A : Type 0} → Dec A → ℕ
 one_if_dec (yes a) = 1
@@ -108,6 +115,10 @@ module _ {P E : Type 0} where
   is_free (Free p) = true
   is_free _ = false
 
+  abbrev pub is_ring : Event P E → Bool
+  is_ring (Ring p) = true
+  is_ring _ = false
+
 module _ {P E : Type 0} (same : Discrete P) where
   -- how many events of this kind are the party's
   abbrev pub count_of : (Event P E → Bool) → P → List (Event P E) → ℕ
@@ -123,6 +134,9 @@ module _ {P E : Type 0} (same : Discrete P) where
   abbrev pub looks_by : P → List (Event P E) → ℕ
   looks_by q h = count_of is_look q h
 
+  abbrev pub rings_by : P → List (Event P E) → ℕ
+  rings_by q h = count_of is_ring q h
+
   -- the party has one link fewer than swaps
   abbrev pub IsPending : P → List (Event P E) → Type 0
   IsPending q h = suc (links_by q h) ≡ swaps_by q h
@@ -136,6 +150,8 @@ module _ {P E : Type 0} (same : Discrete P) where
         ⊎ IsPending q past
     -- each event may follow those before it
     pub turns : (past later : List (Event P E)) (x : Event P E) → h ≡ past ++ x ∷ later → MayFollow past x
+    -- a party that rings has as many links as swaps
+    pub rings : (past later : List (Event P E)) (p : P) → h ≡ past ++ Ring p ∷ later → links_by p past ≡ swaps_by p past
 
   -- the oldest or the second oldest held element came by the last swap of a pending party
   pub record IsBlocked (h : List (Event P E)) : Type 0 where

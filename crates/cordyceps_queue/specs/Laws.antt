@@ -13,9 +13,10 @@ use Rattle.cordyceps_queue.specs.Shared.Calls.{Enqueues, Refills, AtLast}
 use Rattle.cordyceps_queue.specs.Shared.Moves.{Balances, got_by_try}
 use Rattle.cordyceps_queue.specs.Shared.Receipts.{Learns, TellsOfMore}
 use Rattle.cordyceps_queue.specs.History as told
-use Rattle.cordyceps_queue.specs.History.{Event, Take, Busy, actor, comes, came, went, held, holder}
+use Rattle.cordyceps_queue.specs.History.{Event, Take, Busy, Empty, actor, comes, came, went, held, holder}
 use Rattle.cordyceps_queue.specs.History.{count_of, is_take, is_free}
 use Rattle.cordyceps_queue.specs.Past as past
+use Rattle.cordyceps_queue.specs.Bells.{IsQuiet, clears, OwesRing, HeldAreOwed}
 
 -- legal by the conditions on every prefix, or event by event
 abbrev pub LegalBothWays : (P E : Type 0) → Type 0
@@ -156,3 +157,16 @@ abbrev pub ToldFinds : Type 0 → Type 0
 ToldFinds E =
     (h : List (Event Name E)) (u v w : PartyOf E) → IsShare u.share → holder (plain u.seen) ≡ Some (name_of u) →
     TellsOfMore h u → Learns h u v → AtLast (Consumes (Err error.Inconsistent)) (Consumes (Err error.Empty)) v w → ⊥
+
+-- a look that found nothing, and then nobody cleared the bell, which is quiet: each party that put in an element that
+-- is held has yet to ring
+abbrev pub NoneFoundIsOwed : (P E : Type 0) → Type 0
+NoneFoundIsOwed P E =
+    (same : Discrete P) (h past later : List (Event P E)) (q : P) → told.IsLegal same h → h ≡ past ++ Empty q ∷ later →
+    clears later ≡ 0 → IsQuiet h → HeldAreOwed same h
+
+-- and if it was blocked, the party that blocked it has yet to ring
+abbrev pub BlockerIsOwing : (P E : Type 0) → Type 0
+BlockerIsOwing P E =
+    (same : Discrete P) (h past later : List (Event P E)) → told.IsLegal same h → h ≡ past ++ later →
+    (b : told.IsBlocked same past) → clears later ≡ 0 → IsQuiet h → OwesRing same b.by h

@@ -1,3 +1,4 @@
+pub mod Bells
 pub mod Cores
 pub mod History
 pub mod Laws

@@ -1,7 +1,7 @@
 -- Histories read from their newest event back: what was before an event is the rest of the list. These forms go by
 -- recursion on that list, and say the same as those of History on the list reversed.
 use Rattle.std.specs.Prelude.{◌≡◌, ℕ, suc, ◌<◌, ◌≢◌, ◌⊎◌, List, [], ◌∷◌, ◌++◌, drop, length, Option, Some, None}
-use Rattle.cordyceps_queue.specs.History.{Event, Swap, Link, Take, Busy, Look, Out, Empty, Free, holder_after}
+use Rattle.cordyceps_queue.specs.History.{Event, Swap, Link, Take, Busy, Look, Out, Empty, Free, Ring, Clear, holder_after}
 
 -- the elements that came in, oldest first
 abbrev pub came_reversed : {P E : Type 0} → List (Event P E) → List E
@@ -78,6 +78,8 @@ MayCome (Look p) h = holder_reversed h ≡ Some p
 MayCome {P} {E} (Out p e) h = (holder_reversed h ≡ Some p) × (rest : List E) × (held_reversed h ≡ e ∷ rest)
 MayCome (Empty p) h = (holder_reversed h ≡ Some p) × (held_reversed h ≡ [])
 MayCome (Free p) h = holder_reversed h ≡ Some p
+MayCome (Ring p) h = IsSettled p h
+MayCome (Clear p) h = Unit {0}
 
 abbrev pub IsLegalReversed : {P E : Type 0} → List (Event P E) → Type 0
 IsLegalReversed [] = Unit {0}

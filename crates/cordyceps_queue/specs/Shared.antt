@@ -1,5 +1,6 @@
 -- Definitions of what threads share.
 pub mod Batches
+pub mod Bell
 pub mod Bits
 pub mod Calls
 pub mod OwnedConsumer

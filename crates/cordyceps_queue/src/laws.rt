@@ -1,13 +1,17 @@
 //! Laws of histories and of queues. Each is a function whose contract is the law. One about all histories has an empty
 //! body, and one about calls has these calls as its body.
-ghost use Rattle.std.specs.Prelude.{◌≡◌, ◌≢◌, ◌≤◌, ◌++◌, map, length, Ok, Err};
+ghost use Rattle.std.specs.Prelude.{◌≡◌, ◌≢◌, ◌≤◌, ◌++◌, map, length, true, Ok, Err};
 ghost use Rattle.cordyceps_shared.specs.Histories.{plain};
 ghost use Rattle.cordyceps_shared.specs.Shares.{whole};
+ghost use Rattle.cordyceps_queue.specs.Bells.{HeldAreOwed};
 ghost use Rattle.cordyceps_queue.specs.History.{held};
 ghost use Rattle.cordyceps_queue.specs.Laws.{LegalBothWays, BlockedBothWays, WasBlockedBothWays, ProducersInOrder, OneHolder};
 ghost use Rattle.cordyceps_queue.specs.Laws.{BusyIsAnothers, BlockedIsAnothers, BlockedTryIsAnothers};
 ghost use Rattle.cordyceps_queue.specs.Laws.{CallsBalance, NoRoomIsLost};
 ghost use Rattle.cordyceps_queue.specs.Laws.{EmptyMeansGone, HolderFinds, ToldFinds};
+ghost use Rattle.cordyceps_queue.specs.Laws.{NoneFoundIsOwed, BlockerIsOwing};
+ghost use Rattle.cordyceps_queue.specs.Shared.Bell.{TriesOrSleeps, NoOtherClears, BlockerOwes};
+ghost use Rattle.cordyceps_queue.specs.Shared.Calls.{same_name};
 ghost use Rattle.cordyceps_queue.specs.Shared.Receipts.{TellsOfMore};
 ghost use Rattle.cordyceps_queue.specs.Cores.Machine.{after_step};
 ghost use Rattle.cordyceps_queue.specs.declared.cores.steps.QueueAnswer.TheVariants as answers;
@@ -23,6 +27,7 @@ use crate::shared::receipt::Receipt;
 use cordyceps_base::linked::Linked;
 use cordyceps_base::mpsc_queue::Links;
 use cordyceps_base::shared::StepError;
+use std::sync::Wait;
 
 /// States that two readings of a history agree: it is legal by its prefixes exactly if it is legal event by event, and
 /// blocked by its counts exactly if the oldest or second oldest element is of a party that has not linked it.
@@ -124,6 +129,48 @@ pub fn close_behind<T: Linked<Links<T>>>(
         queue.enqueue(&mut party, handle);
     }
     queue.close(party)
+}
+
+/// States who has yet to ring the bell. Let a try find nothing, nobody clear the bell after it, and the bell be quiet.
+/// Then each party that put in an element that is held has yet to ring. And if the try was blocked instead, the party
+/// that blocked it has yet to ring.
+///
+/// # Complexity
+/// O(1): it does nothing.
+pub fn rings_are_owed<P, E>()
+    ensures none { NoneFoundIsOwed P E }
+    ensures blocked { BlockerIsOwing P E }
+{}
+
+/// Clears the bell, tries once to dequeue, and sleeps if it gets no element. Returns the element, or why there was none
+/// and whether the party slept.
+///
+/// If it slept, and no other party cleared the bell meanwhile, it is owed a ring. If its try found nothing, each party
+/// that put in an element that was held when it went to sleep had yet to ring. If its try was blocked, the party that
+/// blocked it had yet to ring.
+///
+/// # Complexity
+/// O(1). If it sleeps, it also calls the kernel.
+///
+/// # Waits
+/// For a ring.
+pub fn sleeper_is_owed<T: Linked<Links<T>>, R: Wait>(
+    rt: &R,
+    queue: &MpscQueue<T>,
+    party: &mut Party<T>,
+) -> Result<T::Handle, (TryDequeueError, bool)>
+    requires { party.old.table ≡ queue.now.table }
+    ensures calls { TriesOrSleeps result party.old party.new }
+    ensures found_none { result ≡ Err (error.Empty, true) → NoOtherClears party.old party.new →
+        HeldAreOwed same_name (plain party.new.seen) }
+    ensures was_blocked { result ≡ Err (error.Inconsistent, true) → NoOtherClears party.old party.new →
+        BlockerOwes party.old party.new }
+{
+    queue.clear_bell(party);
+    match queue.try_dequeue(party) {
+        Ok(handle) => Ok(handle),
+        Err(why) => Err((why, queue.sleep(rt, party))),
+    }
 }
 
 /// What a step of a core returns.

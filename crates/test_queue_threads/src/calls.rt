@@ -27,6 +27,8 @@ pub enum Call {
     PutMany(u64, u64),
     /// Enqueues an element of this number, if there is a room, of the party or in the pool.
     TryPut(u64),
+    /// Enqueues an element of this number, and may wait for a room.
+    PutWaiting(u64),
     /// Takes the rooms of the pool.
     Refill,
     /// Takes at most this many rooms of the pool.
@@ -35,6 +37,8 @@ pub enum Call {
     GiveBack(usize),
     /// Gives all rooms to the pool, with those that are there.
     GiveAllBack,
+    /// The same, until the pool has taken them.
+    GiveAllBackWaiting,
     /// Tries once to dequeue.
     Try,
     /// Dequeues, and may wait.
@@ -234,6 +238,9 @@ impl<'q> Actor<'q> {
                     return Reply::Full;
                 }
             }
+            Call::PutWaiting(number) => {
+                seat.put_waiting(rt, element(rt, self.stage.alloc, number, &self.stage.drops));
+            }
             Call::Refill => {
                 let found = seat.refill(rt);
                 return Reply::Refilled(found, seat.rooms(rt));
@@ -250,6 +257,7 @@ impl<'q> Actor<'q> {
                 let gave = seat.give_all_back(rt);
                 return Reply::Gave(gave, seat.rooms(rt));
             }
+            Call::GiveAllBackWaiting => seat.give_all_back_waiting(rt),
             Call::Release => {
                 let consumer = mem::replace(seat, Seat::Left);
                 *seat = consumer.release(rt);

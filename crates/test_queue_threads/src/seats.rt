@@ -161,6 +161,14 @@ impl<'q> Seat<'q> {
         it.queue.try_enqueue(&mut it.party, handle)
     }
 
+    /// Enqueues an element by a call that may wait for a room.
+    pub fn put_waiting<R: Wait + Abort>(&mut self, rt: &R, handle: Handle) {
+        let Seat::Party(it) = self else {
+            panic!(rt; "only a party enqueues");
+        };
+        it.queue.enqueue_waiting(rt, &mut it.party, handle);
+    }
+
     /// Takes the rooms of the pool, and returns how many they are.
     pub fn refill(&mut self, rt: &impl Abort) -> usize {
         let Seat::Party(it) = self else {
@@ -202,6 +210,14 @@ impl<'q> Seat<'q> {
             panic!(rt; "only a party gives all rooms back");
         };
         it.queue.give_all_back(&mut it.party)
+    }
+
+    /// Gives all rooms to the pool, with those that are there, by a call that may wait.
+    pub fn give_all_back_waiting<R: Wait + Abort>(&mut self, rt: &R) {
+        let Seat::Party(it) = self else {
+            panic!(rt; "only a party gives all rooms back");
+        };
+        it.queue.give_all_back_waiting(rt, &mut it.party);
     }
 
     /// Tries once to dequeue an element.

@@ -8,7 +8,7 @@ use cordyceps_queue::mpsc_queue::TryDequeueError;
 const ROUNDS: u64 = 10;
 
 /// Calls that may wait, of a party that is alone.
-const BY_ONE_PARTY: [Line; 12] = [
+const BY_ONE_PARTY: [Line; 17] = [
     (0, Call::Put(1), Reply::Rooms(1)),
     (0, Call::Put(2), Reply::Rooms(0)),
     (0, Call::Take, Reply::Element(1)),
@@ -21,11 +21,16 @@ const BY_ONE_PARTY: [Line; 12] = [
     (0, Call::Take, Reply::Element(3)),
     (0, Call::Take, Reply::Nothing),
     (0, Call::Release, Reply::Rooms(2)),
+    (0, Call::GiveAllBackWaiting, Reply::Rooms(0)),
+    (0, Call::PutWaiting(4), Reply::Rooms(1)),
+    (0, Call::PutWaiting(5), Reply::Rooms(0)),
+    (0, Call::Take, Reply::Element(4)),
+    (0, Call::Take, Reply::Element(5)),
 ];
 
 #[test]
 fn calls_return_alone(rt: HostRuntime) {
-    alone(&rt, rt.alloc(), 2, 3, &[&BY_ONE_PARTY]);
+    alone(&rt, rt.alloc(), 2, 5, &[&BY_ONE_PARTY]);
 }
 
 #[test]
@@ -140,4 +145,24 @@ fn calls_wait_for_a_release(rt: HostRuntime) {
         };
         scene.play(&rt, rt.alloc(), ROUNDS);
     }
+}
+
+#[test]
+fn an_enqueue_waits_for_a_room(rt: HostRuntime) {
+    let frees = [
+        (0, Call::Await(1), Reply::Done),
+        (0, Call::Stays(1), Reply::Done),
+        (0, Call::Try, Reply::Element(1)),
+        (0, Call::GiveAllBackWaiting, Reply::Rooms(0)),
+        (0, Call::Await(2), Reply::Done),
+    ];
+    let waits = [TELL, (0, Call::PutWaiting(2), Reply::Rooms(0)), TELL];
+    let scene = Scene {
+        rooms: 1,
+        elements: 2,
+        before: &[&ONE_HELD],
+        parts: &[(1, &frees), (2, &waits)],
+        after: &[(0, Call::Try, Reply::Element(2))],
+    };
+    scene.play(&rt, rt.alloc(), ROUNDS);
 }

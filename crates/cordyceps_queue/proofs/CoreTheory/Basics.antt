@@ -4,7 +4,7 @@ use mathlib.Core.Path.{fun_ext}
 use native.Mathlib.Decide.{ℕ_discrete}
 use Rattle.cordyceps_shared.specs.Counts.{times, one_if}
 use Rattle.cordyceps_shared.proofs.Counting.{one_here, one_else}
-use Rattle.cordyceps_queue.specs.History.{Event, Swap, Link, Take, Busy, Look, Out, Empty, Free}
+use Rattle.cordyceps_queue.specs.History.{Event, Swap, Link, Take, Busy, Look, Out, Empty, Free, Ring, Clear}
 use Rattle.cordyceps_queue.specs.Past.{held_reversed, IsSettled, IsOpen, IsPendingAt}
 use Rattle.cordyceps_queue.specs.Cores.Abstract.{update}
 use Rattle.cordyceps_shared.specs.Places.{ItemAt}
@@ -131,6 +131,8 @@ module _ {P E : Type 0} where
   pending_within (Out p e ∷ h) q n w = let l = pending_within h q (suc n) w in omega (arith, drop_less (held_reversed h))
   pending_within (Empty p ∷ h) q n w = pending_within h q n w
   pending_within (Free p ∷ h) q n w = pending_within h q n w
+  pending_within (Ring p ∷ h) q n w = pending_within h q n w
+  pending_within (Clear p ∷ h) q n w = pending_within h q n w
 
   -- each place came by one party
   pub pending_one : (h : List (Event P E)) (q r : P) (n : ℕ) → IsPendingAt q n h → IsPendingAt r n h → q ≡ r
@@ -146,6 +148,8 @@ module _ {P E : Type 0} where
   pending_one (Out p e ∷ h) q r n v w = pending_one h q r (suc n) v w
   pending_one (Empty p ∷ h) q r n v w = pending_one h q r n v w
   pending_one (Free p ∷ h) q r n v w = pending_one h q r n v w
+  pending_one (Ring p ∷ h) q r n v w = pending_one h q r n v w
+  pending_one (Clear p ∷ h) q r n v w = pending_one h q r n v w
 
   -- whose element is held and not linked has an open swap
   pub open_from : (h : List (Event P E)) (q : P) (n : ℕ) → IsPendingAt q n h → IsOpen q h
@@ -159,6 +163,8 @@ module _ {P E : Type 0} where
   open_from (Out p e ∷ h) q n w = open_from h q (suc n) w
   open_from (Empty p ∷ h) q n w = open_from h q n w
   open_from (Free p ∷ h) q n w = open_from h q n w
+  open_from (Ring p ∷ h) q n w = open_from h q n w
+  open_from (Clear p ∷ h) q n w = open_from h q n w
 
 -- how often a number is in a list, by place
 pub times_none : (r : ℕ) (xs : List ℕ) → ((i : ℕ) → ItemAt xs i r → ⊥) → times r xs ≡ 0

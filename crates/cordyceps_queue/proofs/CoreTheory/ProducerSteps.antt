@@ -286,3 +286,56 @@ module _ {P E : Type 0} (m : AbstractMachine P E) (c : Chain) (h : List (Event P
     names = M.names;
     strangers = M.strangers;
   }
+
+  -- Ring and Clear
+  rings_goes : (j : ℕ) (q : P) → GoesOn m m c c h (Event.Ring p.name ∷ h) j q
+  rings_goes j q = record {
+    settled = λ s. s;
+    ready = λ x f. ready_with f f.settled f.ready f.null f.full;
+    opened = λ x o f. open_with f f.null f.pending;
+    right = λ _. right_stays refl (λ l. l) (λ w. inr (tt, w)) (λ _ n. n) (λ _ _ _ _ n. n);
+  }
+
+  pub rings_keeps : p.stage ≡ Rest → Meets m c (Event.Ring p.name ∷ h)
+  rings_keeps rest = record {
+    legal = (fits_as m c h M k p at rest, M.legal);
+    last = M.last;
+    ends = M.ends;
+    joined = M.joined;
+    once = M.once;
+    shared = M.shared;
+    stub = M.stub;
+    unmade = M.unmade;
+    holds = M.holds;
+    right = right_same m.right m.party c.rooms h (Event.Ring p.name) c.keeper refl M.right;
+    fits = λ j q eq. bystander (rings_goes j q.name) q.stage (M.fits j q eq);
+    rooms = M.rooms;
+    names = M.names;
+    strangers = M.strangers;
+  }
+
+  clears_bell_goes : (j : ℕ) (q : P) → GoesOn m m c c h (Event.Clear p.name ∷ h) j q
+  clears_bell_goes j q = record {
+    settled = λ s. s;
+    ready = λ x f. ready_with f f.settled f.ready f.null f.full;
+    opened = λ x o f. open_with f f.null f.pending;
+    right = λ _. right_stays refl (λ l. l) (λ w. inr (tt, w)) (λ _ n. n) (λ _ _ _ _ n. n);
+  }
+
+  pub clears_bell_keeps : Meets m c (Event.Clear p.name ∷ h)
+  clears_bell_keeps = record {
+    legal = (tt, M.legal);
+    last = M.last;
+    ends = M.ends;
+    joined = M.joined;
+    once = M.once;
+    shared = M.shared;
+    stub = M.stub;
+    unmade = M.unmade;
+    holds = M.holds;
+    right = right_same m.right m.party c.rooms h (Event.Clear p.name) c.keeper refl M.right;
+    fits = λ j q eq. bystander (clears_bell_goes j q.name) q.stage (M.fits j q eq);
+    rooms = M.rooms;
+    names = M.names;
+    strangers = M.strangers;
+  }

@@ -14,7 +14,6 @@ use Rattle.cordyceps_shared.specs.Words as word
 use Rattle.cordyceps_shared.specs.declared.layout.TheConstants.{RIGHT, LINKS}
 use Rattle.cordyceps_shared.proofs.Words.{right_set, head_beside_right}
 use Rattle.cordyceps_shared.specs.Histories.{events, of_seat}
-use Rattle.cordyceps_shared.specs.Knowing.{Under}
 use Rattle.cordyceps_shared.specs.Shares.{Name}
 use Rattle.cordyceps_shared.proofs.StepEvents.{under_append}
 use Rattle.cordyceps_shared.proofs.HistoryMarks.{events_more, plain_marked}
@@ -38,7 +37,8 @@ use Rattle.cordyceps_queue.proofs.CoreTheory.SplitParties.{deal_behind}
 use Rattle.cordyceps_queue.proofs.CoreTheory.ProducerSteps.{spare_shared, ready_shared, shared_pooled}
 use Rattle.cordyceps_queue.proofs.CoreTheory.ChainShrinks.{at_down, real_first, tail_full, tail_away, second}
 use Rattle.cordyceps_queue.proofs.SharedTheory.SeatNames.{few_rooms}
-use Rattle.cordyceps_queue.proofs.SharedTheory.WordsAsMachine.{quiet, party_spelled, links_same, next_low, none_begun, keeps_rule, rooms_of}
+use Rattle.cordyceps_queue.proofs.SharedTheory.BellWord.{quiet_more}
+use Rattle.cordyceps_queue.proofs.SharedTheory.WordsAsMachine.{QuietUnder, quiet, party_spelled, links_same, next_low, none_begun, keeps_rule, rooms_of}
 use Rattle.cordyceps_queue.proofs.SharedTheory.WordsAsMachine.{empties, empties_same, readies, readies_same}
 use Rattle.cordyceps_queue.proofs.SharedTheory.WordsAsMachine.{linkeds_low, linkeds_same, chain_near, LeavesPool}
 use Rattle.cordyceps_queue.proofs.SharedTheory.WordsAsMachine.{PlainStep, Becomes, Comes as Keeping}
@@ -87,7 +87,7 @@ module _ {E : Type 0} (s : TableState E) (k : PlainHolds s) (id : ℕ) (v : View
       }
 
   -- a step that changes no word and no slot
-  pub reads : (es : List (Event Name E)) → Under actor (name v) es → (stage : Stage) (chain : Chain) → Meets (set_stage n id (party v) stage) chain (reverse es ++ out_events) → Among chain.rooms k.chain.rooms → ((q : ℕ) → stage ≡ Cleared q → ⊥) → begun_count v.stage ≡ 0 → length (real chain.rooms) ≡ length (real k.chain.rooms) → ((r : ℕ) → k.chain.owner r ≡ Pooled → chain.owner r ≡ Pooled) → (i : ℕ)
+  pub reads : (es : List (Event Name E)) → QuietUnder (name v) es → (stage : Stage) (chain : Chain) → Meets (set_stage n id (party v) stage) chain (reverse es ++ out_events) → Among chain.rooms k.chain.rooms → ((q : ℕ) → stage ≡ Cleared q → ⊥) → begun_count v.stage ≡ 0 → length (real chain.rooms) ≡ length (real k.chain.rooms) → ((r : ℕ) → k.chain.owner r ≡ Pooled → chain.owner r ≡ Pooled) → (i : ℕ)
       → Becomes s k v (sees es v.free v.end v.back v.to stage) record { words = set s.words i (get_or s.words i 0); homes = s.homes; views = set s.views id (sees es v.free v.end v.back v.to stage) } × Sees v es (sees es v.free v.end v.back v.to stage)
   reads es under stage chain met among away quiet even owners i =
       let w = sees es v.free v.end v.back v.to stage in
@@ -96,7 +96,7 @@ module _ {E : Type 0} (s : TableState E) (k : PlainHolds s) (id : ℕ) (v : View
       (subst (λ (ws : List ℕ). Becomes s k v w record { words = ws; homes = s.homes; views = set s.views id w }) (sym (set-get_or s.words i 0)) r.0, r.1)
 
   -- the right changes
-  pub rights : (es : List (Event Name E)) → Under actor (name v) es → (stage : Stage) (chain : Chain) (right : ℕ) → Meets (set_right n id (party v) right stage) chain (reverse es ++ out_events) → Among chain.rooms k.chain.rooms → ((q : ℕ) → stage ≡ Cleared q → ⊥) → begun_count v.stage ≡ 0 → length (real chain.rooms) ≡ length (real k.chain.rooms) → ((r : ℕ) → k.chain.owner r ≡ Pooled → chain.owner r ≡ Pooled)
+  pub rights : (es : List (Event Name E)) → QuietUnder (name v) es → (stage : Stage) (chain : Chain) (right : ℕ) → Meets (set_right n id (party v) right stage) chain (reverse es ++ out_events) → Among chain.rooms k.chain.rooms → ((q : ℕ) → stage ≡ Cleared q → ⊥) → begun_count v.stage ≡ 0 → length (real chain.rooms) ≡ length (real k.chain.rooms) → ((r : ℕ) → k.chain.owner r ≡ Pooled → chain.owner r ≡ Pooled)
       → Becomes s k v (sees es v.free v.end v.back v.to stage) record { words = set s.words RIGHT right; homes = s.homes; views = set s.views id (sees es v.free v.end v.back v.to stage) } × Sees v es (sees es v.free v.end v.back v.to stage)
   rights es under stage chain right met among away quiet even owners =
       let w = sees es v.free v.end v.back v.to stage in
@@ -113,7 +113,7 @@ module _ {E : Type 0} (s : TableState E) (k : PlainHolds s) (id : ℕ) (v : View
       }
 
   -- the tail's element is handed out, after these events
-  module _ (before : List (Event Name E)) (under : Under actor (name v) before) (M : Meets n k.chain (reverse before ++ out_events)) (t r : ℕ) (has : tail_of v.stage ≡ Some t) (nothing : (a b : ℕ) → Owes v.stage a b → ⊥) (is_real : t ≢ 0) (linked : n.next t ≡ Some r) (e : E) (full : k.cell t ≡ Some e) where
+  module _ (before : List (Event Name E)) (under : QuietUnder (name v) before) (M : Meets n k.chain (reverse before ++ out_events)) (t r : ℕ) (has : tail_of v.stage ≡ Some t) (nothing : (a b : ℕ) → Owes v.stage a b → ⊥) (is_real : t ≢ 0) (linked : n.next t ≡ Some r) (e : E) (full : k.cell t ≡ Some e) where
     abbrev pub all : List (Event Name E)
     all = before ++ Event.Out (name v) e ∷ []
 
@@ -186,7 +186,7 @@ module _ {E : Type 0} (s : TableState E) (k : PlainHolds s) (id : ℕ) (v : View
     out_kept : (i : ℕ) → Becomes s k v out_view record { words = set s.words i (get_or s.words i 0); homes = homes_out; views = set s.views id out_view } × Sees v all out_view
     out_kept i =
         let h = ap (λ l. l ++ out_events) (reverse-append before (Event.Out (name v) e ∷ [])) in
-        let kept = keeps_rule s k id all v out_view s.words homes_out (update k.cell t None) next_chain freed_machine at named (under_append actor (name v) before (Event.Out (name v) e ∷ []) under (refl, tt)) refl spelled_out (subst (Meets freed_machine next_chain) (sym h) met) refl (length-set s.homes t none) out_full
+        let kept = keeps_rule s k id all v out_view s.words homes_out (update k.cell t None) next_chain freed_machine at named (under_append actor (name v) before (Event.Out (name v) e ∷ []) under.0 (refl, tt), quiet_more before (Event.Out (name v) e ∷ []) under.1 refl) refl spelled_out (subst (Meets freed_machine next_chain) (sym h) met) refl (length-set s.homes t none) out_full
         (empties s k id t none out_view out_empty (λ j ne mine. spare_shared mine tail_shared))
         (readies s k id t None out_view (λ q is. cc) (λ j ne mine. ready_shared mine tail_shared)) (linkeds_same s k id out_view ((k.linked id v at named).0, (linked_word (word.next s.words t) r linked, tt)))
         refl (λ j x jx. inr (suc j, at_down k.chain.rooms j x jx)) out_spare out_leaves in
@@ -219,14 +219,14 @@ module _ {E : Type 0} (s : TableState E) (k : PlainHolds s) (id : ℕ) (v : View
       (c : PlainStep s k id i new (v, [])) × then (get_or s.words i 0) (c.view, carried_after [] c.act)
 
   -- a load after which the party is at this stage, and that changes nothing else
-  abbrev pub loads_to : (es : List (Event Name E)) → Under actor (name v) es → (stage : Stage) → Meets (set_stage n id (party v) stage) k.chain (reverse es ++ out_events) → ((q : ℕ) → stage ≡ Cleared q → ⊥) → begun_count v.stage ≡ 0 → (i : ℕ)
+  abbrev pub loads_to : (es : List (Event Name E)) → QuietUnder (name v) es → (stage : Stage) → Meets (set_stage n id (party v) stage) k.chain (reverse es ++ out_events) → ((q : ℕ) → stage ≡ Cleared q → ⊥) → begun_count v.stage ≡ 0 → (i : ℕ)
       → Comes i (get_or s.words i 0) (λ _. MovesTo es stage (v, []))
   loads_to es under stage M away unbegun i =
       let r = reads es under stage k.chain M same_rooms away unbegun refl (λ x pooled. pooled) i in
       (quiet (sees es v.free v.end v.back v.to stage) r.0, stood es stage r.1)
 
   -- with the tail's link a room: the element is handed out
-  pub hands : (before : List (Event Name E)) (under : Under actor (name v) before) (M : Meets n k.chain (reverse before ++ out_events)) (t r i : ℕ) (has : tail_of v.stage ≡ Some t) (nothing : (a b : ℕ) → Owes v.stage a b → ⊥) (is_real : t ≢ 0) (linked : n.next t ≡ Some r) (slots : ℕ) → length s.homes ≡ slots
+  pub hands : (before : List (Event Name E)) (under : QuietUnder (name v) before) (M : Meets n k.chain (reverse before ++ out_events)) (t r i : ℕ) (has : tail_of v.stage ≡ Some t) (nothing : (a b : ℕ) → Owes v.stage a b → ⊥) (is_real : t ≢ 0) (linked : n.next t ≡ Some r) (slots : ℕ) → length s.homes ≡ slots
       → Comes i (get_or s.words i 0) (λ _. HandsOut before slots t r (v, []))
   hands before under M t r i has nothing is_real linked slots deep =
       let first : ItemAt k.chain.rooms 0 t = (keeping n k.chain (reverse before ++ out_events) M id (party v) there t has).tail in
@@ -257,7 +257,7 @@ module _ {E : Type 0} (s : TableState E) (k : PlainHolds s) (id : ℕ) (v : View
       )
 
   -- with the tail's link null
-  nulls : (before : List (Event Name E)) (under : Under actor (name v) before) (M : Meets n k.chain (reverse before ++ out_events)) (t i : ℕ) (has : tail_of v.stage ≡ Some t) (nothing : (a b : ℕ) → Owes v.stage a b → ⊥) (is_real : t ≢ 0) → HasLooked (name v) (reverse before ++ out_events) → n.next t ≡ None
+  nulls : (before : List (Event Name E)) (under : QuietUnder (name v) before) (M : Meets n k.chain (reverse before ++ out_events)) (t i : ℕ) (has : tail_of v.stage ≡ Some t) (nothing : (a b : ℕ) → Owes v.stage a b → ⊥) (is_real : t ≢ 0) → HasLooked (name v) (reverse before ++ out_events) → n.next t ≡ None
       → Comes i (get_or s.words i 0) (λ _. MovesTo before (Null t) (v, []))
   nulls before under M t i has nothing is_real looked open_link =
       let h = reverse before ++ out_events in
@@ -272,7 +272,7 @@ module _ {E : Type 0} (s : TableState E) (k : PlainHolds s) (id : ℕ) (v : View
   ReadsTail before slots t found w = (found ≡ 0 → MovesTo before (Null t) (v, []) w)
       × ((r : ℕ) → found ≡ suc r → HandsOut before slots t r (v, []) w)
 
-  pub reading : (before : List (Event Name E)) (under : Under actor (name v) before) (M : Meets n k.chain (reverse before ++ out_events)) (t i : ℕ) (has : tail_of v.stage ≡ Some t) (nothing : (a b : ℕ) → Owes v.stage a b → ⊥) (is_real : t ≢ 0) → HasLooked (name v) (reverse before ++ out_events)
+  pub reading : (before : List (Event Name E)) (under : QuietUnder (name v) before) (M : Meets n k.chain (reverse before ++ out_events)) (t i : ℕ) (has : tail_of v.stage ≡ Some t) (nothing : (a b : ℕ) → Owes v.stage a b → ⊥) (is_real : t ≢ 0) → HasLooked (name v) (reverse before ++ out_events)
       → i ≡ LINKS + t → (slots : ℕ) → length s.homes ≡ slots → (x : ℕ) → get_or s.words i 0 ≡ x → Comes i (get_or s.words i 0) (ReadsTail before slots t)
   reading before under M t i has nothing is_real looked is slots deep zero e =
       let here_is : word.next s.words t ≡ get_or s.words i 0 = ap (λ q. get_or s.words q 0) (sum is) in

@@ -96,7 +96,7 @@ module _ {E : Type 0} (s : TableState E) (k : PlainHolds s) (id : ℕ) (v : View
 
     clear_kept : Becomes s k v clear_view record { words = words_clear; homes = homes_clear; views = set s.views id clear_view } × Sees v [] clear_view
     clear_kept = keeps_rule s k id [] v clear_view words_clear homes_clear (update k.cell r (Some e)) (chain_after_clear m k.chain past k.meets id (party v) here idle r rs spare e) (clear_room m id (party v) r rs e)
-        at named tt refl clear_machine (clear_keeps m k.chain past k.meets id (party v) here idle r rs spare e)
+        at named (tt, refl) refl clear_machine (clear_keeps m k.chain past k.meets id (party v) here idle r rs spare e)
         (length-set s.words (LINKS + r) 0) (length-set s.homes r none) clear_full
         (empties s k id r none clear_view clear_empty (λ j ne mine. ne (spare_one mine (rooms.own 0 r refl))))
         (readies s k id r (Some e) clear_view (λ q is. ap (λ z. update k.cell r (Some e) z) (sym (ap room_of is)) ∙ put_same k.cell r (Some e)) (λ j ne mine. ready_spare mine (rooms.own 0 r refl)))
@@ -148,7 +148,7 @@ module _ {E : Type 0} (s : TableState E) (k : PlainHolds s) (id : ℕ) (v : View
 
     swap_kept : Becomes s k v swap_view record { words = words_swap; homes = homes_swap; views = set s.views id swap_view } × Sees v (Event.Swap (name v) e ∷ []) swap_view
     swap_kept = keeps_rule s k id (Event.Swap (name v) e ∷ []) v swap_view words_swap homes_swap k.cell (chain_after_swap m k.chain past k.meets id (party v) here r e ready has) (swap_head m id (party v) r (Swapped r found_word))
-        at named (refl, tt) refl swap_machine (swap_keeps m k.chain past k.meets id (party v) here r e ready has)
+        at named ((refl, tt), refl) refl swap_machine (swap_keeps m k.chain past k.meets id (party v) here r e ready has)
         (length-set s.words HEAD r) (length-set s.homes r (some (Some e))) swap_full
         (empties s k id r (some (Some e)) swap_view swap_empty (λ j ne mine. ready_spare known.ready mine))
         (readies_same s k id swap_view (λ q is. cc)) (linkeds_low s k id HEAD r swap_view (omega arith) (k.linked id v at named))
@@ -183,7 +183,7 @@ module _ {E : Type 0} (s : TableState E) (k : PlainHolds s) (id : ℕ) (v : View
 
     link_kept : Becomes s k v link_view record { words = words_link; homes = s.homes; views = set s.views id link_view } × Sees v (Event.Link (name v) ∷ []) link_view
     link_kept = keeps_rule s k id (Event.Link (name v) ∷ []) v link_view words_link s.homes k.cell k.chain (link_next m id (party v) old r Rest)
-        at named (refl, tt) refl link_machine (link_keeps m k.chain past k.meets id (party v) here r old waits)
+        at named ((refl, tt), refl) refl link_machine (link_keeps m k.chain past k.meets id (party v) here r old waits)
         (length-set s.words (LINKS + old) (suc r)) refl k.full (empties_same s k id link_view (k.empty id v at named)) (readies_same s k id link_view (λ q is. cc))
         (linkeds s k id old (suc r) link_view (own_links s k id old (suc r) v at named (λ mine. spare_shared mine old_shared)) (λ j ne mine. spare_shared mine old_shared))
         refl (λ i x ix. inr (i, ix)) (λ i x ix. inl (i, ix))

@@ -50,14 +50,14 @@ module _ {E : Type 0} (s : TableState E) (k : PlainHolds s) (id : ℕ) (v : View
     takes_bare slots deep zero e =
         let x : Event Name E = Event.Busy (name v) in
         let met = subst (λ q. Meets q k.chain (x ∷ gone_by)) (sym (unmoved e)) (busy_keeps core k.chain gone_by k.meets id (party v) is_there rest e) in
-        let r = rights s k id v at named bare (x ∷ []) (refl, tt) Rest k.chain 0 met (same_rooms s k id v at named bare)
+        let r = rights s k id v at named bare (x ∷ []) ((refl, tt), refl) Rest k.chain 0 met (same_rooms s k id v at named bare)
         (λ q is. cc) (ap begun_count rest) refl (λ x pooled. pooled) in (
           quiet (sees s k id v at named bare (x ∷ []) v.free v.end v.back v.to Rest) r.0,
           λ _. ((λ _. stood s k id v at named bare (x ∷ []) Rest r.1), λ t f. absurd (zero_suc (sym e ∙ f))),
         )
     takes_bare slots deep (suc t) e =
         let x : Event Name E = Event.Take (name v) in
-        let r = rights s k id v at named bare (x ∷ []) (refl, tt) (Holding t) (chain_after_take core k.chain gone_by k.meets id (party v) is_there t rest e) 0
+        let r = rights s k id v at named bare (x ∷ []) ((refl, tt), refl) (Holding t) (chain_after_take core k.chain gone_by k.meets id (party v) is_there t rest e) 0
         (take_keeps core k.chain gone_by k.meets id (party v) is_there t rest e) (same_rooms s k id v at named bare) (λ q is. cc) (ap begun_count rest) refl (λ x pooled. pooled) in
         let first = free_right core.right core.party k.chain.rooms gone_by k.chain.keeper t e k.meets.right in
         let near = chain_near s k 0 t first.tail_at in
@@ -86,21 +86,21 @@ module _ {E : Type 0} (s : TableState E) (k : PlainHolds s) (id : ℕ) (v : View
         (λ _. MovesTo (Event.Free (name v) ∷ []) Rest (v, []))
     gives_bare n' is =
         let x : Event Name E = Event.Free (name v) in
-        let r = rights s k id v at named bare (x ∷ []) (refl, tt) Rest (chain_after_give core k.chain gone_by k.meets id (party v) is_there t holding) (suc t)
+        let r = rights s k id v at named bare (x ∷ []) ((refl, tt), refl) Rest (chain_after_give core k.chain gone_by k.meets id (party v) is_there t holding) (suc t)
         (give_keeps core k.chain gone_by k.meets id (party v) is_there t holding) (same_rooms s k id v at named bare) (λ q is. cc) (ap begun_count holding) refl (λ x pooled. pooled) in
         let same : suc t ≡ n' = omega arith in
         subst (λ q. Comes s k id v at named bare RIGHT q (λ _. MovesTo (x ∷ []) Rest (v, []))) same
         (quiet (sees s k id v at named bare (x ∷ []) v.free v.end v.back v.to Rest) r.0, stood s k id v at named bare (x ∷ []) Rest r.1)
 
     looks_bare : t ≢ 0 → (i : ℕ) → i ≡ LINKS + t → (slots : ℕ) → length s.homes ≡ slots → Comes s k id v at named bare i (get_or s.words i 0) (ReadsTail s k id v at named bare (Event.Look (name v) ∷ []) slots t)
-    looks_bare is_real i is slots deep = reading s k id v at named bare (Event.Look (name v) ∷ []) (refl, tt) looked_on t i has nothing is_real (inl refl) is slots deep (get_or s.words i 0) refl
+    looks_bare is_real i is slots deep = reading s k id v at named bare (Event.Look (name v) ∷ []) ((refl, tt), refl) looked_on t i has nothing is_real (inl refl) is slots deep (get_or s.words i 0) refl
 
   module _ (t : ℕ) (at_second : v.stage ≡ Second t) where
     knows_tail : Real k.chain.keeper k.chain.rooms gone_by id (name v) t
     knows_tail = party_as s k id v at named at_second
 
     reads_bare : (i : ℕ) → i ≡ LINKS + t → (slots : ℕ) → length s.homes ≡ slots → Comes s k id v at named bare i (get_or s.words i 0) (ReadsTail s k id v at named bare [] slots t)
-    reads_bare i is slots deep = reading s k id v at named bare [] tt k.meets t i (ap tail_of at_second) (λ a b o. subst (λ l. Owes l a b) at_second o) knows_tail.is_real knows_tail.looked is slots deep (get_or s.words i 0) refl
+    reads_bare i is slots deep = reading s k id v at named bare [] (tt, refl) k.meets t i (ap tail_of at_second) (λ a b o. subst (λ l. Owes l a b) at_second o) knows_tail.is_real knows_tail.looked is slots deep (get_or s.words i 0) refl
 
 module _ {E : Type 0} (slots id : ℕ) (me : SeatState E) (hand : me.1 ≡ carry me.0.back) (near : Near slots me.0.back) (named : me.0.known.share ≢ []) (may : MayJoin (free_chain me.0) (back_chain me.0)) where
   pub takes_right : me.0.stage ≡ Rest → PlainAllows slots id me RIGHT (λ _. 0) (play.after_take (step slots RIGHT 0 0 none) me)

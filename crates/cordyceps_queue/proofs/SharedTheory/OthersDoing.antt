@@ -8,7 +8,7 @@ use Rattle.cordyceps_shared.proofs.Adding.{plain_append}
 use Rattle.cordyceps_shared.proofs.HistoryMarks.{others_append, since}
 use Rattle.cordyceps_shared.proofs.StepEvents.{foreign_front}
 use Rattle.cordyceps_shared.proofs.EventCounts.{seen_counts}
-use Rattle.cordyceps_queue.specs.History.{Event, Take, Busy, Look, Free, actor, links_by, swaps_by, is_swap, is_link, is_take, is_free}
+use Rattle.cordyceps_queue.specs.History.{Event, Take, Busy, Look, Free, Ring, actor, links_by, swaps_by, is_swap, is_link, is_take, is_free}
 use Rattle.cordyceps_queue.specs.Laws.{takes_by, frees_by, BusyIsAnothers, BlockedIsAnothers, BlockedTryIsAnothers}
 use Rattle.cordyceps_queue.specs.Shared.Calls.{PartyOf, same_name, Legal, NonePending, Adds, BlockedAfter}
 use Rattle.cordyceps_queue.proofs.HistoryEnds.{count-append, count_of_other}
@@ -16,17 +16,17 @@ use Rattle.cordyceps_queue.proofs.SharedTheory.OwnNames.{even_links, even_frees,
 
 module _ {X : Type 0} where
   -- a prefix with more own events than another is longer
-  record Longer (seen rest past later : List (Bool × X)) (es : List X) : Type 0 where
-    more : List (Bool × X)
-    past_is : past ≡ seen ++ more
-    rest_is : rest ≡ more ++ later
-    mine : own more ≡ es
+  pub record Longer (seen rest past later : List (Bool × X)) (es : List X) : Type 0 where
+    pub more : List (Bool × X)
+    pub past_is : past ≡ seen ++ more
+    pub rest_is : rest ≡ more ++ later
+    pub mine : own more ≡ es
 
   nothing : (xs es : List X) → [] ≡ xs ++ es → es ≡ []
   nothing [] es e = sym e
   nothing (x ∷ xs) es e = let no : ⊥ = cc in absurd no
 
-  longer : (seen rest past later : List (Bool × X)) (es : List X) → es ≢ [] → seen ++ rest ≡ past ++ later → own past ≡ own seen ++ es → Longer seen rest past later es
+  pub longer : (seen rest past later : List (Bool × X)) (es : List X) → es ≢ [] → seen ++ rest ≡ past ++ later → own past ≡ own seen ++ es → Longer seen rest past later es
   longer [] rest past later es some e o = record { more = past; past_is = refl; rest_is = e; mine = o }
   longer (x ∷ s) rest [] later es some e o = absurd (some (nothing (own (x ∷ s)) es o))
   longer (x ∷ s) rest (y ∷ p) later es some e o =
@@ -45,6 +45,7 @@ module _ {E : Type 0} where
     in_order = λ past later e. l.in_order past (later ++ ys) (ap (λ z. z ++ ys) e ∙ append_assoc past later ys);
     links = λ past later e. l.links past (later ++ ys) (ap (λ z. z ++ ys) e ∙ append_assoc past later ys);
     turns = λ past later x e. l.turns past (later ++ ys) x (ap (λ z. z ++ ys) e ∙ append_assoc past (x ∷ later) ys);
+    rings = λ past later p e. l.rings past (later ++ ys) p (ap (λ z. z ++ ys) e ∙ append_assoc past (Ring p ∷ later) ys);
   }
 
   pub busy_is_anothers : BusyIsAnothers E

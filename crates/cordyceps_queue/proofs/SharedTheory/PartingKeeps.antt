@@ -20,6 +20,7 @@ use Rattle.cordyceps_shared.proofs.EventOwners.{relabel, events_relabel}
 use Rattle.cordyceps_shared.proofs.Standings as seats
 use Rattle.cordyceps_shared.proofs.StepEvents.{at_length, owned_same, fits_forgot}
 use Rattle.cordyceps_queue.specs.declared.cores.stage.Stage.TheVariants.{Rest, Cleared}
+use Rattle.cordyceps_queue.specs.Bells.{IsQuiet}
 use Rattle.cordyceps_queue.specs.History.{Event, actor}
 use Rattle.cordyceps_shared.specs.Places.{ItemAt}
 use Rattle.cordyceps_queue.specs.Cores.Meets.{Owner, Shared, Spare, Pooled, OwnsRooms, AtStage, Meets}
@@ -68,6 +69,7 @@ module _ (E : Type 0) where
     pub uses : now.uses ≡ []
     pub rooms_are : now.chain.rooms ≡ 0 ∷ []
     pub pool_is : now.pool ≡ record { rooms = []; end = 0 }
+    pub quiet : IsQuiet (events now.history)
 
   pub opens : (rooms : ℕ) (words : List ℕ) → AreNew words rooms → Opens rooms words
   opens rooms words new =
@@ -117,6 +119,7 @@ module _ (E : Type 0) where
         uses = refl;
         rooms_are = refl;
         pool_is = refl;
+        quiet = refl;
       }
     where
       is_first : (n k : ℕ) (p : AbstractParty Name) → (let first : View E = newcomer n in party_of (get_elem? (first ∷ []) k) ≡ Some p) → let first : View E = newcomer n in (k ≡ 0) × (party first ≡ p)
@@ -220,6 +223,7 @@ module _ {E : Type 0} (s : TableState E) (k : PlainHolds s) (id n : ℕ) (v : Vi
     uses = refl;
     pool = refl;
     rooms = refl;
+    calm = λ quiet. quiet;
   }
 
 -- ---- a party takes another in
@@ -315,6 +319,7 @@ module _ {E : Type 0} (s : TableState E) (k : PlainHolds s) (id other : ℕ) (v 
     uses = refl;
     pool = refl;
     rooms = refl;
+    calm = λ quiet. subst (λ l. IsQuiet l) (sym (events_relabel id other k.history)) quiet;
   }
 
 -- ---- what a party learns that took another in
@@ -350,6 +355,7 @@ module _ {E : Type 0} (s : TableState E) (k : PlainHolds s) (id : ℕ) (v : View
     uses = refl;
     pool = refl;
     rooms = refl;
+    calm = λ quiet. quiet;
   }
     where
       unchanged : machine_of k.cell s.words s.views ≡ machine_of k.cell s.words (set s.views id (view_without_told v))

@@ -1,5 +1,5 @@
 -- What each call put in and took out, and that nothing is lost.
-use Rattle.std.proofs.Common.{◌≡◌, ℕ, List, [], ◌∷◌, ◌++◌, map, flat_map, refl, sym, ap, ◌∙◌, subst, inl, inr}
+use Rattle.std.proofs.Common.{◌≡◌, ℕ, List, [], ◌∷◌, ◌++◌, map, flat_map, Bool, true, false, refl, sym, ap, ◌∙◌, subst, inl, inr}
 use Rattle.std.specs.Prelude.{◌⊎◌, Result, Ok, Err}
 use Rattle.std.proofs.lemmas.List.{map-append, append-nil}
 use Rattle.std.proofs.lemmas.List.Concat.{flat_map-append}
@@ -8,9 +8,10 @@ use Rattle.cordyceps_shared.specs.Standings.{name_of}
 use Rattle.cordyceps_shared.proofs.Moving.{moves_none, moves_then, moves_by}
 use Rattle.cordyceps_queue.specs.declared.cores.steps.TryDequeueError.{TryDequeueError}
 use Rattle.cordyceps_queue.specs.declared.cores.steps.TryDequeueError.TheVariants as error
-use Rattle.cordyceps_queue.specs.History.{Event, Swap, Link, Take, Busy, Look, Out, Empty, Free, came, went, held, IsLegal, actor, outs}
+use Rattle.cordyceps_queue.specs.History.{Event, Swap, Link, Take, Busy, Look, Out, Empty, Free, Ring, Clear, came, went, held, IsLegal, actor, outs}
 use Rattle.cordyceps_queue.specs.Shared.Batches.{StopsAt, TakesLinked}
-use Rattle.cordyceps_queue.specs.Shared.Calls.{PartyOf, Legal, Adds, Enqueues, EnqueuesRefilled, Refills, Dequeues, Consumes, TakesRight, FindsBusy, GivesRight, Retries, AtLast}
+use Rattle.cordyceps_queue.specs.Shared.Bell.{RingsBell, ClearsBell, Sleeps}
+use Rattle.cordyceps_queue.specs.Shared.Calls.{PartyOf, Legal, Adds, Enqueues, EnqueuesRefilled, Refills, Dequeues, Consumes, TakesRight, FindsBusy, GivesRight, Retries, AtLast, FindsFull, GivesAllBack}
 use Rattle.cordyceps_queue.specs.Shared.Moves.{put_by, got_by, Moves, got_by_try}
 use Rattle.cordyceps_queue.proofs.PartyOrder.{nothing_lost}
 
@@ -26,6 +27,8 @@ module _ {P E A : Type 0} (f : E → A) where
   all_put (Out p e ∷ h) = all_put h
   all_put (Empty p ∷ h) = all_put h
   all_put (Free p ∷ h) = all_put h
+  all_put (Ring p ∷ h) = all_put h
+  all_put (Clear p ∷ h) = all_put h
 
   pub all_got : (h : List (Event P E)) → flat_map (got_by f) h ≡ map f (went h)
   all_got [] = refl
@@ -37,6 +40,8 @@ module _ {P E A : Type 0} (f : E → A) where
   all_got (Swap p e ∷ h) = all_got h
   all_got (Empty p ∷ h) = all_got h
   all_got (Free p ∷ h) = all_got h
+  all_got (Ring p ∷ h) = all_got h
+  all_got (Clear p ∷ h) = all_got h
 
   -- what came out of a legal history, and then what it holds, is what was put in
   pub all_kept : (same : Discrete P) (h : List (Event P E)) → IsLegal same h → flat_map (got_by f) h ++ map f (held h) ≡ flat_map (put_by f) h
@@ -85,6 +90,16 @@ module _ {E A : Type 0} (f : E → A) where
   moves_right u w (inr (inl c)) = moved u w (Busy (name_of u) ∷ []) c.0
   moves_right u w (inr (inr c)) = moved u w (Free (name_of u) ∷ []) c.0
 
+  -- a party that rings the bell, clears it or sleeps moves nothing
+  pub moves_ring : (u w : PartyOf E) → RingsBell u w → Moves f [] [] u w
+  moves_ring u w c = moved u w (Ring (name_of u) ∷ []) c.0
+
+  pub moves_clear : (u w : PartyOf E) → ClearsBell u w → Moves f [] [] u w
+  moves_clear u w c = moved u w (Clear (name_of u) ∷ []) c.0
+
+  pub moves_sleep : (slept : Bool) (u w : PartyOf E) → Sleeps slept u w → Moves f [] [] u w
+  moves_sleep slept u w c = moved u w [] c.0
+
   -- a batch, and what the last try added
   batch_moved : (u w : PartyOf E) (es : List E) (more : List (Event Name E)) → flat_map (put_by f) more ≡ [] → flat_map (got_by f) more ≡ [] → Adds u (outs (name_of u) es ++ more) w
       → Moves f [] (map f es) u w
@@ -111,3 +126,15 @@ module _ {E A : Type 0} (f : E → A) where
       retried : (u : PartyOf E) (vs : List (PartyOf E)) (w : PartyOf E) → Retries Fails u vs w → Moves f [] [] u w
       retried u [] w r = subst (λ z. Moves f [] [] u z) r (moves_none (put_by f) (got_by f) u)
       retried u (v ∷ vs) w r = moves_then (put_by f) (got_by f) [] [] [] [] u v w (fails u v r.0) (retried v vs w r.1)
+
+  -- an enqueue that waited for a room
+  pub moves_waited : (e : E) (u w : PartyOf E) → AtLast FindsFull (EnqueuesRefilled e) u w → Moves f (f e ∷ []) [] u w
+  moves_waited e u w a = moves_at_last FindsFull (EnqueuesRefilled e) (f e ∷ []) [] (λ x y c. moves_refill 0 x y c.0) (moves_refilled e) u w a
+
+  -- a party that gave all its rooms back, however often it tried
+  moves_giving : (b : Bool) (u w : PartyOf E) → GivesAllBack b u w → Moves f [] [] u w
+  moves_giving true u w c = moved u w [] c.0
+  moves_giving false u w c = moved u w [] c.0
+
+  pub moves_gave_all : (u w : PartyOf E) → AtLast (GivesAllBack false) (GivesAllBack true) u w → Moves f [] [] u w
+  moves_gave_all u w a = moves_at_last (GivesAllBack false) (GivesAllBack true) [] [] (moves_giving false) (moves_giving true) u w a

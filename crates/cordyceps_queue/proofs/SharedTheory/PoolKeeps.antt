@@ -26,6 +26,7 @@ use Rattle.cordyceps_shared.proofs.Pools.{none_in_pool, some_in_pool}
 use Rattle.cordyceps_shared.proofs.HistoryMarks.{plain_marked}
 use Rattle.cordyceps_shared.proofs.StepEvents.{at_length, owned_same, fits_same, only_share, whole_saw, tells}
 use Rattle.cordyceps_shared.proofs.Words.{pool_set, head_beside_pool, right_beside_pool}
+use Rattle.cordyceps_queue.specs.Bells.{IsQuiet}
 use Rattle.cordyceps_queue.specs.History.{Event, held, actor}
 use Rattle.cordyceps_queue.specs.Cores.Abstract.{AbstractParty, update}
 use Rattle.cordyceps_queue.specs.Cores.Meets.{Owner, Spare, Pooled, OwnsRooms, Meets, real}
@@ -47,6 +48,7 @@ use Rattle.cordyceps_queue.proofs.SharedTheory.SpareKeeps.{skip_kept}
 use Rattle.cordyceps_queue.proofs.SharedTheory.UsesKeep.{plain_table, mine}
 use Rattle.cordyceps_queue.proofs.SharedTheory.UsesShare.{same_words}
 use Rattle.cordyceps_queue.proofs.SharedTheory.UsesSpell.{free_link_as, pool_links, spells_low}
+use Rattle.cordyceps_queue.proofs.SharedTheory.BellWord.{bell_beside, rung_still}
 use Rattle.cordyceps_queue.proofs.SharedTheory.WordsAsMachine.{party_spelled, at_after, next_low, core, party_at, rooms_of, free_spare, spent_else}
 
 -- ---- the slots of the pool's rooms are taken
@@ -107,6 +109,7 @@ module _ {E : Type 0} (s : TableState E) (k : PlainHolds s) (id : ℕ) (v : View
     pub uses : now.uses ≡ k.uses
     pub rooms : now.chain.rooms ≡ k.chain.rooms
     pub pool_is : now.pool ≡ pool
+    pub calm : IsQuiet (events k.history) → IsQuiet (events now.history)
 
   still_named : known.share ≢ []
   still_named e = named (sym same ∙ e)
@@ -139,6 +142,7 @@ module _ {E : Type 0} (s : TableState E) (k : PlainHolds s) (id : ℕ) (v : View
     uses = refl;
     rooms = refl;
     pool_is = refl;
+    calm = λ quiet. quiet;
   }
 
 -- ---- what a whole party knows of the pool
@@ -160,9 +164,9 @@ module _ {E : Type 0} (s : TableState E) (k : PlainHolds s) (id : ℕ) (v : View
 
 -- ---- and of the rule
 module _ {E : Type 0} (s : TableState E) (k : RuleHolds s) (id : ℕ) (w : View E) where
-  pool_rule : (n : ℕ) (homes : Homes E) (pool : FreeChain) (now : PlainHolds record { words = k.words; homes = homes; views = set s.views id w }) → now.uses ≡ k.plain.uses → now.chain.rooms ≡ k.plain.chain.rooms → now.pool ≡ pool
+  pool_rule : (n : ℕ) (homes : Homes E) (pool : FreeChain) (now : PlainHolds record { words = k.words; homes = homes; views = set s.views id w }) → now.uses ≡ k.plain.uses → now.chain.rooms ≡ k.plain.chain.rooms → now.pool ≡ pool → (IsQuiet (events k.plain.history) → IsQuiet (events now.history))
       → LeadsTo n pool → SpellsFree k.words s.words pool.rooms → KeepsUse (bit_of k.plain.uses) k.words s.words w → RuleHolds record { words = set s.words POOL n; homes = homes; views = set s.views id w }
-  pool_rule n homes pool now uses rooms is leads_to free own_use =
+  pool_rule n homes pool now uses rooms is calm leads_to free own_use =
       let p = k.plain in
       let wide = p.wide in
       let long = k.spells.long in
@@ -175,6 +179,7 @@ module _ {E : Type 0} (s : TableState E) (k : RuleHolds s) (id : ℕ) (w : View 
         spells = subst (λ (z : List (ℕ × ℕ) × List ℕ). SpellsWords (bit_of z.0) z.1 k.words (set s.words POOL n) (set s.views id w)) (λ j. (sym uses j, sym rooms j)) spelt;
         word_is = subst (λ (z : ℕ × FreeChain). LeadsTo z.0 z.1) (λ j. (sym (pool_set s.words n (omega arith)) j, sym is j)) leads_to;
         pooled = pool_links k.words s.words k.words (set s.words POOL n) pool now.pool is (λ i x a. (next_low s.words POOL n (omega arith) x, refl)) free;
+        rung = rung_still s k (set s.words POOL n) (bell_beside s.words POOL n (λ e. absurd (omega arith))) calm;
       }
 
 -- ---- a swap
@@ -261,7 +266,7 @@ module _ {E : Type 0} where
         begun = own.begun;
         knows = own.knows;
       } in
-      let kept = pool_rule s k id w 0 (homes_taken s.homes rooms) record { rooms = []; end = 0 } b.now b.uses b.rooms b.pool_is (inl (refl, refl)) (λ i r x. absurd x) own_use in
+      let kept = pool_rule s k id w 0 (homes_taken s.homes rooms) record { rooms = []; end = 0 } b.now b.uses b.rooms b.pool_is b.calm (inl (refl, refl)) (λ i r x. absurd x) own_use in
       let few = few_with q p id v at named bare in (
         w,
         a,
@@ -397,7 +402,7 @@ module _ {E : Type 0} where
         begun = own.begun;
         knows = own.knows;
       } in
-      pool_rule s k id w new s.homes (first_rooms n (free_chain v)) b.now b.uses b.rooms b.pool_is (inr packs)
+      pool_rule s k id w new s.homes (first_rooms n (free_chain v)) b.now b.uses b.rooms b.pool_is b.calm (inr packs)
       (λ i r a. let c = at_take n v.free i r a in own.free i r (at_more v.free v.back i r c.0)) own_use
 
   rest_given : (id n new : ℕ) (me : SeatState E) → me.0.back ≡ [] → me.0.known.share ≢ [] → Packs new (rest_rooms n (free_chain me.0)) → (s : TableState E) (k : RuleHolds s) → get_elem? s.views id ≡ some me.0 → word.pool s.words ≡ 0
@@ -446,7 +451,7 @@ module _ {E : Type 0} where
         begun = own.begun;
         knows = own.knows;
       } in
-      pool_rule s k id w new s.homes (rest_rooms n (free_chain v)) b.now b.uses b.rooms b.pool_is (inr packs)
+      pool_rule s k id w new s.homes (rest_rooms n (free_chain v)) b.now b.uses b.rooms b.pool_is b.calm (inr packs)
       (λ i r a. let d = at_drop n v.free i r a in own.free d.0 r (at_more v.free v.back d.0 r d.1)) own_use
 
   -- a step that changes nothing

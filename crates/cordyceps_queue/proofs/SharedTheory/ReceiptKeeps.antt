@@ -1,5 +1,6 @@
 -- The rule of a queue's table where a receipt is made and learned.
-use Rattle.std.proofs.Common.{◌≡◌, ◌≢◌, ℕ, zero, suc, List, [], ◌∷◌, ◌++◌, reverse, set, None, refl, sym, ap, ◌∙◌, subst, arith, append-nil}
+use Rattle.std.proofs.Common.{◌≡◌, ◌≢◌, ℕ, zero, suc, List, [], ◌∷◌, ◌++◌, reverse, set, None, refl, sym, ap, ◌∙◌, subst, arith}
+use Rattle.cordyceps_queue.specs.Bells.{IsQuiet}
 use mathlib.Core.Option.{some, none}
 use mathlib.Core.Path.{fun_ext}
 use native.Mathlib.Decide.{ℕ_discrete}
@@ -7,30 +8,28 @@ use lib.ListN.{get_elem?}
 use lib.Seq.{set-get_or}
 use Rattle.atomic_table.specs.Table.{keeps, step, Allows, Splits, Joins}
 use Rattle.atomic_table.proofs.Lists.{set_again, set_here, set_else}
-use Rattle.cordyceps_shared.specs.Histories.{events, plain, of_seat}
-use Rattle.cordyceps_shared.specs.Knowing.{IsPrefixOf, all_seen}
+use Rattle.cordyceps_shared.specs.Histories.{events}
 use Rattle.cordyceps_shared.specs.FreeChains.{Links}
 use Rattle.cordyceps_shared.specs.Slots.{EmptyAtHome}
 use Rattle.cordyceps_shared.specs.declared.layout.TheConstants.{HEAD}
 use Rattle.cordyceps_shared.proofs.ChangedItems.{new_last, one_set, two_set, was_there}
 use Rattle.cordyceps_shared.proofs.Counting.{tally_set, tally_snoc}
 use Rattle.cordyceps_shared.proofs.Receipts.{owned_more_seat, fits_more_seat, owned_heard, fits_heard}
-use Rattle.cordyceps_shared.proofs.StepEvents.{at_length, Told, tells}
-use Rattle.cordyceps_shared.proofs.HistoryMarks.{events_more, plain_marked}
+use Rattle.cordyceps_shared.proofs.StepEvents.{at_length}
 use Rattle.cordyceps_queue.specs.declared.cores.stage.Stage.TheVariants.{Cleared}
 use Rattle.cordyceps_queue.specs.History.{actor}
 use Rattle.cordyceps_queue.specs.Cores.Meets.{Meets}
 use Rattle.cordyceps_queue.specs.Shared.Bits.{KeepsUse}
 use Rattle.cordyceps_queue.specs.Shared.Parting.{view_absorbed}
-use Rattle.cordyceps_queue.specs.Shared.Plays.{SeatState, LegalReversed, Sees}
-use Rattle.cordyceps_queue.specs.Past.{IsLegalReversed}
-use Rattle.cordyceps_queue.proofs.CoreTheory.Basics.{put_again}
+use Rattle.cordyceps_queue.specs.Shared.Plays.{SeatState}
 use Rattle.cordyceps_queue.specs.Shared.Telling.{view_as_is, view_telling, view_hearing, after_hear}
-use Rattle.cordyceps_queue.specs.Shared.Rule.{TableState, History, party, party_if, party_of, machine_of, PlainHolds, RuleHolds}
+use Rattle.cordyceps_queue.specs.Shared.Rule.{TableState, party, party_if, party_of, machine_of, PlainHolds, RuleHolds}
 use Rattle.cordyceps_queue.specs.Shared.View.{View, knows, room_count, bit_of}
 use Rattle.cordyceps_queue.proofs.SharedTheory.UsesKeep.{plain_table, mine}
 use Rattle.cordyceps_queue.proofs.SharedTheory.UsesShare.{same_words}
-use Rattle.cordyceps_queue.proofs.SharedTheory.WordsAsMachine.{party_spelled, Stays, core, party_at, parties_put, count_same, spent_else}
+use Rattle.cordyceps_queue.proofs.SharedTheory.BellWord.{quiet_more}
+use Rattle.cordyceps_queue.proofs.SharedTheory.SeesAll.{looking, looked_sees, looked_told, looked_holds}
+use Rattle.cordyceps_queue.proofs.SharedTheory.WordsAsMachine.{party_spelled, Stays}
 
 module _ {E : Type 0} where
   no_party : (u : View E) → u.known.share ≡ [] → party_of (some u) ≡ None
@@ -78,6 +77,7 @@ module _ {E : Type 0} (s : TableState E) (k : PlainHolds s) (id : ℕ) (v : View
     uses = refl;
     pool = refl;
     rooms = refl;
+    calm = λ quiet. quiet;
   }
 
 -- ---- a party learns it
@@ -136,59 +136,20 @@ module _ {E : Type 0} (s : TableState E) (k : PlainHolds s) (id other : ℕ) (v 
     uses = refl;
     pool = refl;
     rooms = refl;
+    calm = λ quiet. quiet;
   }
 
 -- ---- it looks, and has seen all
 module _ {E : Type 0} (s : TableState E) (k : PlainHolds s) (id : ℕ) (v : View E) (at : get_elem? s.views id ≡ some v) (named : v.known.share ≢ []) where
-  abbrev pub history_now : History E
-  history_now = k.history ++ of_seat id []
-
-  abbrev pub looking : View E
-  looking = record v { known = all_seen id history_now v.known.share }
-
-  same_history : events history_now ≡ events k.history
-  same_history = events_more k.history id [] ∙ append-nil (events k.history)
-
-  now_legal : LegalReversed (events history_now)
-  now_legal = subst (λ l. IsLegalReversed (reverse l)) (sym same_history) k.meets.legal
-
-  tells_all : Told actor knows LegalReversed s.views k.history id [] v looking
-  tells_all = tells actor knows LegalReversed s.views k.history id [] v looking k.owned k.fits at named tt refl now_legal
-
-  pub looked_sees : Sees v [] looking
-  looked_sees = tells_all.grown
-
-  pub looked_told : IsPrefixOf (plain v.known.told) (plain looking.known.seen)
-  looked_told = let f = k.fits id v at in (f.told.0, plain_marked id history_now ∙ (same_history ∙ f.told.1))
-
-  pub looked_kept : Stays s k record { words = s.words; homes = s.homes; views = set s.views id looking }
-  looked_kept = record {
-    now = record {
-      uses = k.uses;
-      history = history_now;
-      cell = k.cell;
-      chain = k.chain;
-      pool = k.pool;
-      meets = subst (λ l. Meets (machine_of k.cell s.words (set s.views id looking)) k.chain (reverse l)) (sym same_history) (subst (λ m. Meets m k.chain (reverse (events k.history))) as_was k.meets);
-      wide = k.wide;
-      stub = k.stub;
-      full = k.full;
-      empty = one_set (λ _ u. u.known.share ≢ [] → EmptyAtHome s.homes u.free) s.views id looking (λ _. k.empty id v at named) (λ j u _ e some_name. k.empty j u e some_name);
-      ready = λ j u r. one_set (λ _ z. z.known.share ≢ [] → z.stage ≡ Cleared r → k.cell r ≡ z.item) s.views id looking (λ _ is. k.ready id v r at named is) (λ i z _ e some_name is. k.ready i z r e some_name is) j u;
-      linked = one_set (λ _ u. u.known.share ≢ [] → Links s.words u.free u.end × Links s.words u.back u.to) s.views id looking (λ _. k.linked id v at named) (λ j u _ e some_name. k.linked j u e some_name);
-      pooled = k.pooled;
-      all = let all = k.all in let same = count_same s.views id v looking at refl in omega arith;
-      spent = spent_else s k id looking named;
-      fits = tells_all.fits;
-      owned = tells_all.owned;
-    };
-    uses = refl;
-    pool = refl;
-    rooms = refl;
-  }
-    where
-      as_was : machine_of k.cell s.words s.views ≡ machine_of k.cell s.words (set s.views id looking)
-      as_was = party_spelled s.words k.cell (set s.views id looking) (sym (put_again (core s k).party id (party v) (party_at s k id v at named)) ∙ sym (parties_put s.views id looking (at_length s.views id v at) named))
+  pub looked_kept : Stays s k record { words = s.words; homes = s.homes; views = set s.views id (looking s k id v at named [] tt k.meets) }
+  looked_kept =
+      let h = looked_holds s k id v at named [] tt k.meets in record {
+        now = h.now;
+        uses = h.uses;
+        pool = h.pool;
+        rooms = h.rooms;
+        calm = λ quiet. subst (λ l. IsQuiet l) (sym h.history) (quiet_more (events k.history) [] quiet refl);
+      }
 
 module _ {E : Type 0} where
   pub tells_receipt : (id : ℕ) (v : View E) → Splits RuleHolds id v (view_as_is v) (view_telling v)
@@ -213,7 +174,7 @@ module _ {E : Type 0} where
       let u = me.0 in
       let q = plain_table s k in
       let own = mine s k id u at named in
-      let left : View E = looking q k.plain id u at named in (
+      let left : View E = looking q k.plain id u at named [] tt k.plain.meets in (
         left,
         keeps,
         tt,
@@ -223,7 +184,7 @@ module _ {E : Type 0} where
         record {
           view_is = refl;
           hand = refl;
-          sees = looked_sees q k.plain id u at named;
-          told = looked_told q k.plain id u at named;
+          sees = looked_sees q k.plain id u at named [] tt k.plain.meets;
+          told = looked_told q k.plain id u at named [] tt k.plain.meets;
         },
       )

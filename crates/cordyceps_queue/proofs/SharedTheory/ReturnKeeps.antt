@@ -115,6 +115,7 @@ module _ {E : Type 0} where
         uses = refl;
         pool = refl;
         rooms = refl;
+        calm = λ quiet. quiet;
       }
     where
       unchanged : machine_of k.cell s.words s.views ≡ machine_of k.cell s.words (set s.views id (view_returned v))
@@ -127,6 +128,7 @@ module _ {E : Type 0} where
     uses = b.uses ∙ back.uses;
     pool = b.pool ∙ back.pool;
     bits = b.bits ∙ back.uses;
+    calm = λ quiet. b.calm (back.calm quiet);
     rooms = λ i x ix. elim (b.rooms i x ix) [ inl h ↦ inl h | inr a ↦ inr (a.0, subst (λ l. ItemAt l a.0 x) back.rooms a.1) ];
     spare = λ i x ix. elim (b.spare i x ix) [
       | inl a ↦ inl (a.0, subst (λ l. ItemAt l a.0 x) (append-nil (v.free ++ v.back)) a.1)

@@ -88,6 +88,7 @@ module _ {E : Type 0} (s : TableState E) (k : PlainHolds s) (id : ℕ) (v : View
         uses = refl;
         pool = refl;
         rooms = refl;
+        calm = λ quiet. quiet;
       }
 
   same_parties : (end : ℕ) → let w : View E = record v { end = end } in (core s k).party ≡ (λ j. party_of (get_elem? (set s.views id w) j))

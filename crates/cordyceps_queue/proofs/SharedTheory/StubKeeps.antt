@@ -51,7 +51,7 @@ module _ {E : Type 0} (s : TableState E) (k : PlainHolds s) (id : ℕ) (v : View
       → Comes s k id v at named bare i (get_or s.words i 0) (λ _ z. MovesTo [] (Holding t) (v, []) z × Blocked z.0)
   fails t i has nothing was =
       let met = stage_keeps core k.chain past k.meets id (party v) is_there t has (Holding t) refl (λ a b o. absurd (nothing a b o)) (keeping core k.chain past k.meets id (party v) is_there t has) in
-      let c = loads_to s k id v at named bare [] tt (Holding t) met (λ q is. cc) (none_begun v.stage (λ q e. none_some (sym (ap tail_of e) ∙ has))) i in
+      let c = loads_to s k id v at named bare [] (tt, refl) (Holding t) met (λ q is. cc) (none_begun v.stage (λ q e. none_some (sym (ap tail_of e) ∙ has))) i in
       (c.0, (c.1, blocked s k id v at named bare [] (Holding t) was))
 
   -- ---- the first read, of the stub's link
@@ -80,12 +80,12 @@ module _ {E : Type 0} (s : TableState E) (k : PlainHolds s) (id : ℕ) (v : View
               in
               inl (inl refl, at_open);
         } in
-        let c = loads_to s k id v at named bare (look ∷ []) (refl, tt) StubNull met (λ q is. cc) (ap begun_count holding) LINKS in
+        let c = loads_to s k id v at named bare (look ∷ []) ((refl, tt), refl) StubNull met (λ q is. cc) (ap begun_count holding) LINKS in
         (c.0, λ _. ((λ _. c.1), λ r' f. absurd (zero_suc (sym e ∙ f))))
     looks_stub_bare slots deep (suc r) e =
         let linked : core.next 0 ≡ Some r = ap link_of e in
         let met = pass_keeps core k.chain (look ∷ past) looked id (party v) is_there r holding linked (inl refl) in
-        let o = reads s k id v at named bare (look ∷ []) (refl, tt) (Second r) (chain_after_pass core k.chain (look ∷ past) looked id (party v) is_there r holding linked (inl refl)) met (less_rooms s k id v at named bare) (λ q is. cc) (ap begun_count holding) (ap (λ (l : List ℕ). length l) (sym (real_stub k.chain.rooms tail_at))) (λ x pooled. pooled) LINKS in
+        let o = reads s k id v at named bare (look ∷ []) ((refl, tt), refl) (Second r) (chain_after_pass core k.chain (look ∷ past) looked id (party v) is_there r holding linked (inl refl)) met (less_rooms s k id v at named bare) (λ q is. cc) (ap begun_count holding) (ap (λ (l : List ℕ). length l) (sym (real_stub k.chain.rooms tail_at))) (λ x pooled. pooled) LINKS in
         let at_second = second core k.chain past k.meets 0 r tail_at linked in
         let near = chain_near s k 1 r at_second in
         let ne : r ≢ 0 = λ z. zero_suc (k.meets.once 0 1 0 tail_at (subst (ItemAt k.chain.rooms 1) z at_second)) in
@@ -110,7 +110,7 @@ module _ {E : Type 0} (s : TableState E) (k : PlainHolds s) (id : ℕ) (v : View
         let held = record (party v) { stage = Holding 0 } in
         let back : Meets (set_stage core id (party v) (Holding 0)) k.chain past = stage_keeps core k.chain past k.meets id (party v) is_there 0 has (Holding 0) refl (λ a b o. absurd (subst (λ l. Owes l a b) at_null o)) mine in
         let met = tell_keeps (set_stage core id (party v) (Holding 0)) k.chain past back id held (put_same core.party id (Some held)) 0 refl x refl (mine.held_by, none_held core k.chain past k.meets id (party v) is_there 0 has refl e) refl refl (λ q s. s) (λ q n w. w) in
-        let c = loads_to s k id v at named bare (x ∷ []) (refl, tt) (Holding 0) met (λ q is. cc) (ap begun_count at_null) HEAD in
+        let c = loads_to s k id v at named bare (x ∷ []) ((refl, tt), refl) (Holding 0) met (λ q is. cc) (ap begun_count at_null) HEAD in
         (c.0, λ _. ((λ _. c.1), λ ne. absurd (ne e)))
     heads_stub_bare slots (no ne) =
         let c = fails 0 HEAD (ap tail_of at_null) (λ a b o. subst (λ l. Owes l a b) at_null o)
@@ -129,7 +129,7 @@ module _ {E : Type 0} (s : TableState E) (k : PlainHolds s) (id : ℕ) (v : View
         let f = party_as s k id v at named at_null in
         let met = stage_keeps core k.chain past k.meets id (party v) is_there t (ap tail_of at_null) (PutClear t) refl (λ a b o. absurd (subst (λ l. Owes l a b) at_null o))
         (f.0, stub_out core k.chain past k.meets id (party v) is_there t (ap tail_of at_null) f.0.is_real e) in
-        let c = loads_to s k id v at named bare [] tt (PutClear t) met (λ q is. cc) (ap begun_count at_null) HEAD in
+        let c = loads_to s k id v at named bare [] (tt, refl) (PutClear t) met (λ q is. cc) (ap begun_count at_null) HEAD in
         (c.0, ((λ _. c.1), λ ne. absurd (ne e)))
     heads_bare (no ne) =
         let c = fails t HEAD (ap tail_of at_null) (λ a b o. subst (λ l. Owes l a b) at_null o) ((party_as s k id v at named at_null).1 ne) in
@@ -141,7 +141,7 @@ module _ {E : Type 0} (s : TableState E) (k : PlainHolds s) (id : ℕ) (v : View
       → begun_count v.stage ≡ 0 → length (real chain.rooms) ≡ length (real k.chain.rooms) → ((r : ℕ) → k.chain.owner r ≡ Pooled → chain.owner r ≡ Pooled) → ((r : ℕ) → k.chain.owner r ≡ Pooled → word.next (set s.words i x) r ≡ word.next s.words r)
       → Comes s k id v at named bare i x (λ _. MovesTo [] stage (v, []))
   stores stage chain next i x linked same met full away among unbegun even owners links =
-      let r = keeps_rule s k id [] v (view [] stage) (set s.words i x) s.homes k.cell chain next at named tt refl same met (length-set s.words i x) refl full (empties_same s k id (view [] stage) (k.empty id v at named)) (readies_same s k id (view [] stage) away) linked refl among (λ j y jy. inl (j, jy)) (leaves_rooms s k id v at named bare [] stage chain (set s.words i x) away unbegun even owners links) in
+      let r = keeps_rule s k id [] v (view [] stage) (set s.words i x) s.homes k.cell chain next at named (tt, refl) refl same met (length-set s.words i x) refl full (empties_same s k id (view [] stage) (k.empty id v at named)) (readies_same s k id (view [] stage) away) linked refl among (λ j y jy. inl (j, jy)) (leaves_rooms s k id v at named bare [] stage chain (set s.words i x) away unbegun even owners links) in
       (quiet (view [] stage) r.0, stood s k id v at named bare [] stage r.1)
 
   clears_stub_bare : (t : ℕ) → v.stage ≡ PutClear t → Comes s k id v at named bare LINKS 0
@@ -197,7 +197,7 @@ module _ {E : Type 0} (s : TableState E) (k : PlainHolds s) (id : ℕ) (v : View
         let f = party_as s k id v at named at_put in
         let sum : LINKS + t ≡ i = omega arith in
         let linked : core.next t ≡ Some r = ap link_of (ap (λ q. get_or s.words q 0) sum ∙ e) in
-        let c = hands s k id v at named bare [] tt k.meets t r i (ap tail_of at_put)
+        let c = hands s k id v at named bare [] (tt, refl) k.meets t r i (ap tail_of at_put)
         (λ a b o. subst (λ l. Owes l a b) at_put o) f.0.is_real linked slots deep in (
           c.0,
           (

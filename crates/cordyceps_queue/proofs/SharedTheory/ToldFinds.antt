@@ -9,7 +9,7 @@ use Rattle.cordyceps_shared.specs.Standings.{name_of}
 use Rattle.cordyceps_shared.proofs.Adding.{plain_append, sees_at}
 use Rattle.cordyceps_shared.proofs.EventCounts.{first_of}
 use Rattle.cordyceps_queue.specs.declared.cores.steps.TryDequeueError.TheVariants as error
-use Rattle.cordyceps_queue.specs.History.{Event, actor, Swap, Link, Take, Busy, Look, Out, Empty, Free, comes, goes, came, went, holder, holder_after}
+use Rattle.cordyceps_queue.specs.History.{Event, actor, Swap, Link, Take, Busy, Look, Out, Empty, Free, Ring, Clear as ClearBell, comes, goes, came, went, holder, holder_after}
 use Rattle.cordyceps_queue.specs.Laws.{EmptyMeansGone, HolderFinds, ToldFinds}
 use Rattle.cordyceps_queue.specs.Shared.Calls.{PartyOf, Legal, Adds, Consumes, Retries}
 use Rattle.cordyceps_queue.specs.Shared.Receipts.{TellsOfMore}
@@ -65,6 +65,8 @@ module _ {E : Type 0} where
   by_another n past later h (Out p e) l is has ne = absurd (not_another n p past has (l.turns past later (Out p e) is) ne)
   by_another n past later h (Empty p) l is has ne = stays_with n past (Empty p) has refl refl
   by_another n past later h (Free p) l is has ne = absurd (not_another n p past has (l.turns past later (Free p) is) ne)
+  by_another n past later h (Ring p) l is has ne = stays_with n past (Ring p) has refl refl
+  by_another n past later h (ClearBell p) l is has ne = stays_with n past (ClearBell p) has refl refl
 
   by_itself : (n : Name) (past : List (Event Name E)) (x : Event Name E) (es : List (Event Name E)) → OnlyLooks (x ∷ es) → holder past ≡ Some n → TakesNothing n past x × OnlyLooks es
   by_itself n past (Look p) es l has = (stays_with n past (Look p) has refl refl, l)
@@ -75,6 +77,8 @@ module _ {E : Type 0} where
   by_itself n past (Out p e) es l has = absurd l
   by_itself n past (Empty p) es l has = absurd l
   by_itself n past (Free p) es l has = absurd l
+  by_itself n past (Ring p) es l has = absurd l
+  by_itself n past (ClearBell p) es l has = absurd l
 
   none_out : (share : List Name) (n : Name) → IsOf share n → (h : List (Event Name E)) → Legal h → (past : List (Event Name E)) (front : List (Bool × Event Name E)) (later : List (Event Name E)) → h ≡ past ++ (plain front ++ later) → holder past ≡ Some n
       → Foreign actor share (others front) → OnlyLooks (own front) → (went (plain front) ≡ []) × (holder (past ++ plain front) ≡ Some n)

@@ -25,11 +25,12 @@ use Rattle.cordyceps_queue.specs.Shared.Bits.{IsBit, IsFreeLink, IsLink, IsOld, 
 use Rattle.cordyceps_queue.specs.Shared.Plays.{SeatState, carry, MovesTo, HandsOut}
 use Rattle.cordyceps_queue.specs.Shared.Plays as plain
 use Rattle.cordyceps_queue.specs.Shared.Uses as play
-use Rattle.cordyceps_queue.specs.Shared.Rule.{TableState, party, PlainHolds, RuleHolds}
+use Rattle.cordyceps_queue.specs.Shared.Rule.{TableState, party, PlainHolds, RuleHolds, bell}
 use Rattle.cordyceps_queue.specs.Shared.View.{View, name, bit_of, free_chain, back_chain}
 use Rattle.cordyceps_queue.proofs.CoreTheory.Basics.{some_inj, put_same}
 use Rattle.cordyceps_queue.proofs.CoreTheory.HolderSteps.{keeping}
 use Rattle.cordyceps_queue.proofs.CoreTheory.ProducerSteps.{spare_shared, spare_pooled, ready_spare, spare_one}
+use Rattle.cordyceps_queue.proofs.SharedTheory.BellWord.{rung_still}
 use Rattle.cordyceps_queue.proofs.SharedTheory.WordsAsMachine.{PlainAllows, core, party_at, rooms_of, Becomes}
 use Rattle.cordyceps_queue.proofs.SharedTheory.EnqueueKeeps.{clears}
 use Rattle.cordyceps_queue.proofs.SharedTheory.UsesSpell.{SaysNext, free_link_as, place_of, begun_not_spare, spare_not_in, right_in, next_in, spells_begun, spells_low, pool_word, pool_links, spelt_read}
@@ -129,6 +130,7 @@ module _ {E : Type 0} where
                 ap (λ n. word.next (set k.words n 0) x) is ∙ next_beside_next k.words r x 0 (λ e. spare_pooled owned (ap p.chain.owner (sym e) ∙ p.pooled.own j x a)),
               ))
               k.pooled;
+          rung = rung_still s k (set s.words i (get_or s.words i 0)) (ap (λ ws. bell ws) (sym words_are)) b.0.becomes.calm;
         },
         record {
           next = word.next k.words r;
@@ -193,6 +195,7 @@ module _ {E : Type 0} (s : TableState E) (k : RuleHolds s) (id : ℕ) (v : View 
         word_is = pool_word s.words (set s.words i (get_or s.words i 0)) k.plain.pool b.now.pool (ap (λ ws. word.pool ws) (sym words_are)) b.pool k.word_is;
         pooled = pool_links k.words s.words (set k.words i (get_or k.words i 0)) (set s.words i (get_or s.words i 0)) k.plain.pool b.now.pool b.pool
             (λ j x a. (ap (λ ws. word.next ws x) (sym words_are), ap (λ ws. word.next ws x) (sym plain_are))) k.pooled;
+        rung = rung_still s k (set s.words i (get_or s.words i 0)) (ap (λ ws. bell ws) (sym words_are)) b.calm;
       }
 
   -- the tail is in the queue

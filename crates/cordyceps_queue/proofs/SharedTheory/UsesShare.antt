@@ -29,6 +29,7 @@ use Rattle.cordyceps_queue.specs.Shared.Rule.{TableState, RuleHolds}
 use Rattle.cordyceps_queue.specs.Shared.View.{View, knows, newcomer, down_from, free_chain, bit_of}
 use Rattle.cordyceps_queue.proofs.CoreTheory.Basics.{at_more}
 use Rattle.cordyceps_queue.proofs.CoreTheory.ProducerSteps.{spare_pooled, spare_one}
+use Rattle.cordyceps_queue.proofs.SharedTheory.BellWord.{bell_beside, rung_still}
 use Rattle.cordyceps_queue.proofs.SharedTheory.WordsAsMachine.{rooms_of, Stays}
 use Rattle.cordyceps_queue.proofs.SharedTheory.SpareKeeps.{tied_kept, skip_kept}
 use Rattle.cordyceps_queue.proofs.SharedTheory.PartingKeeps.{opens, cut_kept, joint_kept, forgot_kept, legal_front, at_down_from}
@@ -53,6 +54,7 @@ module _ {E : Type 0} (s : TableState E) (k : RuleHolds s) where
     };
     word_is = subst (λ z. LeadsTo (word.pool s.words) z) (sym b.pool) k.word_is;
     pooled = pool_links k.words s.words k.words s.words k.plain.pool b.now.pool b.pool (λ j x a. (refl, refl)) k.pooled;
+    rung = rung_still s k s.words refl b.calm;
   }
 
   -- a party with some of the free rooms of another, at rest
@@ -99,6 +101,7 @@ module _ {E : Type 0} where
             (λ j x a.
             let ne : x ≢ r = λ e. spare_pooled owned (ap p.chain.owner (sym e) ∙ p.pooled.own j x a) in
             (next_beside_next s.words r x n ne, next_beside_next k.words r x to ne)) k.pooled;
+        rung = rung_still s k (set s.words (LINKS + r) n) (bell_beside s.words (LINKS + r) n (λ e. absurd (omega arith))) b.calm;
       } in (
         w,
         keeps,
@@ -228,6 +231,7 @@ module _ (E : Type 0) where
         };
         word_is = subst (λ z. LeadsTo (word.pool words) z) (sym b.pool_is) (inl (is.pool, refl));
         pooled = subst (λ (z : FreeChain). SpellsFree plain words z.rooms) (sym b.pool_is) (λ i r a. absurd a);
+        rung = λ _. b.quiet;
       }
     where
       stub_link : (i r : ℕ) → ItemAt (0 ∷ []) i r → Spells (λ _. 0) r (word.next plain r) (word.next words r)

@@ -21,10 +21,11 @@ use Rattle.cordyceps_queue.specs.Cores.Abstract.{update}
 use Rattle.cordyceps_queue.specs.Shared.Bits.{IsBit, IsFreeLink, IsRead, IsRight, Spells, Knows, Begun, SpellsWords}
 use Rattle.cordyceps_queue.specs.Shared.Plays.{SeatState, carry}
 use Rattle.cordyceps_queue.specs.Shared.Uses as play
-use Rattle.cordyceps_queue.specs.Shared.Rule.{TableState, RuleHolds}
+use Rattle.cordyceps_queue.specs.Shared.Rule.{TableState, RuleHolds, bell}
 use Rattle.cordyceps_queue.specs.Shared.View.{View, name, bit_of, free_chain, back_chain}
 use Rattle.cordyceps_queue.proofs.CoreTheory.Basics.{some_inj, put_same, put_other}
 use Rattle.cordyceps_queue.proofs.CoreTheory.ProducerSteps.{spare_shared, ready_shared, shared_pooled}
+use Rattle.cordyceps_queue.proofs.SharedTheory.BellWord.{bell_beside, rung_still}
 use Rattle.cordyceps_queue.proofs.SharedTheory.WordsAsMachine.{party_as, next_low, rooms_of, Becomes}
 use Rattle.cordyceps_queue.proofs.SharedTheory.EnqueueKeeps.{swaps, links_on}
 use Rattle.cordyceps_queue.proofs.SharedTheory.HolderAllowed.{takes_right, gives_right}
@@ -64,6 +65,7 @@ module _ {E : Type 0} (s : TableState E) (k : RuleHolds s) (id : ℕ) (v : View 
             (λ _. use_after s k id v at named w record { words = set k.words HEAD r; homes = homes; views = set s.views id w } b calm) k.spells);
         word_is = pool_word s.words (set s.words HEAD n) k.plain.pool b.now.pool (pool_beside_head s.words n) b.pool k.word_is;
         pooled = pool_links k.words s.words (set k.words HEAD r) (set s.words HEAD n) k.plain.pool b.now.pool b.pool (λ j x a. (next_low s.words HEAD n (omega arith) x, next_low k.words HEAD r (omega arith) x)) k.pooled;
+        rung = rung_still s k (set s.words HEAD n) (bell_beside s.words HEAD n (λ e. absurd (omega arith))) b.calm;
       }
 
   -- the word of the right changes
@@ -90,6 +92,7 @@ module _ {E : Type 0} (s : TableState E) (k : RuleHolds s) (id : ℕ) (v : View 
             (λ _. use_after s k id v at named w record { words = set k.words RIGHT r; homes = homes; views = set s.views id w } b calm) k.spells);
         word_is = pool_word s.words (set s.words RIGHT n) k.plain.pool b.now.pool (pool_beside_right s.words n) b.pool k.word_is;
         pooled = pool_links k.words s.words (set k.words RIGHT r) (set s.words RIGHT n) k.plain.pool b.now.pool b.pool (λ j x a. (next_low s.words RIGHT n (omega arith) x, next_low k.words RIGHT r (omega arith) x)) k.pooled;
+        rung = rung_still s k (set s.words RIGHT n) (bell_beside s.words RIGHT n (λ e. absurd (omega arith))) b.calm;
       }
 
   -- the link of a room in the queue leads to another, of which the party knows the bits
@@ -127,6 +130,7 @@ module _ {E : Type 0} (s : TableState E) (k : RuleHolds s) (id : ℕ) (v : View 
             (λ j x a.
             let ne : x ≢ old = λ e. shared_pooled shared (ap k.plain.chain.owner (sym e) ∙ k.plain.pooled.own j x a) in
             (next_beside_next s.words old x n ne, next_beside_next k.words old x (suc r) ne)) k.pooled;
+        rung = rung_still s k (set s.words (LINKS + old) n) (bell_beside s.words (LINKS + old) n (λ e. absurd (omega arith))) b.calm;
       }
     where
       head_still : word.head (set k.words (LINKS + old) (suc r)) ≡ word.head k.words
@@ -386,6 +390,7 @@ module _ {E : Type 0} (slots id : ℕ) (me : SeatState E) (hand : me.1 ≡ carry
           pooled = pool_links k.words s.words (set k.words LINKS 0) (set s.words LINKS (get_or s.words LINKS 0)) p.pool
               b.0.becomes.now.pool b.0.becomes.pool
               (λ j x a. (ap (λ ws. word.next ws x) (sym words_are), next_beside_next k.words 0 x 0 (λ e. shared_pooled p.meets.stub (ap p.chain.owner (sym e) ∙ p.pooled.own j x a)))) k.pooled;
+          rung = rung_still s k (set s.words LINKS (get_or s.words LINKS 0)) (ap (λ ws. bell ws) (sym words_are)) b.0.becomes.calm;
         },
         (
           (λ r o. ap (λ y. bit_of y r) b.0.becomes.bits

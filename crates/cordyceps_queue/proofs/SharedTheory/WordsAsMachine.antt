@@ -24,6 +24,7 @@ use Rattle.cordyceps_shared.proofs.HistoryMarks.{events_more}
 use Rattle.cordyceps_shared.proofs.StepEvents.{at_length, tells}
 use Rattle.cordyceps_queue.specs.declared.cores.stage.Stage.{Stage}
 use Rattle.cordyceps_queue.specs.declared.cores.stage.Stage.TheVariants.{Rest, Cleared, Swapped, Holding, StubNull, Second, Null, PutClear, PutSwap, PutLink, PutRead}
+use Rattle.cordyceps_queue.specs.Bells.{IsQuiet}
 use Rattle.cordyceps_queue.specs.History.{Event, actor}
 use Rattle.cordyceps_shared.specs.Places.{ItemAt}
 use Rattle.cordyceps_queue.specs.Cores.Meets.{Owner, Spare, Ready, Pooled, Chain, AtStage, OwnsRooms, Meets, real}
@@ -34,10 +35,15 @@ use Rattle.cordyceps_queue.specs.Shared.View.{View, knows, name, begun_count, ro
 use Rattle.cordyceps_queue.specs.Cores.Abstract.{AbstractParty, AbstractMachine, update}
 use Rattle.cordyceps_queue.proofs.CoreTheory.StepLeaves.{fits_as}
 use Rattle.cordyceps_queue.proofs.CoreTheory.Basics.{put_same, put_other, at_more}
+use Rattle.cordyceps_queue.proofs.SharedTheory.BellWord.{quiet_more}
 
 pub at_after : {A : Type 0} (xs ys : List A) (i : ℕ) (a : A) → ItemAt ys i a → ItemAt (xs ++ ys) (length xs + i) a
 at_after [] ys i a p = let e : i ≡ 0 + i = omega arith in subst (λ n. ItemAt ys n a) e p
 at_after (x ∷ xs) ys i a p = let e : suc (length xs + i) ≡ suc (length xs) + i = omega arith in subst (λ n. ItemAt (x ∷ (xs ++ ys)) n a) e (at_after xs ys i a p)
+
+-- events under this name that do not ring the bell
+abbrev pub QuietUnder : {E : Type 0} → Name → List (Event Name E) → Type 0
+QuietUnder n es = Under actor n es × IsQuiet es
 
 -- the links that the words are
 abbrev pub links : List ℕ → ℕ → Option ℕ
@@ -119,6 +125,7 @@ module _ {E : Type 0} where
     pub bits : w.bits ≡ k.uses
     pub rooms : Among t.words k.chain.rooms now.chain.rooms
     pub spare : Comes s k v w
+    pub calm : IsQuiet (events k.history) → IsQuiet (events now.history)
 
   -- the plain rule after a step that leaves the chain
   pub record Stays (s : TableState E) (k : PlainHolds s) (t : TableState E) : Type 0 where
@@ -126,6 +133,7 @@ module _ {E : Type 0} where
     pub uses : now.uses ≡ k.uses
     pub pool : now.pool ≡ k.pool
     pub rooms : now.chain.rooms ≡ k.chain.rooms
+    pub calm : IsQuiet (events k.history) → IsQuiet (events now.history)
 
   -- a step of a party by which the word i becomes n: its view after it, and the slots that it takes or gives back
   pub record PlainStep (s : TableState E) (k : PlainHolds s) (id i n : ℕ) (me : SeatState E) : Type 0 where
@@ -180,7 +188,7 @@ module _ {E : Type 0} where
 
   -- the rule after a step at which the party sees all and adds these events, and what it tells
   pub keeps_rule : (s : TableState E) (k : PlainHolds s) (id : ℕ) (es : List (Event Name E)) (v w : View E) (words : List ℕ) (homes : Homes E) (cell : ℕ → Option E) (chain : Chain) (m' : AbstractMachine Name E)
-      → get_elem? s.views id ≡ some v → v.known.share ≢ [] → Under actor (name v) es → w.known ≡ all_seen id (k.history ++ of_seat id es) v.known.share
+      → get_elem? s.views id ≡ some v → v.known.share ≢ [] → QuietUnder (name v) es → w.known ≡ all_seen id (k.history ++ of_seat id es) v.known.share
       → m' ≡ machine_of cell words (set s.views id w) → Meets m' chain (reverse es ++ reverse (events k.history))
       → length words ≡ length s.words → length homes ≡ length s.homes → FullAtHome homes cell chain.rooms → AllEmptyAtHome homes (set s.views id w) → AllReady cell (set s.views id w) → AreLinked words (set s.views id w)
       → w.bits ≡ k.uses → Among words k.chain.rooms chain.rooms → Comes s k v w → LeavesPool s k v w words homes chain → Becomes s k v w record { words = words; homes = homes; views = set s.views id w } × Sees v es w
@@ -189,7 +197,7 @@ module _ {E : Type 0} where
       let recent : reverse (events h) ≡ reverse es ++ reverse (events k.history) = ap (λ z. reverse z) (events_more k.history id es) ∙ reverse-append (events k.history) es in
       let meets : Meets (machine_of cell words (set s.views id w)) chain (reverse (events h)) =
       subst (λ l. Meets (machine_of cell words (set s.views id w)) chain l) (sym recent) (subst (λ n. Meets n chain (reverse es ++ reverse (events k.history))) same met) in
-      let t = tells actor knows LegalReversed s.views k.history id es v w k.owned k.fits at some_name under sees meets.legal in
+      let t = tells actor knows LegalReversed s.views k.history id es v w k.owned k.fits at some_name under.0 sees meets.legal in
       let was_wide = k.wide in
       let was_stub = k.stub in (
         record {
@@ -217,6 +225,7 @@ module _ {E : Type 0} where
           bits = bits;
           rooms = rooms;
           spare = spare;
+          calm = λ quiet. subst (λ l. IsQuiet l) (sym (events_more k.history id es)) (quiet_more (events k.history) es quiet under.1);
         },
         t.grown,
       )

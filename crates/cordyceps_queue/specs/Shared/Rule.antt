@@ -1,6 +1,6 @@
 -- The rule of a queue's table, which each step of each party keeps.
 use Rattle.std.specs.Prelude.{◌≡◌, ◌≢◌, ℕ, zero, suc, ◌+◌, ◌-◌, ◌≤◌, List, [], ◌∷◌, ◌++◌, length, reverse, Option, Some}
-use Rattle.std.specs.Prelude.{None}
+use Rattle.std.specs.Prelude.{None, slice_index}
 use mathlib.Core.Option.{some, none}
 use mathlib.Core.Option as maybe
 use lib.ListN.{get_elem?}
@@ -16,7 +16,9 @@ use Rattle.cordyceps_shared.specs.Shares.{Name}
 use Rattle.cordyceps_shared.specs.Words as word
 use Rattle.cordyceps_shared.specs.declared.layout.TheConstants.{LINKS}
 use Rattle.cordyceps_queue.specs.declared.cores.stage.Stage.TheVariants.{Cleared}
+use Rattle.cordyceps_queue.specs.declared.shared.bell.TheConstants.{BELL}
 use Rattle.cordyceps_shared.specs.Slots.{Homes, EmptyAtHome}
+use Rattle.cordyceps_queue.specs.Bells.{IsQuiet}
 use Rattle.cordyceps_queue.specs.History.{Event, actor}
 use Rattle.cordyceps_shared.specs.Places.{ItemAt}
 use Rattle.cordyceps_queue.specs.Cores.Meets.{Owner, Pooled, Chain, Meets, real}
@@ -35,6 +37,10 @@ History E = List (ℕ × Event Name E)
 abbrev pub link_of : ℕ → Option ℕ
 link_of zero = None
 link_of (suc r) = Some r
+
+-- the word of the bell: 1 if it is rung, 0 if not, and 2 if not and a party sleeps
+abbrev pub bell : List ℕ → ℕ
+bell words = slice_index words BELL
 
 -- a seat without a share is no party
 abbrev pub party_if : List Name → AbstractParty Name → Option (AbstractParty Name)
@@ -113,13 +119,15 @@ module _ {E : Type 0} where
     pub fits : AllAgree actor knows s.views history
     pub owned : SharesDisjoint knows s.views history
 
-  -- the rule of the table: its words spell plain ones, of which that holds, and one of them leads to the pool
+  -- the rule of the table: its words spell plain ones, of which that holds, one of them leads to the pool, and the bell
+  -- has been rung since it was last cleared only if its word says so
   pub record RuleHolds (s : TableState E) : Type 0 where
     pub words : List ℕ
     pub plain : PlainHolds record { words = words; homes = s.homes; views = s.views }
     pub spells : SpellsWords (bit_of plain.uses) plain.chain.rooms words s.words s.views
     pub word_is : LeadsTo (word.pool s.words) plain.pool
     pub pooled : SpellsFree words s.words plain.pool.rooms
+    pub rung : bell s.words ≢ 1 → IsQuiet (events plain.history)
 
 -- a link for each slot, after the other words, and the stub's slot
 abbrev pub IsTable : TableId → Type 0

@@ -250,14 +250,11 @@ impl<T: Linked<Links<T>>> MpscQueue<T> {
     /// Never.
     ///
     /// # Examples
-    /// From `mailbox::send` of `cordyceps_shared_uses`:
+    /// From `MpscQueue::enqueue_waiting` of `cordyceps_queue`:
     /// ```
-    /// let sent = queue.try_enqueue(party, letter);
-    /// // The receiver is woken whether or not the queue accepted the letter. A superfluous wake-up does no harm.
-    /// receiver.unpark();
-    /// match sent {
+    /// match self.try_enqueue(party, handle) {
     ///     Ok(()) => return,
-    ///     Err(back) => letter = back,
+    ///     Err(back) => handle = back,
     /// }
     /// ```
     pub fn try_enqueue(&self, party: &mut Party<T>, handle: T::Handle) -> Result<(), T::Handle>

@@ -22,6 +22,7 @@ ghost use Rattle.cordyceps_queue.specs.Shared.Batches.{TakesLinked};
 ghost use Rattle.cordyceps_queue.specs.History.{held, holder};
 ghost use Rattle.cordyceps_queue.specs.declared.cores.steps.TryDequeueError.TheVariants as error;
 ghost use Rattle.cordyceps_queue.specs.Shared.Calls.{Legal, NonePending, Consumes, TakesRight, FindsBusy};
+ghost use Rattle.cordyceps_queue.specs.Shared.Bell.{ClearsBell, Sleeps};
 ghost use Rattle.cordyceps_queue.specs.Shared.Receipts.{Learns};
 ghost use Rattle.cordyceps_queue.specs.Shared.Telling.{IsReceipt};
 ghost use Rattle.cordyceps_shared.specs.Slots.{view};
@@ -34,12 +35,13 @@ use crate::shared::receipt::{Receipt, hear, tell};
 use crate::shared::spare::Spare;
 use crate::shared::table::{PartySeat, Tried, Words};
 use crate::shared::uses::RoomUse;
-use crate::shared::{pool, steps, tries};
+use crate::shared::{bell, pool, steps, tries};
 use cordyceps_base::linked::Linked;
 use cordyceps_base::mpsc_queue::Links;
 use cordyceps_shared::required;
 use crossbeam_utils::Backoff;
 use std::marker::Model;
+use std::sync::Wait;
 
 /// The most calls of `Backoff::spin` in one pause. Each call gives twice as many spin-loop hints as the one before, up
 /// to 64.
@@ -225,6 +227,22 @@ impl<E: Drop> Right<E> {
         hear(words, &mut self.seat, receipt);
     }
 
+    /// Clears the bell.
+    pub fn clear_bell(&mut self, words: &Words<E>)
+        requires { self.old.table ≡ words.now.table_id }
+        ensures { ClearsBell self.old self.new }
+    {
+        bell::clear(words, &mut self.seat);
+    }
+
+    /// Sleeps for the bell, and returns `true`. If it is rung already, returns `false` at once.
+    pub fn sleep<R: Wait>(&mut self, words: &Words<E>, rt: &R) -> bool
+        requires { self.old.table ≡ words.now.table_id }
+        ensures { Sleeps result self.old self.new }
+    {
+        bell::sleep(words, rt, &mut self.seat)
+    }
+
     /// Tries once to remove the oldest element.
     pub fn try_once(&mut self, words: &Words<E>) -> Result<E, TryDequeueError>
         requires { self.old.table ≡ words.now.table_id }
@@ -406,6 +424,35 @@ impl<'a, T: Linked<Links<T>>> Consumer<'a, T> {
         let queue = self.queue;
         let Receipt { seat } = receipt;
         self.right.learn(&queue.rooms.shared, seat);
+    }
+
+    /// Clears the bell, as `MpscQueue::clear_bell`.
+    ///
+    /// # Complexity
+    /// O(1): one compare-exchange.
+    ///
+    /// # Waits
+    /// Never.
+    pub fn clear_bell(&mut self)
+        ensures { ClearsBell self.old self.new }
+    {
+        let queue = self.queue;
+        self.right.clear_bell(&queue.rooms.shared);
+    }
+
+    /// Sleeps until somebody rings the bell, as `MpscQueue::sleep`, and returns `true`. It may also wake for no reason.
+    /// If the bell has been rung since it was last cleared, it does not sleep, and returns `false`.
+    ///
+    /// # Complexity
+    /// O(1): one compare-exchange. If it sleeps, it also calls the kernel.
+    ///
+    /// # Waits
+    /// For a ring.
+    pub fn sleep<R: Wait>(&mut self, rt: &R) -> bool
+        ensures { Sleeps result self.old self.new }
+    {
+        let queue = self.queue;
+        self.right.sleep(&queue.rooms.shared, rt)
     }
 
     /// Returns the number of rooms that the party has. Its contract also states what is true of every party, and that

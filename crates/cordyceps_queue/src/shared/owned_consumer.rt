@@ -9,6 +9,7 @@ ghost use Rattle.cordyceps_queue.specs.History.{held, holder};
 ghost use Rattle.cordyceps_queue.specs.declared.cores.steps.TryDequeueError.TheVariants as error;
 ghost use Rattle.cordyceps_queue.specs.Shared.Calls.{Legal, NonePending, Consumes, TakesRight, FindsBusy, GivesRight, IsCertain};
 ghost use Rattle.cordyceps_queue.specs.Shared.Calls.{LacksRooms};
+ghost use Rattle.cordyceps_queue.specs.Shared.Bell.{ClearsBell, Sleeps};
 ghost use Rattle.cordyceps_queue.specs.Shared.Receipts.{Learns};
 
 use crate::cores::steps::TryDequeueError;
@@ -20,7 +21,7 @@ use cordyceps_base::linked::Linked;
 use cordyceps_base::mpsc_queue::Links;
 use std::alloc::Global;
 use std::marker::Model;
-use std::sync::Arc;
+use std::sync::{Arc, Wait};
 
 /// A party that has the right to dequeue from a queue, whose ownership it shares. No other party dequeues meanwhile. It
 /// can be sent to a thread if `T::Handle` can.
@@ -178,6 +179,37 @@ impl<T: Linked<Links<T>>> OwnedConsumer<T> {
         let queue: &MpscQueue<T> = &self.queue;
         let Receipt { seat } = receipt;
         self.right.learn(&queue.rooms.shared, seat);
+    }
+
+    /// Clears the bell, as `MpscQueue::clear_bell`.
+    ///
+    /// # Complexity
+    /// O(1): one compare-exchange.
+    ///
+    /// # Waits
+    /// Never.
+    pub fn clear_bell(&mut self)
+        ensures queue { self.new.queue ≡ self.old.queue }
+        ensures clears { ClearsBell self.old.party self.new.party }
+    {
+        let queue: &MpscQueue<T> = &self.queue;
+        self.right.clear_bell(&queue.rooms.shared);
+    }
+
+    /// Sleeps until somebody rings the bell, as `MpscQueue::sleep`, and returns `true`. It may also wake for no reason.
+    /// If the bell has been rung since it was last cleared, it does not sleep, and returns `false`.
+    ///
+    /// # Complexity
+    /// O(1): one compare-exchange. If it sleeps, it also calls the kernel.
+    ///
+    /// # Waits
+    /// For a ring.
+    pub fn sleep<R: Wait>(&mut self, rt: &R) -> bool
+        ensures queue { self.new.queue ≡ self.old.queue }
+        ensures sleeps { Sleeps result self.old.party self.new.party }
+    {
+        let queue: &MpscQueue<T> = &self.queue;
+        self.right.sleep(&queue.rooms.shared, rt)
     }
 
     /// Returns the number of rooms that the party has. Its contract also states what is true of every party, and that

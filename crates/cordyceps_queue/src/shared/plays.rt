@@ -6,6 +6,7 @@ ghost use Rattle.cordyceps_queue.specs.Shared.Uses.{after_reread, after_tie, aft
 ghost use Rattle.cordyceps_queue.specs.Shared.Uses.{after_refill, after_gather, after_glance, after_give_back, after_give_rest};
 ghost use Rattle.cordyceps_queue.specs.Shared.Parting.{after_learn, view_keeping, view_giving};
 ghost use Rattle.cordyceps_queue.specs.Shared.Parting.{view_absorbing, view_absorbed};
+ghost use Rattle.cordyceps_queue.specs.Shared.Bell.{after_listen, after_ring, after_clear, after_doze};
 ghost use Rattle.cordyceps_queue.specs.Shared.Telling.{view_as_is, view_telling, view_hearing, after_hear};
 
 use crate::shared::table::{Chosen, SeatView};
@@ -217,4 +218,32 @@ pub(crate) struct Heard;
 
 impl<E> Play<Option<E>, SeatView<E>> for Heard {
     ghost then = { after_hear };
+}
+
+/// A load of the bell's word before a ring.
+pub(crate) struct Listen;
+
+impl<E> Play<Option<E>, SeatView<E>> for Listen {
+    ghost then = { after_listen };
+}
+
+/// A swap of the bell's word, which rings the bell.
+pub(crate) struct Ring;
+
+impl<E> Play<Option<E>, SeatView<E>> for Ring {
+    ghost then = { after_ring };
+}
+
+/// A compare-exchange of the bell's word, which clears the bell.
+pub(crate) struct Clear;
+
+impl<E> Play<Option<E>, SeatView<E>> for Clear {
+    ghost then = { after_clear };
+}
+
+/// A compare-exchange of the bell's word before a sleep.
+pub(crate) struct Doze;
+
+impl<E> Play<Option<E>, SeatView<E>> for Doze {
+    ghost then = { after_doze };
 }

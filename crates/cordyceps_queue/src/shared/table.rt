@@ -32,8 +32,8 @@ impl<E> TableRule<Option<E>, SeatView<E>, usize> for Rule {
 /// The word `HEAD` leads to the head. The word `RIGHT` leads to the tail, and is 0 while a party has the right to
 /// dequeue. The word `LINKS + r` is the link of room `r`. If it was written in an earlier use of the room, it is null.
 /// The link of a free room leads to the next free room of the party, or of the pool. `uses` says how these words are
-/// spelled. The word `POOL` leads to the pool, or is 0. The other words are not used. Slot `r` has the element of room
-/// `r`, and room 0 is the stub's.
+/// spelled. The word `POOL` leads to the pool, or is 0. The word `BELL` is the bell's (`bell`). The other words are not
+/// used. Slot `r` has the element of room `r`, and room 0 is the stub's.
 pub(crate) type Words<E> = Shared<Option<E>, SeatView<E>, usize, Rule>;
 
 /// The table, which owns its memory.

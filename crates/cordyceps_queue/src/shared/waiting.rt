@@ -3,6 +3,7 @@ ghost use Rattle.std.specs.Arc.{arc_value};
 ghost use Rattle.std.specs.Prelude.{◌≡◌, ◌≢◌, true, false, Err};
 ghost use Rattle.cordyceps_shared.specs.Shares.{whole};
 ghost use Rattle.cordyceps_queue.specs.Shared.Calls.{AtLast, IsSame, MissesDequeue, Dequeues, Consumes, FindsBusy, TakesRight, try_result};
+ghost use Rattle.cordyceps_queue.specs.Shared.Calls.{FindsFull, EnqueuesRefilled, GivesAllBack};
 ghost use Rattle.cordyceps_queue.specs.declared.cores.steps.TryDequeueError.TheVariants as error;
 
 use crate::cores::steps::TryDequeueError;
@@ -24,6 +25,69 @@ fn found_nothing(why: TryDequeueError) -> bool
 }
 
 impl<T: Linked<Links<T>>> MpscQueue<T> {
+    /// Puts an element in, as `try_enqueue` does, and waits while the party has no room and the pool has none.
+    ///
+    /// # Complexity
+    /// O(t), for t tries, each as that of `try_enqueue`.
+    ///
+    /// # Waits
+    /// For another party to give rooms to the pool. It pauses between its tries. If none gives any, it never returns.
+    ///
+    /// # Examples
+    /// From `mailbox::send_values` of `cordyceps_shared_uses`:
+    /// ```
+    /// queue.enqueue_waiting(rt, party, letter(alloc, *value)?);
+    /// queue.ring(party);
+    /// ```
+    pub fn enqueue_waiting<R: Wait>(&self, rt: &R, party: &mut Party<T>, handle: T::Handle)
+        requires { party.old.table ≡ self.now.table }
+        ensures same { IsSame party.old party.new }
+        ensures answer { AtLast FindsFull (EnqueuesRefilled handle) party.old party.new }
+    {
+        let backoff = Backoff::new();
+        let mut handle = handle;
+        for _ in rt.forever() {
+            match self.try_enqueue(party, handle) {
+                Ok(()) => return,
+                Err(back) => handle = back,
+            }
+            backoff.snooze();
+        }
+        unreachable!()
+    }
+
+    /// Gives all rooms of the party to the pool, as `give_all_back` does, until that returns `true`. A party that ends
+    /// calls it before it is absorbed or dropped.
+    ///
+    /// # Complexity
+    /// O(t), for t tries, each as that of `give_all_back`.
+    ///
+    /// # Waits
+    /// While other parties give rooms back at each of its tries. It pauses between its tries. A whole party succeeds at
+    /// its first try.
+    ///
+    /// # Examples
+    /// From `mailbox::send_all` of `cordyceps_shared_uses`:
+    /// ```
+    /// let result = send_values(rt, alloc, queue, &mut party, values);
+    /// queue.give_all_back_waiting(rt, &mut party);
+    /// ```
+    pub fn give_all_back_waiting<R: Wait>(&self, rt: &R, party: &mut Party<T>)
+        requires { party.old.table ≡ self.now.table }
+        ensures same { IsSame party.old party.new }
+        ensures answer { AtLast (GivesAllBack false) (GivesAllBack true) party.old party.new }
+        ensures whole { party.old.share ≡ whole → GivesAllBack true party.old party.new }
+    {
+        let backoff = Backoff::new();
+        for _ in rt.forever() {
+            if self.give_all_back(party) {
+                return;
+            }
+            backoff.snooze();
+        }
+        unreachable!()
+    }
+
     /// Removes the oldest element and returns it, or `None` if the queue had none. The element's room becomes the
     /// party's.
     ///

@@ -1,0 +1,2 @@
+-- Lemmas for users of channels, as the crate below proves them.
+pub use Rattle.cordyceps_channel.proofs.Among
