@@ -9,7 +9,7 @@ use Rattle.cordyceps_shared.specs.Knowing.{IsPrefixOf}
 use Rattle.cordyceps_shared.specs.Shares.{Name}
 use Rattle.cordyceps_queue.specs.History.{Event, comes, came}
 use Rattle.cordyceps_queue.specs.Shared.Calls.{PartyOf}
-use Rattle.cordyceps_channel.specs.Channels.{AreAmong, Sends, Receives, TellsOfMore, IsOver, sent, received}
+use Rattle.cordyceps_channel.specs.Channels.{AreAmong, Sends, Receives, TellsReceiver, IsOver, sent, received}
 use Rattle.cordyceps_channel.proofs.Received.{receives_then, moves_sent}
 
 module _ {E : Type 0} where
@@ -61,16 +61,6 @@ module _ {E : Type 0} where
       subst (λ l. AreAmong (sent u) l) (sym h.1.all) (sent_among u (plain w.seen) (told.0 ++ later.0, all))
   order_kept items (Err e) u v w told h = h
 
-  -- who knows of more elements than it has received finds the channel not over
-  pub not_over : (told : List (Event Name E)) (u v w : PartyOf E) → Receives [] u v → IsPrefixOf told (plain v.seen) → Receives [] v w → TellsOfMore told u → IsOver w → ⊥
-  not_over told u v w first knows second more over =
-      let later = second.seen in
-      let all : plain w.seen ≡ told ++ (knows.0 ++ later.0) = later.1 ∙ (ap (λ l. l ++ later.0) knows.1 ∙ append_assoc told knows.0 later.0) in
-      let in_all : came (plain w.seen) ≡ came told ++ came (knows.0 ++ later.0) = ap came all ∙ flat_map-append comes told (knows.0 ++ later.0) in
-      let none : received w ≡ received u = second.elements ∙ (append-nil (received v) ∙ (first.elements ∙ append-nil (received u))) in
-      let same : received u ≡ came told ++ came (knows.0 ++ later.0) = sym none ∙ (over.all ∙ in_all) in
-      omega (arith, ap length same, length-append (came told) (came (knows.0 ++ later.0)), more)
-
   no_more : (xs ys zs : List E) → Interleaves xs ys zs → length xs ≤ length zs
   no_more xs ys [] h = subst (λ l. length l ≤ 0) (sym h.0) (omega arith)
   no_more xs ys (z ∷ zs) h = ⊎_elim
@@ -78,7 +68,7 @@ module _ {E : Type 0} where
       (λ t. let (rest, is, then) = t in omega (arith, no_more xs rest zs then)) h
 
   -- a sender that sent an element knows of more than a receiver has received that received nothing
-  pub tells_of : (e : E) (u v w : PartyOf E) → Sends e u w → received v ≡ [] → TellsOfMore (plain w.seen) v
+  pub tells_of : (e : E) (u v w : PartyOf E) → Sends e u w → received v ≡ [] → TellsReceiver (plain w.seen) v
   tells_of e u v w m none =
       let mine = own_among w.seen in
       let few : length (sent w) ≤ length (came (plain w.seen)) = no_more (sent w) mine.0 (came (plain w.seen)) mine.1 in

@@ -1,6 +1,7 @@
 -- What the senders and the receiver of a channel promise.
-use Rattle.std.specs.Prelude.{◌≡◌, ◌≢◌, ◌<◌, ◌≤◌, ℕ, zero, suc, List, [], ◌∷◌, ◌++◌, length, map, Bool, true, false}
+use Rattle.std.specs.Prelude.{◌≡◌, ◌≢◌, ◌<◌, ◌≤◌, ◌+◌, ◌/◌, min, ℕ, zero, suc, List, [], ◌∷◌, ◌++◌, length, map, Bool, true, false}
 use Rattle.atomic_table.specs.Seated.{TableId}
+use Rattle.cordyceps_base.specs.declared.shared.TheConstants.{MAX_ROOMS}
 use Rattle.cordyceps_shared.specs.Histories.{plain, own}
 use Rattle.cordyceps_shared.specs.Knowing.{IsPrefixOf}
 use Rattle.cordyceps_shared.specs.Shares.{Name, whole, keeps_half, gives_half}
@@ -27,6 +28,10 @@ abbrev pub last_share : Bool → List Name
 last_share true = whole
 last_share false = gives_half whole
 
+-- how many rooms the queue of a channel with n rooms has: an eighth more, which the receiver may keep
+abbrev pub rooms_under : ℕ → ℕ
+rooms_under n = min (n + n / 8) MAX_ROOMS
+
 module _ {E : Type 0} where
   -- the elements that a party put in, and those that it took out, each in this order
   abbrev pub sent : PartyOf E → List E
@@ -36,8 +41,8 @@ module _ {E : Type 0} where
   received u = went (own u.seen)
 
   -- a history tells of more elements that came in than a party has received
-  abbrev pub TellsOfMore : List (Event Name E) → PartyOf E → Type 0
-  TellsOfMore told w = length (received w) < length (came told)
+  abbrev pub TellsReceiver : List (Event Name E) → PartyOf E → Type 0
+  TellsReceiver told w = length (received w) < length (came told)
 
   -- from u to w the sender sent e, and nothing else; it sent nothing
   abbrev pub Sends : E → PartyOf E → PartyOf E → Type 0
@@ -92,7 +97,7 @@ module _ {E : Type 0} where
   -- the first sender u and the receiver w of a new channel with n rooms
   pub record IsChannel (n : ℕ) (u w : PartyOf E) : Type 0 where
     pub table : w.table ≡ u.table
-    pub rooms : capacity u.table ≡ n
+    pub rooms : capacity u.table ≡ rooms_under n
     pub unsent : sent u ≡ []
     pub none : received w ≡ []
 

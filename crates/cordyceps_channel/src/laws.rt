@@ -1,6 +1,6 @@
 //! Calls of a channel in a row, whose contracts are laws.
 ghost use Rattle.std.specs.Prelude.{◌≡◌, [], ◌∷◌, IfOk};
-ghost use Rattle.cordyceps_channel.specs.Channels.{IsOver, Receives, AreAmong, TellsOfMore, sent, received};
+ghost use Rattle.cordyceps_channel.specs.Channels.{IsOver, Receives, AreAmong, TellsReceiver, sent, received};
 
 use crate::errors::Disconnected;
 use crate::receiver::Receiver;
@@ -79,7 +79,7 @@ pub fn recv_told<T: Linked<Links<T>>, W: Wake + Drop, R: Wait>(
     receipt: Receipt<T>,
 ) -> T::Handle
     requires table { receipt.table ≡ receiver.old.table }
-    requires more { TellsOfMore receipt.told receiver.old }
+    requires more { TellsReceiver receipt.told receiver.old }
     ensures { Receives (result ∷ []) receiver.old receiver.new }
 {
     receiver.learn(receipt);

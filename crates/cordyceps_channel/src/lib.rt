@@ -9,13 +9,14 @@
 //!
 //! `pair` creates a channel, `sender` and `receiver` have its two sides, with `batches` and `deadline`, `select` has the
 //! receivers of several channels, and `errors` what they return where nothing goes through. `laws` has calls in a row.
-//! `register` has the parties of senders that ended, `place` the place in which each is left, `taker` the receiver's
-//! party, `bell` what threads sleep on, `wake` what wakes an event loop, and `shared` what both sides share.
+//! `register` keeps the parties of senders that ended, `place` is where a sender leaves its party, `taker` has the
+//! receiver's party, `bell` what threads sleep on, `wake` what wakes an event loop, and `shared` what both sides share.
 //!
 //! Proved: each element that a sender sends is put in once, or comes back; the receiver receives elements in the order
 //! in which they came in; where it gets `Disconnected`, all senders have ended, and it has received each element that
-//! was ever sent; and what a sender sent whose receipt it learned is among these, in that sender's order. Only tested:
-//! that a call that waits returns when it should, and that drops leave no element.
+//! was ever sent; and if it learned the last receipt of a sender, the elements of this sender are among these, in the
+//! order in which they were sent. Only tested: that a call that waits returns when it should, and that drops leave no
+//! element.
 //!
 //! A room takes 24 bytes, with handles of one word, and each sender has a place, a table of one word and one slot.
 //! `try_send` is an enqueue and two loads, and where the sender has no room it takes some of the pool; `try_recv` is a

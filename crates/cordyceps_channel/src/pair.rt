@@ -1,6 +1,6 @@
 //! How a channel is created: the queue, the register of its senders' parties, and its two sides.
-ghost use Rattle.std.specs.Prelude.{◌≤◌, IfOk};
-ghost use Rattle.cordyceps_channel.specs.Channels.{IsChannel, AreParties};
+ghost use Rattle.std.specs.Prelude.{◌≡◌, ◌≤◌, IfOk};
+ghost use Rattle.cordyceps_channel.specs.Channels.{IsChannel, AreParties, rooms_under};
 
 use crate::bell::Bell;
 use crate::place::Place;
@@ -47,8 +47,9 @@ fn make_parts<T: Linked<Links<T>>>(alloc: Global, rooms: usize) -> Result<Parts<
 /// Creates a channel with `rooms` rooms, and returns its first sender and its receiver. Requires that `rooms` is at
 /// most `MAX_ROOMS`.
 ///
-/// As many elements can wait to be received as the channel has rooms. A sender takes up to one in 256 rooms at a time,
-/// and keeps them until it has used them or ends. A channel without rooms takes no element.
+/// As many elements can wait to be received as the channel has rooms, and up to an eighth more: the queue has as many
+/// rooms more, which the receiver may keep until a try finds no element. A sender takes up to one in 256 rooms at a
+/// time, and keeps them until it has used them or ends. A channel without rooms takes no element.
 ///
 /// # Errors
 /// If memory is refused, it returns `AllocError`, and nothing is kept.
@@ -86,6 +87,15 @@ pub fn channel_with_waker<T: Linked<Links<T>>, W: Wake + Drop>(
     channel_at(bell, alloc, rooms)
 }
 
+/// Returns how many rooms the queue of a channel with this many rooms has.
+fn rooms_of_queue(rooms: usize) -> usize
+    requires { rooms ≤ MAX_ROOMS }
+    ensures more { result ≡ rooms_under rooms }
+    ensures few { result ≤ MAX_ROOMS }
+{
+    (rooms + rooms / 8).min(MAX_ROOMS)
+}
+
 /// Creates a channel whose receiver listens to this bell.
 pub(crate) fn channel_at<T: Linked<Links<T>>, W: Wake + Drop>(
     bell: Arc<Bell<W>, Global>,
@@ -95,11 +105,12 @@ pub(crate) fn channel_at<T: Linked<Links<T>>, W: Wake + Drop>(
     requires { rooms ≤ MAX_ROOMS }
     ensures { IfOk result (λ ends. IsChannel rooms ends.0 ends.1) }
 {
+    let total = rooms_of_queue(rooms);
     let Parts {
         queue,
         party,
         receivers,
-    } = make_parts(alloc, rooms)?;
+    } = make_parts(alloc, total)?;
     let key = Snapshot::of(&party);
     let mut place = Place::new(alloc, &key)?;
     let mut register = Register {
@@ -111,7 +122,10 @@ pub(crate) fn channel_at<T: Linked<Links<T>>, W: Wake + Drop>(
     let senders_place = place.another()?;
     let queue = Arc::new(alloc, queue)?;
     let taker = Taker::new(Arc::try_clone(&queue)?, receivers);
-    let shared = Arc::new(alloc, Shared::new(queue, bell, alloc, rooms))?;
+    let shared = Arc::new(
+        alloc,
+        Shared::new(queue, bell, alloc, rooms, total.saturating_sub(rooms)),
+    )?;
     let senders_shared = Arc::try_clone(&shared)?;
     Ok((
         Sender::of(senders_shared, senders_place, opened),

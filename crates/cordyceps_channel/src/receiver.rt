@@ -95,7 +95,7 @@ impl<T: Linked<Links<T>>, W: Wake + Drop> Receiver<T, W> {
         }
     }
 
-    /// Frees a batch of rooms, if the receiver has one and the pool has no room.
+    /// Frees all rooms that the receiver has, if they are at least a batch.
     pub(crate) fn free_batch(&mut self)
         ensures { Stays self.old self.new }
     {

@@ -38,17 +38,19 @@ pub(crate) struct Shared<T: Linked<Links<T>>, W: Wake + Drop> {
     pub freed: Bell<NoWake>,
     /// How many rooms a sender takes at a time.
     pub quantum: usize,
-    /// With how many rooms the receiver frees them.
+    /// With how many rooms the receiver frees them, even if more elements are there.
     pub batch: usize,
 }
 
 impl<T: Linked<Links<T>>, W: Wake + Drop> Shared<T, W> {
-    /// Creates what is shared by a channel over this queue, of so many rooms, whose receiver listens to this bell.
+    /// Creates what is shared by a channel over this queue, of so many rooms, whose receiver listens to this bell, and
+    /// may keep so many rooms.
     pub fn new(
         queue: Arc<MpscQueue<T>, Global>,
         sent: Arc<Bell<W>, Global>,
         alloc: Global,
         rooms: usize,
+        kept: usize,
     ) -> Shared<T, W>
         ensures { result.queue ≡ queue }
     {
@@ -60,7 +62,7 @@ impl<T: Linked<Links<T>>, W: Wake + Drop> Shared<T, W> {
             sent,
             freed: Bell::new(NoWake),
             quantum: (rooms / SENDERS).clamp(1, MAX_QUANTUM),
-            batch: (rooms / 4).max(1),
+            batch: kept.saturating_add(1),
         }
     }
 }

@@ -124,8 +124,8 @@ impl<T: Linked<Links<T>>> Taker<T> {
         }
     }
 
-    /// Gives the party's rooms to the pool, if they are at least this many and the pool has none, and returns whether
-    /// it gave them.
+    /// Gives all of the party's rooms to the pool, if they are at least this many, and returns whether it gave them. It
+    /// keeps the right to dequeue if the pool has no room.
     pub fn give_back(&mut self, at_least: usize) -> bool
         ensures { Stays self.old.party self.new.party }
     {
@@ -133,7 +133,13 @@ impl<T: Linked<Links<T>>> Taker<T> {
             return false;
         };
         let rooms = consumer.rooms();
-        rooms >= at_least && consumer.give_back(rooms)
+        if rooms < at_least {
+            return false;
+        }
+        if consumer.give_back(rooms) {
+            return true;
+        }
+        self.give_all()
     }
 
     /// Gives the right back, and all rooms to the pool, and returns whether the party had rooms.

@@ -3,8 +3,10 @@
 use crate::calls::{Call, Reply, Sides, each_replies, element};
 use crate::compared::{at_most, made, same};
 use cordyceps_base::shared::MAX_ROOMS;
-use cordyceps_channel::channel;
 use cordyceps_channel::laws::{close_and_receive, recv_told};
+use cordyceps_channel::{Receiver, Sender, channel};
+use std::alloc::Global;
+use std::process::Abort;
 use test_support::counted::{Counted, Drops};
 
 /// A call, and what it has to reply.
@@ -173,21 +175,26 @@ fn senders_come_and_go_a_thousand_times(rt: HostRuntime) {
     sides.replies(&rt, rt.alloc(), &ends);
 }
 
-// A sender takes up to one in 256 rooms at a time, and at most 64, and leaves all others.
+// A sender takes up to one in 256 rooms at a time, and at most 64, and leaves all others. The queue has an eighth more.
 #[test]
 fn a_sender_leaves_most_rooms_to_others(rt: HostRuntime) {
-    for (rooms, taken) in [(2u64, 1u64), (511, 1), (512, 2), (32_768, 64)] {
+    for (rooms, all, taken) in [
+        (2usize, 2u64, 1u64),
+        (511, 574, 1),
+        (512, 576, 2),
+        (32_768, 36_864, 64),
+    ] {
         let lines = [
             (Call::TrySend(0, 1), Reply::Done),
             (Call::Clone(0, 1), Reply::Done),
-            (Call::Fill(1), Reply::Count(rooms.wrapping_sub(taken))),
+            (Call::Fill(1), Reply::Count(all.wrapping_sub(taken))),
             (Call::Fill(0), Reply::Count(taken.wrapping_sub(1))),
-            (Call::Drain, Reply::Count(rooms)),
+            (Call::Drain, Reply::Count(all)),
             (Call::TrySend(0, 2), Reply::Done),
             (Call::EndSender(0), Reply::Done),
-            (Call::Fill(1), Reply::Count(rooms.wrapping_sub(1))),
+            (Call::Fill(1), Reply::Count(all.wrapping_sub(1))),
         ];
-        each_replies(&rt, rt.alloc(), &[(rooms as usize, &lines[..])]);
+        each_replies(&rt, rt.alloc(), &[(rooms, &lines[..])]);
     }
 }
 
@@ -277,4 +284,47 @@ fn a_receiver_that_is_told_receives(rt: HostRuntime) {
         (receiver.try_recv().is_err(), drops.count()),
         (true, 1),
     );
+}
+
+/// Sends this many elements, none of which may come back, and receives them, without a try that finds none.
+fn send_and_receive(
+    rt: &impl Abort,
+    alloc: Global,
+    sender: &mut Sender<Counted>,
+    receiver: &mut Receiver<Counted>,
+    count: u64,
+    drops: &Drops,
+) {
+    for number in 0..count {
+        let Ok(()) = sender.try_send(element(rt, alloc, number, drops)) else {
+            panic!(rt; "no room is free");
+        };
+    }
+    for number in 0..count {
+        let Ok(element) = receiver.try_recv() else {
+            panic!(rt; "no element is there");
+        };
+        same(rt, element.id(), number);
+    }
+}
+
+// As many elements as the channel has rooms can wait, whatever rooms the receiver keeps.
+#[test]
+fn as_many_elements_wait_as_there_are_rooms(rt: HostRuntime) {
+    for rooms in [1usize, 7, 8, 64, 1024] {
+        let drops = made(&rt, Drops::new(rt.alloc()));
+        at_most(&rt, rooms, MAX_ROOMS);
+        let (mut sender, mut receiver) = made(&rt, channel::<Counted>(rt.alloc(), rooms));
+        for _ in 0..20 {
+            send_and_receive(
+                &rt,
+                rt.alloc(),
+                &mut sender,
+                &mut receiver,
+                rooms as u64,
+                &drops,
+            );
+        }
+        same(&rt, drops.count(), 20 * rooms as u64);
+    }
 }

@@ -16,7 +16,7 @@ returns g c =
     let receiver : c.of-2.result.table ≡ z = ap (λ v. v.table) is ∙ a.table in
     record {
       table = receiver ∙ sym sender;
-      rooms = ap capacity sender ∙ a.rooms;
+      rooms = ap capacity sender ∙ (a.rooms ∙ c.rooms_of_queue-total.ensures.more);
       unsent = ap (λ v. sent v) c.of.ensures ∙ o.unsent;
       none = ap (λ v. went (own v.seen)) is ∙ ap (λ l. went (own l)) a.unseen;
     }
