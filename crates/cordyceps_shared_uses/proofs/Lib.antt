@@ -2,6 +2,7 @@ mod Accounting
 mod Apart
 mod Arranging
 mod Deadlines
+mod Journaling
 mod Scheduling
 mod Sleeping
 mod Working

@@ -1,4 +1,5 @@
 pub mod Accounts
+pub mod Journal
 pub mod Logger
 pub mod Mailbox
 pub mod Names

@@ -3,6 +3,7 @@
 #![tactic(auto)]
 
 mod idle;
+pub mod journal;
 pub mod logger;
 pub mod mailbox;
 pub mod pool;

@@ -66,48 +66,6 @@ impl<L: Kind> Linked<L> for Producer {
     }
 }
 
-/// Sends a record, and wakes the thread that stores. While no room is free, it yields to other threads and tries again.
-fn send<R: Wait>(
-    rt: &R,
-    queue: &MpscQueue<Record>,
-    storer: &Unparker,
-    party: &mut Party<Record>,
-    handle: Node<Record, Links<Record>>,
-)
-    requires { party.old.table ≡ queue.now.table }
-    ensures { Moves record_of (record_of handle ∷ []) [] party.old party.new }
-{
-    let mut handle = handle;
-    for _ in rt.forever() {
-        let sent = queue.try_enqueue(party, handle);
-        // The thread that stores is woken whether or not the queue accepted the record. A superfluous wake-up does no
-        // harm.
-        storer.unpark();
-        match sent {
-            Ok(()) => return,
-            Err(back) => handle = back,
-        }
-        thread::yield_now();
-    }
-    unreachable!()
-}
-
-/// Gives all rooms of a party to the pool, together with those that other parties gave to it meanwhile.
-fn give_all_back<R: Wait>(rt: &R, queue: &MpscQueue<Record>, party: &mut Party<Record>)
-    requires { party.old.table ≡ queue.now.table }
-    ensures moves { Moves record_of [] [] party.old party.new }
-    ensures gives { party.new.rooms ≡ 0 }
-{
-    for _ in rt.forever() {
-        let rooms = party.rooms();
-        if queue.give_back(party, rooms) {
-            return;
-        }
-        queue.refill(party);
-    }
-    unreachable!()
-}
-
 /// Sends all records of a list, in order, and then gives the rooms that the party has left to the pool.
 fn send_all<R: Wait>(
     rt: &R,
@@ -120,9 +78,10 @@ fn send_all<R: Wait>(
     ensures { Moves record_of (map record_of records) [] party result }
 {
     while let Some(record) = records.pop_front() {
-        send(rt, queue, storer, &mut party, record.into_kind());
+        queue.enqueue_waiting(rt, &mut party, record.into_kind());
+        storer.unpark();
     }
-    give_all_back(rt, queue, &mut party);
+    queue.give_all_back_waiting(rt, &mut party);
     party
 }
 

@@ -7,10 +7,8 @@ ghost use Rattle.cordyceps.specs.Queues.Moves.{Moves};
 ghost use Rattle.cordyceps.specs.Queues.Sending.{Sends};
 ghost use Rattle.cordyceps_shared_uses.specs.Mailbox.{contents, value_of};
 
-use crate::idle::{make_parker, pause};
-use cordyceps::mpsc_queue::{Batch, Links, MAX_ROOMS, Party};
+use cordyceps::mpsc_queue::{Batch, Links, MAX_ROOMS, Party, TryDequeueError};
 use cordyceps::{Linked, MpscQueue, Node, Refused};
-use crossbeam_utils::sync::{Parker, Unparker};
 use std::alloc::{AllocError, Global};
 use std::snapshot::Snapshot;
 use std::sync::Wait;
@@ -53,53 +51,11 @@ fn letter(alloc: Global, value: u64) -> Result<Letter, AllocError>
     }
 }
 
-/// Sends a letter, and wakes the receiver. While no room is free, it yields to other threads and tries again.
-fn send<R: Wait>(
-    rt: &R,
-    queue: &MpscQueue<Message>,
-    receiver: &Unparker,
-    party: &mut Party<Message>,
-    letter: Letter,
-)
-    requires { party.old.table ≡ queue.now.table }
-    ensures { Moves value_of (letter.value.value ∷ []) [] party.old party.new }
-{
-    let mut letter = letter;
-    for _ in rt.forever() {
-        let sent = queue.try_enqueue(party, letter);
-        // The receiver is woken whether or not the queue accepted the letter. A superfluous wake-up does no harm.
-        receiver.unpark();
-        match sent {
-            Ok(()) => return,
-            Err(back) => letter = back,
-        }
-        thread::yield_now();
-    }
-    unreachable!()
-}
-
-/// Gives all rooms of a party to the pool, together with those that other parties gave to it meanwhile.
-fn give_all_back<R: Wait>(rt: &R, queue: &MpscQueue<Message>, party: &mut Party<Message>)
-    requires { party.old.table ≡ queue.now.table }
-    ensures moves { Moves value_of [] [] party.old party.new }
-    ensures gives { party.new.rooms ≡ 0 }
-{
-    for _ in rt.forever() {
-        let rooms = party.rooms();
-        if queue.give_back(party, rooms) {
-            return;
-        }
-        queue.refill(party);
-    }
-    unreachable!()
-}
-
 /// Sends the values of a list, in order. Allocates one node for each. If memory is refused, it sends no more.
 fn send_values<R: Wait>(
     rt: &R,
     alloc: Global,
     queue: &MpscQueue<Message>,
-    receiver: &Unparker,
     party: &mut Party<Message>,
     values: &[u64],
 ) -> Result<(), AllocError>
@@ -108,9 +64,17 @@ fn send_values<R: Wait>(
     ensures sent { IfOk result (λ _. Moves value_of values.now [] party.old party.new) }
 {
     for value in values {
-        send(rt, queue, receiver, party, letter(alloc, *value)?);
+        queue.enqueue_waiting(rt, party, letter(alloc, *value)?);
+        queue.ring(party);
     }
     Ok(())
+}
+
+/// What a sender returns: its party, and `AllocError` if memory was refused.
+#[derive(Drop)]
+struct Sent {
+    party: Party<Message>,
+    result: Result<(), AllocError>,
 }
 
 /// Sends the values of a list, in order, and then gives the rooms that the party has left to the pool, also if memory
@@ -119,17 +83,16 @@ fn send_all<R: Wait>(
     rt: &R,
     alloc: Global,
     queue: &MpscQueue<Message>,
-    receiver: &Unparker,
     mut party: Party<Message>,
     values: &[u64],
-) -> Result<Party<Message>, AllocError>
+) -> Sent
     requires { party.table ≡ queue.now.table }
-    ensures { IfOk result (λ back. Moves value_of values.now [] party back) }
+    ensures table { result.party.table ≡ queue.now.table }
+    ensures sent { IfOk result.result (λ _. Moves value_of values.now [] party result.party) }
 {
-    let sent = send_values(rt, alloc, queue, receiver, &mut party, values);
-    give_all_back(rt, queue, &mut party);
-    sent?;
-    Ok(party)
+    let result = send_values(rt, alloc, queue, &mut party, values);
+    queue.give_all_back_waiting(rt, &mut party);
+    Sent { party, result }
 }
 
 /// Sends each list on a thread of its own.
@@ -137,31 +100,48 @@ fn send_each<R: Threads + Wait + Sync>(
     rt: &R,
     alloc: Global,
     queue: &MpscQueue<Message>,
-    receiver: &Unparker,
     mut party: Party<Message>,
     lists: &[Vec<u64>],
-) -> Result<Party<Message>, AllocError>
+) -> Sent
     requires { (party.table ≡ queue.now.table) × IsShare party.share }
-    ensures { IfOk result (λ back. Sends value_of (contents lists.now) party back) }
+    ensures table { result.party.table ≡ queue.now.table }
+    ensures sent { IfOk result.result (λ _. Sends value_of (contents lists.now) party result.party) }
 {
     let Some((first, rest)) = lists.split_first() else {
-        return Ok(party);
+        return Sent {
+            party,
+            result: Ok(()),
+        };
     };
     let mine = queue.split(&mut party, 0);
     let (sent, others) = thread::join(
         rt,
-        || -> Result<Party<Message>, AllocError>
+        || -> Sent
             requires { IsSync R.row × (mine.table ≡ queue.now.table) }
-            ensures { IfOk result (λ back. Moves value_of first.entry.now.items [] mine back) }
-        { send_all(rt, alloc, queue, receiver, mine, first.as_slice()) },
-        || -> Result<Party<Message>, AllocError>
+            ensures table { result.party.table ≡ queue.entry.now.table }
+            ensures sent { IfOk result.result (λ _. Moves value_of first.entry.now.items [] mine result.party) }
+        { send_all(rt, alloc, queue, mine, first.as_slice()) },
+        || -> Sent
             requires { IsSync R.row × (party.table ≡ queue.now.table) × IsShare party.share }
-            ensures { IfOk result (λ back. Sends value_of (contents rest.entry.now) party back) }
-        { send_each(rt, alloc, queue, receiver, party, rest) },
+            ensures table { result.party.table ≡ queue.entry.now.table }
+            ensures sent { IfOk result.result (λ _. Sends value_of (contents rest.entry.now) party result.party) }
+        { send_each(rt, alloc, queue, party, rest) },
     );
-    let mut back = others?;
-    queue.absorb(&mut back, sent?);
-    Ok(back)
+    let Sent {
+        party: mut back,
+        result,
+    } = others;
+    queue.absorb(&mut back, sent.party);
+    match sent.result {
+        Ok(()) => Sent {
+            party: back,
+            result,
+        },
+        Err(refused) => Sent {
+            party: back,
+            result: Err(refused),
+        },
+    }
 }
 
 /// Appends a message to those that were received and returns them. If memory is refused or was refused before, it
@@ -206,20 +186,22 @@ impl Promise<Inbox> for Receives {
 }
 
 /// Receives messages until all senders have ended and no message is left. It gives the room of each message to the pool
-/// at once, and sleeps while the queue is empty. If memory is refused, it goes on, and drops what it receives, so that
-/// no sender waits for a room for good.
+/// at once. If memory is refused, it goes on, and drops what it receives, so that no sender waits for a room for good.
+///
+/// While the queue is empty it sleeps, if it was empty also after the bell was cleared. So a sender whose message it
+/// missed has yet to ring the bell, by the law `sleeper_is_owed` of `cordyceps_queue`.
 fn receive<R: Wait>(
     rt: &R,
     alloc: Global,
     queue: &MpscQueue<Message>,
     mut party: Party<Message>,
-    parker: Parker,
     have_ended: &AtomicBool,
 ) -> Inbox
     requires { party.table ≡ queue.now.table }
     ensures { IfSome result.received (λ all. Moves value_of [] all.items party result.party) }
 {
     let mut received = Some(Vec::new(alloc));
+    let mut is_cleared = false;
     for _ in rt.forever() {
         // The flag is read before the try. If all senders have ended by now, no message comes after those that the
         // tries find from here on.
@@ -234,11 +216,33 @@ fn receive<R: Wait>(
                 if is_end {
                     return Inbox { party, received };
                 }
-                pause(rt, &parker, why);
+                pause(rt, queue, &mut party, is_cleared, why);
+                is_cleared = !is_cleared;
             }
         }
     }
     unreachable!()
+}
+
+/// Clears the bell, or, if it was cleared before the last try, sleeps until a sender rings it. Yields to other threads
+/// instead if that try did not find the queue empty.
+fn pause<R: Wait>(
+    rt: &R,
+    queue: &MpscQueue<Message>,
+    party: &mut Party<Message>,
+    is_cleared: bool,
+    why: TryDequeueError,
+)
+    requires { party.old.table ≡ queue.now.table }
+    ensures { Moves value_of [] [] party.old party.new }
+{
+    if !is_cleared {
+        queue.clear_bell(party);
+    } else if let TryDequeueError::Empty = why {
+        queue.sleep(rt, party);
+    } else {
+        thread::yield_now();
+    }
 }
 
 /// Starts a thread of a scope that receives. If it cannot be started, it returns `AllocError`.
@@ -248,7 +252,6 @@ fn start_receiving<'s, E, R: Wait + Sync>(
     alloc: Global,
     queue: &'s MpscQueue<Message>,
     receiver: Party<Message>,
-    parker: Parker,
     have_ended: &'s AtomicBool,
 ) -> Result<PromisedHandle<Inbox, Receives>, AllocError>
     requires { receiver.table ≡ queue.now.table }
@@ -260,7 +263,7 @@ fn start_receiving<'s, E, R: Wait + Sync>(
     let receive_on = move || -> Inbox
         requires { IsSync R.row × (receiver.table ≡ queue.now.table) }
         ensures { IfSome result.received (λ all. Moves value_of [] all.items receiver result.party) }
-    { receive(rt, alloc, queue, receiver, parker, have_ended) };
+    { receive(rt, alloc, queue, receiver, have_ended) };
     Ok(scope.spawn_with(promise, receive_on)?)
 }
 
@@ -280,7 +283,6 @@ fn exchange<R: Threads + Wait + Sync>(
         IfSome both.0.received (λ all. Moves value_of [] all.items receiver both.0.party)) }
     ensures sent { IfOk result (λ both. Sends value_of (contents lists.now) sender both.1) }
 {
-    let (parker, wake) = make_parker(alloc)?;
     let flag = AtomicBool::new(false);
     let have_ended = &flag;
     thread::scope(
@@ -293,12 +295,13 @@ fn exchange<R: Threads + Wait + Sync>(
                 IfSome both.0.received (λ all. Moves value_of [] all.items receiver both.0.party)) }
             ensures sent { IfOk result (λ both. Sends value_of (contents lists.entry.now) sender both.1) }
         {
-            let inbox = start_receiving(scope, rt, alloc, queue, receiver, parker, have_ended)?;
-            let sent = send_each(rt, alloc, queue, &wake, sender, lists);
+            let inbox = start_receiving(scope, rt, alloc, queue, receiver, have_ended)?;
+            let Sent { mut party, result } = send_each(rt, alloc, queue, sender, lists);
             have_ended.store(true, Ordering::SeqCst);
-            wake.unpark();
+            queue.ring(&mut party);
             let inbox = inbox.join(rt);
-            Ok((inbox, sent?))
+            result?;
+            Ok((inbox, party))
         },
     )
 }
@@ -316,8 +319,7 @@ pub struct Delivered {
 ///
 /// The queue has `rooms` rooms, which bound the number of messages that wait to be received. The room of a message that
 /// was received is used again, so the number of messages has no bound. Requires that `rooms` is at least 1 and at most
-/// `MAX_ROOMS`. Allocates the queue, what the receiver sleeps on, a node for each message, and the vector of the
-/// messages.
+/// `MAX_ROOMS`. Allocates the queue, a node for each message, and the vector of the messages.
 ///
 /// # Errors
 /// If memory is refused, or no thread can be started to receive, it returns `AllocError`, and all messages are dropped.

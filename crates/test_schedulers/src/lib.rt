@@ -6,6 +6,8 @@ mod compared;
 #[cfg(test)]
 mod disks;
 #[cfg(test)]
+mod journals;
+#[cfg(test)]
 mod logs;
 #[cfg(test)]
 mod made;

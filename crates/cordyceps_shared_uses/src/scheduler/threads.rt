@@ -32,7 +32,6 @@ use crossbeam_utils::sync::{Parker, Unparker};
 use std::marker::PhantomData;
 use std::sync::atomic::{AtomicBool, AtomicU64, Ordering};
 use std::sync::{Mutex, Wait};
-use std::thread;
 
 /// What wakes each thread. A thread that is awake does not sleep the next time that it is about to.
 #[derive(Drop)]
@@ -121,7 +120,7 @@ pub struct Worked<L: Run> {
     ghost finished: { all_done done ≡ true },
 }
 
-/// Sends a task to the dispatcher and wakes it. While no room is free, it yields to other threads and tries again.
+/// Sends a task to the dispatcher, and wakes it. While no room is free, it waits.
 fn send<L: Run, R: Wait>(
     rt: &R,
     queue: &MpscQueue<Task>,
@@ -132,17 +131,8 @@ fn send<L: Run, R: Wait>(
     requires { party.old.table ≡ queue.now.table }
     ensures { Sent (name_of task ∷ []) party.old party.new }
 {
-    let mut handle = task.into_kind();
-    for _ in rt.forever() {
-        let sent = queue.try_enqueue(party, handle);
-        shared.alarms.dispatcher.unpark();
-        match sent {
-            Ok(()) => return,
-            Err(back) => handle = back,
-        }
-        thread::yield_now();
-    }
-    unreachable!()
+    queue.enqueue_waiting(rt, party, task.into_kind());
+    shared.alarms.dispatcher.unpark();
 }
 
 /// Sends new tasks to the dispatcher, in order. Allocates nothing.

@@ -1,0 +1,132 @@
+-- What the writer of a journal receives, and what a sink writes of it.
+use Rattle.std.proofs.Common.{◌≡◌, ℕ, ◌+◌, ◌<◌, ◌^◌, List, [], ◌∷◌, ◌++◌, length, map, refl, sym, ap, ◌∙◌, subst, append_assoc, inl, inr, arith}
+use Rattle.std.proofs.lemmas.List.{append-nil, length-append}
+use Rattle.cordyceps.specs.Channels.Channels.{Receives, AreAmong, sent, received}
+use Rattle.cordyceps.specs.Elements.Element.{Element}
+use Rattle.cordyceps.specs.Parties.Histories.{plain}
+use Rattle.cordyceps.specs.Parties.Interleaving.{Interleaves}
+use Rattle.cordyceps.specs.Parties.Knowing.{IsPrefixOf}
+use Rattle.cordyceps.specs.Queues.Calls.{PartyOf}
+use Rattle.cordyceps.proofs.Parties.Interleaving.{all_left, all_right, only_left, interleaves_append}
+use Rattle.cordyceps.proofs.Channels.Among.{sent_among}
+use Rattle.cordyceps_shared_uses.specs.Journal.{Runs, Writes, counted}
+use Rattle.cordyceps_shared_uses.specs.Logger.{record_of}
+use Rattle.cordyceps_shared_uses.specs.declared.journal.Report.{Report}
+use Rattle.cordyceps_shared_uses.specs.declared.logger.Record.{Record}
+
+module _ {E : Type 0} where
+  -- ---- what a writer receives
+  pub receives_none : (u : PartyOf E) → Receives [] u u
+  receives_none u = record { table = refl; elements = sym (append-nil (received u)); seen = ([], sym (append-nil (plain u.seen))) }
+
+  pub receives_then : (u v w : PartyOf E) (xs ys : List E) → Receives xs u v → Receives ys v w → Receives (xs ++ ys) u w
+  receives_then u v w xs ys a b = record {
+    table = b.table ∙ a.table;
+    elements = b.elements ∙ (ap (λ l. l ++ ys) a.elements ∙ append_assoc (received u) xs ys);
+    seen = (a.seen.0 ++ b.seen.0, b.seen.1 ∙ (ap (λ l. l ++ b.seen.0) a.seen.1 ∙ append_assoc (plain u.seen) a.seen.0 b.seen.0));
+  }
+
+-- ---- what a sink writes
+counted_then : (a b c m n : ℕ) → b ≡ counted a m → c ≡ counted b n → c ≡ counted a (m + n)
+counted_then a b c m n first second = omega (arith, first, second)
+
+pub writes_none : (before : List Record) (u : Report) → u.written < 2 ^ 64 → u.dropped < 2 ^ 64 → Writes [] before before u u
+writes_none before u few fewer = record {
+  kept = [];
+  refused = [];
+  order = (refl, refl);
+  written = sym (append-nil before);
+  counts_written = omega (arith, few);
+  counts_dropped = omega (arith, fewer);
+}
+
+pub writes_then : (xs ys before now after : List Record) (u v w : Report) → Writes xs before now u v → Writes ys now after v w → Writes (xs ++ ys) before after u w
+writes_then xs ys before now after u v w a b = record {
+  kept = a.kept ++ b.kept;
+  refused = a.refused ++ b.refused;
+  order = interleaves_append a.kept a.refused xs b.kept b.refused ys a.order b.order;
+  written = b.written ∙ (ap (λ l. l ++ b.kept) a.written ∙ append_assoc before a.kept b.kept);
+  counts_written = counted_then u.written v.written w.written (length a.kept) (length b.kept) a.counts_written b.counts_written
+      ∙ ap (counted u.written) (sym (length-append a.kept b.kept));
+  counts_dropped = counted_then u.dropped v.dropped w.dropped (length a.refused) (length b.refused) a.counts_dropped b.counts_dropped
+      ∙ ap (counted u.dropped) (sym (length-append a.refused b.refused));
+}
+
+pub writes_kept : (r : Record) (now after : List Record) (u w : Report) → after ≡ now ++ r ∷ [] → w.written ≡ counted u.written 1 → w.dropped ≡ u.dropped → u.dropped < 2 ^ 64
+    → Writes (r ∷ []) now after u w
+writes_kept r now after u w is count same few = record {
+  kept = r ∷ [];
+  refused = [];
+  order = all_left (r ∷ []);
+  written = is;
+  counts_written = count;
+  counts_dropped = omega (arith, same, few);
+}
+
+pub writes_refused : (r : Record) (now after : List Record) (u w : Report) → after ≡ now → w.written ≡ u.written → w.dropped ≡ counted u.dropped 1 → u.written < 2 ^ 64
+    → Writes (r ∷ []) now after u w
+writes_refused r now after u w is same count few = record {
+  kept = [];
+  refused = r ∷ [];
+  order = all_right (r ∷ []);
+  written = is ∙ sym (append-nil now);
+  counts_written = omega (arith, same, few);
+  counts_dropped = count;
+}
+
+-- a flush, after which another report has the same counts
+pub writes_flushed : (rs before now after : List Record) (u v w : Report) → Writes rs before now u v → after ≡ now → w.written ≡ v.written → w.dropped ≡ v.dropped → Writes rs before after u w
+writes_flushed rs before now after u v w a same written dropped = record {
+  kept = a.kept;
+  refused = a.refused;
+  order = a.order;
+  written = same ∙ a.written;
+  counts_written = written ∙ a.counts_written;
+  counts_dropped = dropped ∙ a.counts_dropped;
+}
+
+-- ---- what a handle sent is written in its order
+module _ {A B : Type 0} where
+  interleaves_map : (f : A → B) (xs ys zs : List A) → Interleaves xs ys zs → Interleaves (map f xs) (map f ys) (map f zs)
+  interleaves_map f xs ys [] h = (ap (map f) h.0, ap (map f) h.1)
+  interleaves_map f xs ys (z ∷ zs) (inl h) = inl (map f h.0, ap (map f) h.1, interleaves_map f h.0 ys zs h.2)
+  interleaves_map f xs ys (z ∷ zs) (inr h) = inr (map f h.0, ap (map f) h.1, interleaves_map f xs h.0 zs h.2)
+
+-- who has learned all that a handle had seen has received what it sent
+pub in_order : (before after : List Record) (report : Report) (u v w : PartyOf (Element Record)) → IsPrefixOf (plain u.seen) (plain v.seen) → Runs before after report v w → AreAmong (sent u) (received w)
+in_order before after report u v w told runs =
+    let later = runs.receives.seen in
+    let all = later.1 ∙ (ap (λ l. l ++ later.0) told.1 ∙ append_assoc (plain u.seen) told.0 later.0) in
+    subst (λ l. AreAmong (sent u) l) (sym runs.over.all) (sent_among u (plain w.seen) (told.0 ++ later.0, all))
+
+none_left : (xs : List Record) → length xs ≡ 0 → xs ≡ []
+none_left [] e = refl
+none_left (x ∷ xs) e = absurd (omega (arith, e))
+
+-- a sink that refused nothing wrote all
+all_written : (rs before after : List Record) (u w : Report) → Writes rs before after u w → u.dropped ≡ 0 → w.dropped ≡ 0 → after ≡ before ++ rs
+all_written rs before after u w a none still =
+    let count = a.counts_dropped in
+    let few : length a.refused ≡ 0 = omega (arith, count, none, still) in
+    let order = subst (λ l. Interleaves a.kept l rs) (none_left a.refused few) a.order in
+    a.written ∙ ap (λ l. before ++ l) (sym (only_left a.kept rs order))
+
+pub written_in_order : (before after : List Record) (report : Report) (j u w : PartyOf (Element Record)) → AreAmong (sent j) (received w)
+    → Runs before after report u w → received u ≡ [] → report.dropped ≡ 0 → AreAmong (map record_of (sent j)) after
+written_in_order before after report j u w among runs new none =
+    let all : received w ≡ runs.elements = runs.receives.elements ∙ ap (λ l. l ++ runs.elements) new in
+    let within = subst (λ l. Interleaves (sent j) among.0 l) all among.1 in
+    let rs = map record_of runs.elements in
+    let of_records = interleaves_map record_of (sent j) among.0 runs.elements within in (
+      before ++ map record_of among.0,
+      subst (λ l. Interleaves (map record_of (sent j)) (before ++ map record_of among.0) l) (sym (all_written rs before after _ report runs.writes refl none))
+          (interleaves_append [] before before (map record_of (sent j)) (map record_of among.0) rs (all_right before) of_records),
+    )
+
+pub runs_after : (before after : List Record) (report : Report) (u v w : PartyOf (Element Record)) → Receives [] u v → Runs before after report v w → Runs before after report u w
+runs_after before after report u v w first runs = record {
+  elements = runs.elements;
+  receives = receives_then u v w [] runs.elements first runs.receives;
+  over = runs.over;
+  writes = runs.writes;
+}

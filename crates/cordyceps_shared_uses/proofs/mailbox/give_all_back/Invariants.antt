@@ -1,7 +1,0 @@
-use Rattle.std.proofs.Common.{[]}
-use Rattle.cordyceps.specs.Queues.Moves.{Moves}
-use Rattle.cordyceps_shared_uses.specs.Mailbox.{value_of}
-use Rattle.cordyceps_shared_uses.proofs.mailbox.give_all_back.Given as goal
-
-abbrev pub invariant-loop : goal.invariant-loop
-invariant-loop g l = Moves value_of [] [] l.initial.party l.party
