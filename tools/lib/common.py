@@ -13,7 +13,8 @@ import tempfile
 from collections import namedtuple
 
 TOP = os.path.dirname(os.path.dirname(os.path.dirname(os.path.realpath(__file__))))
-NAME = os.path.basename(os.path.realpath(sys.argv[0]))
+PATH = os.path.relpath(os.path.realpath(sys.argv[0]), TOP)
+NAME = os.path.basename(PATH)
 # The toolchain's compiler and linker, in its folder.
 TOOLS = ("toolchain/bin/clang", "toolchain/bin/ld.lld")
 # The parts of a function's proof. They belong to it alone: what calls it reads its contract.
@@ -34,7 +35,7 @@ class Arguments(argparse.ArgumentParser):
 
     def __init__(self, text, statuses=("all passed", "something failed")):
         how = {"formatter_class": argparse.RawDescriptionHelpFormatter, "allow_abbrev": False}
-        super().__init__(prog=f"tools/{NAME}", description=text, **how)
+        super().__init__(prog=PATH, description=text, **how)
         lines = [f"  {number}  {it}" for number, it in enumerate(statuses)]
         self.epilog = "\n".join(["exit status:", *lines, f"  2  {MISSING}"])
 
@@ -43,7 +44,7 @@ class Arguments(argparse.ArgumentParser):
         self.add_argument("word", nargs="?", default="", type=pattern, metavar="WORD", help=help)
 
     def error(self, message):
-        stop(f"{message}; tools/{NAME} --help says more")
+        stop(f"{message}; {PATH} --help says more")
 
 
 def pattern(word):

@@ -31,14 +31,20 @@ def python_of(version):
     return None
 
 
+def scripts_of(top):
+    """The scripts of tools/ and bench/, by their paths below the top of a checkout."""
+    found = (f"{folder}/{it}" for folder in ("tools", "bench") for it in sorted(os.listdir(f"{top}/{folder}")))
+    return [it for it in found if os.path.isfile(f"{top}/{it}") and "." not in it]
+
+
 def tree_of(path, version):
-    """The text of a file of tools/, as this version of Python reads it."""
-    return ast.parse(text_of(f"{TOP}/tools/{path}"), feature_version=tuple(map(int, version.split("."))))
+    """The text of a file, as this version of Python reads it."""
+    return ast.parse(text_of(f"{TOP}/{path}"), feature_version=tuple(map(int, version.split("."))))
 
 
 def faults_of_replay():
     """What shows, in what ./replay needs of tools/, that it needs a newer Python."""
-    found = [(path, it) for path in OF_REPLAY for it in ast.walk(tree_of(path, LEAST_FOR_REPLAY))]
+    found = [(path, it) for path in OF_REPLAY for it in ast.walk(tree_of(f"tools/{path}", LEAST_FOR_REPLAY))]
     newer = [(path, it) for path, it in found if is_union(it) or getattr(it, "attr", "") in NEWER]
     return [f"line {it.lineno} of tools/{path} needs a newer Python" for path, it in newer]
 
@@ -49,17 +55,17 @@ def is_union(node):
 
 
 def faults_of_tools(checkout):
-    """What is wrong with the scripts of tools/ by the least Python, if there is one, and else with their texts."""
+    """What is wrong with the scripts of tools/ and bench/ by the least Python, if there is one, and else with their texts."""
     faults = [] if f"Python {LEAST}" in text_of(f"{TOP}/README.md") else [f"README.md does not name Python {LEAST}"]
-    names = [it for it in sorted(os.listdir(f"{TOP}/tools")) if os.path.isfile(f"{TOP}/tools/{it}") and "." not in it]
-    modules = [f"lib/{it}" for it in sorted(os.listdir(f"{TOP}/tools/lib")) if it.endswith(".py")]
+    names = scripts_of(TOP)
+    modules = [f"tools/lib/{it}" for it in sorted(os.listdir(f"{TOP}/tools/lib")) if it.endswith(".py")]
     for path in [*names, *modules]:
         try:
             tree_of(path, LEAST)
         except SyntaxError as why:
-            faults.append(f"tools/{path} is no text of Python {LEAST}: {why}")
+            faults.append(f"{path} is no text of Python {LEAST}: {why}")
     python = python_of(LEAST)
-    runs = [[f"{TOP}/tools/{it}", "--help"] for it in names] + [["-c", EXAMPLES, f"{TOP}/tools"]]
+    runs = [[f"{TOP}/{it}", "--help"] for it in names] + [["-c", EXAMPLES, f"{TOP}/tools"]]
     for words in runs if python else ():
         ran = checkout.run(command=[python, "-B", *words])
         faults += [f"by {python}: {words}: {ran}"] if ran.status or ran.err else []

@@ -274,14 +274,6 @@ impl<T: Linked<Links<T>>, O: Times<T>> ClockQueue<T, O> {
     ///
     /// # Complexity
     /// That of `push`.
-    ///
-    /// # Examples
-    /// From `numbered::NumberedClock::push` of `cordyceps_speed_rows`:
-    /// ```
-    /// if let Ok(spot) = self.queue.try_push(node) {
-    ///     note(&mut self.spots, number, spot);
-    /// }
-    /// ```
     pub fn try_push(&mut self, handle: T::Handle) -> Result<Spot, T::Handle>
         requires callable { O.can_compute self.old.time }
         ensures pushed { MatchResult result
