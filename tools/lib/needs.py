@@ -11,8 +11,9 @@ import tempfile
 
 TOP = os.path.dirname(os.path.dirname(os.path.dirname(os.path.realpath(__file__))))
 MEBIBYTE = 1 << 20
-# How many MiB have to be free for a run, among the temporary files and in the checkout.
-ROOM = {"tests": (512, 64), "proofs": (1024, 1024)}
+# How many MiB have to be free for a run, among the temporary files and in the checkout. The tests in Rust took 221 MB of
+# temporary files, and `rt ci` leaves libraries of 3 GB.
+ROOM = {"tests": (320, 64), "proofs": (1024, 4096)}
 
 
 def has_room(folder, size):

@@ -1,11 +1,16 @@
 """What tools/first_run tries where something is missing that ./test and ./gate need: a line says what, and nothing else
-is done."""
+is done. Where the libraries are not built, the tests in C and in Rust are left out, unless they get leave."""
 
+import os
 import time
+
+from .common import write
 
 # The scripts that say so, and what each writes its line for.
 SCRIPTS = {"test": "test", "gate": "gate", "tools/test_unproved": "test_unproved"}
 TEMPORARY = "the folder for temporary files, "
+# The archive without proof, in a checkout.
+ARCHIVE = "crates/cordyceps_c/out/unproved"
 # The seconds in which all are to have said it.
 LIMIT = 60
 
@@ -36,3 +41,14 @@ def faults(copy, expect, without):
 def faults_where_not_writable(copy, expect, nobody):
     """What is wrong in a checkout that the user cannot write, as whom the words NOBODY start a command."""
     return lines(copy, expect, "the folder crates/cordyceps of the checkout cannot be written", nobody)
+
+
+def faults_without_leave(copy):
+    """What is wrong where the tests in C and in Rust run as ./gate runs them, beside an archive without proof: they may
+    not take it."""
+    for name in ("libcordyceps.a", "archive"):
+        write(f"{copy.top}/{ARCHIVE}/{name}", "")
+    ran = [(it, copy.run(command=[f"{copy.top}/tools/{it}"])) for it in ("c_tests", "rust_tests")]
+    for name in ("libcordyceps.a", "archive"):
+        os.remove(f"{copy.top}/{ARCHIVE}/{name}")
+    return [f"{it}: {ended}" for it, ended in ran if ended.status or f"{it}: left out the tests: " not in ended.out]
