@@ -27,15 +27,35 @@ class NotProved(Exception):
     """Says why an archive was not made."""
 
 
-def sum_of(crate):
-    """A sum of all that the archive is made from."""
-    files = common.files_in(*(f"{it.folder}/{part}" for it in (crate, *crate.below()) for part in PARTS))
-    return common.sum_of(files, [(it.name, it.of_kit) for it in (crate, *crate.below())])
+def crate_of(rtlib):
+    return {it.name: it for it in rtlib.crates_below(TOP)}[CRATE]
+
+
+def sum_of(crate, parts=PARTS, more=()):
+    """A sum of all that the archive is made from: these parts of the crates, and more files."""
+    files = common.files_in(*(f"{it.folder}/{part}" for it in (crate, *crate.below()) for part in parts))
+    return common.sum_of([*files, *more], [(it.name, it.of_kit) for it in (crate, *crate.below())])
 
 
 def is_fresh(rtlib, crate):
     """Are the libraries below the crate there, as of the files that they were proved from?"""
     return all(os.path.isfile(f"{it.rlib}/format") and proving.is_left(rtlib, it) for it in crate.below())
+
+
+def kept(crate, sum):
+    """What is told of the archive that is kept, if it was made from what this is the sum of."""
+    said = f"{crate.folder}/out/c/said"
+    if os.path.isfile(f"{crate.folder}/out/c/{NAME}") and os.path.isfile(said):
+        before, _, told = common.text_of(said).partition("\n")
+        return told.strip() if before == sum else None
+    return None
+
+
+def is_lacking():
+    """Is there neither an archive of these files nor all that it is made from?"""
+    rtlib = common.rtlib()
+    crate = crate_of(rtlib)
+    return kept(crate, sum_of(crate)) is None and not is_fresh(rtlib, crate)
 
 
 def joined(kit, made, to):
@@ -53,25 +73,23 @@ def build(builds_below):
     what the proof came to. Where libraries below are missing or older than their files, they are built, which takes
     minutes, or, without `builds_below`, there is no archive."""
     rtlib, kit = common.rtlib(), common.kit(HEAP, "toolchain/bin/llvm-ar")
-    crate = {it.name: it for it in rtlib.crates_below(TOP)}[CRATE]
-    kept, sum = f"{crate.folder}/out/c", sum_of(crate)
-    said = f"{kept}/said"
-    if os.path.isfile(f"{kept}/{NAME}") and os.path.isfile(said):
-        before, _, told = common.text_of(said).partition("\n")
-        if before == sum:
-            return f"{kept}/{NAME}", told.strip()
+    crate = crate_of(rtlib)
+    place, sum = f"{crate.folder}/out/c", sum_of(crate)
+    told = kept(crate, sum)
+    if told is not None:
+        return f"{place}/{NAME}", told
     if not is_fresh(rtlib, crate):
         if not builds_below:
             raise Lacks("the libraries below cordyceps_c are not built")
         if not proving.build_below(rtlib, crate):
             raise NotProved("a library below cordyceps_c is not proved")
-    os.makedirs(kept, exist_ok=True)
-    with tempfile.TemporaryDirectory(prefix="archive-", dir=kept) as room:
+    os.makedirs(place, exist_ok=True)
+    with tempfile.TemporaryDirectory(prefix="archive-", dir=place) as room:
         told = prove(rtlib, crate, kit, f"{room}/made.a")
         joined(kit, f"{room}/made.a", f"{room}/{NAME}")
-        os.replace(f"{room}/{NAME}", f"{kept}/{NAME}")
-        common.write(said, f"{sum}\n{told}\n")
-    return f"{kept}/{NAME}", told
+        os.replace(f"{room}/{NAME}", f"{place}/{NAME}")
+        common.write(f"{place}/said", f"{sum}\n{told}\n")
+    return f"{place}/{NAME}", told
 
 
 def prove(rtlib, crate, kit, to):

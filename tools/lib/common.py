@@ -191,10 +191,13 @@ def verdict(passed, failed):
 
 
 def run(main):
-    """Runs a script, and ends with its status, or with 130 where it was interrupted."""
+    """Runs a script, and ends with its status, with 130 where it was interrupted, or as `stop` where a file or a folder
+    that it needs is not there, is full or cannot be written."""
     # (a job in the background ignores interrupts, and what it starts would too)
     signal.signal(signal.SIGINT, signal.default_int_handler)
     try:
         sys.exit(main())
     except KeyboardInterrupt:
         sys.exit(130)
+    except OSError as why:
+        stop(why)

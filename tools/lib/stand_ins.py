@@ -2,9 +2,10 @@
 
 # A stand-in for rt. It writes to its log what it is called for.
 #
-# As `rt ci` it lists the files that it finds, with their sums, beside its log. It leaves a temporary file, says of one
-# crate that it is proved, and takes CI_SECONDS, and END_SECONDS more where it is ended. It fills the disk if there is a
-# FULL, or refuses the crate BAD; else it builds the program.
+# As `rt ci` it lists the files that it finds, with their sums, beside its log, and makes the out/ of each crate anew, one
+# at first and the others at its end. It leaves a temporary file, says of one crate that it is proved, and takes
+# CI_SECONDS, and END_SECONDS more where it is ended. It fills the disk if there is a FULL, or refuses the crate BAD;
+# else it builds the program, and leaves what the crate's file stdout has as what the program wrote.
 #
 # As `rt try` it takes TRY_SECONDS, and links a program, but fills the disk if there is a FULL.
 STAND_IN = """#!/usr/bin/env bash
@@ -19,6 +20,8 @@ fi
 [ "$*" = ci ]
 { find crates HANDLES -type f -exec sha256sum {} + && cat crates.txt; } > "$STAND_IN_LOG.room"
 mktemp > /dev/null
+rm -rf crates/*/out
+mkdir crates/cordyceps_base/out
 echo "== cordyceps_base"
 echo "stand-in: 7 of 7 functions"
 echo "rt: cordyceps_base proved"
@@ -33,8 +36,11 @@ if [ -n "${BAD-}" ]; then
   echo "rt: FAILED: $BAD"
   exit 1
 fi
+for crate in crates/*/; do
+  mkdir -p "$crate/out"
+done
 app=crates/cordyceps_replay/out/cordyceps_replay
-mkdir -p "${app%/*}"
+cp crates/cordyceps_replay/stdout "${app%/*}"
 printf '#!/bin/sh\\necho "proved $1"\\n' > "$app"
 chmod +x "$app"
 """

@@ -1,6 +1,7 @@
 """A copy of the toolchain that is made of links, in which single tools are replaced by scripts."""
 
 import os
+import shlex
 import shutil
 
 # What the copy has as folders and files of its own. The scripts find the toolchain by the folder that they lie in.
@@ -9,6 +10,23 @@ SCRIPTS = ("bin/rt", "bin/rtlib.py")
 # `rt try` starts a check beside the build, for a hint alone. It would take a processor, so a copy can have a check that
 # does nothing.
 NO_CHECK = "#!/bin/sh\n"
+# What `rt try` compiles with checks of memory is the program, whose module is kept.
+KEEPING = """#!/bin/sh
+is_program=
+for word in "$@"; do
+  case $word in
+    *.bc) module=$word ;;
+    -fsanitize=address) is_program=yes ;;
+  esac
+done
+if [ "$is_program" ]; then
+  {copy} "$module" {kept}
+  exit 1
+fi
+exec {tool} "$@"
+"""
+# How a module is read: as the toolchain's own build does, without the machine's settings.
+READ = ["--target=x86_64-unknown-linux-gnu", "-march=x86-64", "--no-default-config", "-x", "ir"]
 
 
 def link(kit, copy):
@@ -36,3 +54,10 @@ def without_hints(kit, copy):
     link(kit, copy)
     replace(f"{copy}/bin/rattle", NO_CHECK)
     return f"{copy}/bin/rt"
+
+
+def keep_module(kit, copy, kept):
+    """Has the compiler of a copy keep the module of a program as the file `kept`, and compile it no further."""
+    words = {"copy": shutil.which("cp"), "kept": kept, "tool": f"{kit}/toolchain/bin/clang"}
+    script = KEEPING.format(**{name: shlex.quote(word) for name, word in words.items()})
+    replace(f"{copy}/toolchain/bin/clang", script)
