@@ -14,7 +14,7 @@ LEAST = 20
 # Where it is kept which wrong bodies were refused, as files whose names are the sums of all that they were judged by.
 KEPT = os.path.join(os.environ.get("XDG_CACHE_HOME") or os.path.expanduser("~/.cache"), "cordyceps-wrong-bodies")
 # The files of this folder that judge.
-JUDGING = "answers at_hand checking common edits judging keeping laying_out rattle_source".split()
+JUDGING = "answers at_hand checking common edits judging keeping laying_out rattle_source shown suspects".split()
 
 
 class Basis:
