@@ -1,5 +1,6 @@
 -- Every node is linked into an empty table.
 use Rattle.std.proofs.Common.{◌≡◌, ◌<◌, ℕ, Bool, true, false, List, [], ◌∷◌, ◌++◌, length, Option, Some, None, MatchOption, refl, sym, ap, ◌∙◌, subst, arith, append_assoc, append-nil}
+use Rattle.std.specs.Int.{IsPowerOfTwo}
 use denote.RawPtr.{Ptr}
 use Rattle.cordyceps_base.specs.BySpot.{HasSpot}
 use Rattle.cordyceps_base.specs.Nodes.{Nodes, spots}
@@ -30,7 +31,7 @@ module _ {K V : Type 0} (hash : K → ℕ) where
   }
 
   pub empty_map : (eq : K → K → Bool) (c : Nodes (Entry K V)) (hs : List (Option Ptr)) → c ≡ [] → IsEmptyTable hs → IsMap eq hash c hs
-  empty_map eq c hs none e = subst (λ z. IsMap eq hash z hs) (sym none) (record { some = e.some; chained = emptied (value_at []) hs e; apart = λ p q x y v w same. absurd cc })
+  empty_map eq c hs none e = subst (λ z. IsMap eq hash z hs) (sym none) (record { power = e.power; chained = emptied (value_at []) hs e; apart = λ p q x y v w same. absurd cc })
 
 -- what comes after a spot of a list in which none comes twice
 after_is : (s : List Ptr) (p : Ptr) (l t m r : List Ptr) → AreDistinct s → s ≡ l ++ p ∷ t → s ≡ m ++ p ∷ r → t ≡ r
@@ -89,10 +90,10 @@ same_members a b f g q = split (is_in q a)
     (λ missing. split (is_in q b) (λ here. let t = g q here in absurd cc) (λ out. out ∙ sym missing))
 
 module _ {K V : Type 0} (eq : K → K → Bool) (hash : K → ℕ) (c : Nodes (Entry K V)) (hs : List (Option Ptr)) (m : IsMap eq hash c hs) where
-  pub refilled : (d : Nodes (Entry K V)) (ms : List (Option Ptr)) (s : List Ptr) → shown d ≡ shown c → 0 < length ms → AreChained hash (value_at d) ms s
+  pub refilled : (d : Nodes (Entry K V)) (ms : List (Option Ptr)) (s : List Ptr) → shown d ≡ shown c → IsPowerOfTwo (length ms) → AreChained hash (value_at d) ms s
       → ((q : Ptr) → is_in q s ≡ true → HasSpot d q) → ((q : Ptr) → HasSpot d q → is_in q s ≡ true) → IsMap eq hash d ms
-  refilled d ms s same some chained inside all = record {
-    some = some;
+  refilled d ms s same power chained inside all = record {
+    power = power;
     chained = renamed hash (value_at d) ms s (spots d) (same_members s (spots d) (λ q i. has_in d q (inside q i)) (λ q i. all q (in_has d q i))) chained;
     apart = subst (AreApart eq) (sym same) m.apart;
   }

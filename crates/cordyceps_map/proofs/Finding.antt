@@ -10,13 +10,13 @@ use Rattle.cordyceps_base.specs.Nodes.{Nodes, spots}
 use Rattle.cordyceps_base.specs.Spots.{same_ptr, AreDistinct}
 use Rattle.cordyceps_base.proofs.SpotsMemory.{same_ptr_eq}
 use Rattle.cordyceps_many.specs.Entries.{value_at}
-use Rattle.cordyceps_many.specs.MultiList.{Multi, list_at}
+use Rattle.cordyceps_many.specs.MultiList.{list_at}
 use Rattle.cordyceps_many.specs.Threads.{is_in, without}
 use Rattle.cordyceps_many.proofs.Members.{in_has}
 use Rattle.cordyceps_many.proofs.Threads.{split, in_there}
 use Rattle.cordyceps_map.specs.declared.entry.Entry.{Entry}
 use Rattle.cordyceps_map.specs.Shown.{pair_of, shown_element, shown}
-use Rattle.cordyceps_map.specs.StableMap.{pairs, AreApart, IsFound, IsRemoved}
+use Rattle.cordyceps_map.specs.StableMap.{Mapped, pairs, AreApart, IsFound, IsRemoved}
 use Rattle.cordyceps_map.specs.Chains.{bucket_in, head_in, IsChain, IsMap, IsBucketOf, IsPlace, IsCut}
 use Rattle.cordyceps_map.proofs.Chained.{Says, last_among}
 use Rattle.cordyceps_map.proofs.Leaving.{in_front, cut_shows}
@@ -53,23 +53,24 @@ module _ {K V : Type 0} where
     pub cut_has : (before : Option Ptr) (p : Ptr) (d : Nodes (Entry K V)) (ms : List (Option Ptr)) → IsCut c hs j before p d ms → (q : Ptr) → HasSpot c q → HasSpot d q
     cut_has before p d ms u q h = has_shown d q (subst (λ z. HasSpot z q) (sym (cut_shows c hs j p d ms before u)) (shown_has c q h))
 
-    module _ (ls : List (List Ptr)) (v : Multi (K × V)) (seen : record { nodes = shown c; lists = ls } ≡ v) where
+    module _ (ls : List (List Ptr)) {size : ℕ} (v : Mapped (K × V)) (seen : record { nodes = shown c; lists = ls; buckets = size } ≡ v) where
       pub placed_found : (before : Option Ptr) (p : Ptr) (w : IsPlace eq c hs k j before p) → IsFound eq v.nodes k p
-      placed_found before p w = subst (λ (z : Multi (K × V)). IsFound eq z.nodes k p) seen
+      placed_found before p w = subst (λ (z : Mapped (K × V)). IsFound eq z.nodes k p) seen
           (record { pair = pair_of w.entry; held = shown_held c p w.entry (value_held c p w.entry w.says); found = w.found })
 
       pub not_found : lookup_entry (eq k) (pairs (shown c)) ≡ None → lookup (eq k) (pairs v.nodes) ≡ None
-      not_found e = subst (λ (z : Multi (K × V)). lookup (eq k) (pairs z.nodes) ≡ None) seen (none_of_entry eq k (pairs (shown c)) e)
+      not_found e = subst (λ (z : Mapped (K × V)). lookup (eq k) (pairs z.nodes) ≡ None) seen (none_of_entry eq k (pairs (shown c)) e)
 
       -- the node was taken out
       pub removed : (before : Option Ptr) (p : Ptr) (w : IsPlace eq c hs k j before p) (d : Nodes (Entry K V)) (ms : List (Option Ptr)) (u : IsCut c hs j before p d ms)
-          (n : Element (Entry K V)) (e : Nodes (Entry K V)) (taken : IsTaken d p n e) (count : ℕ) (ns : List (List Ptr)) (lists : (i : ℕ) → i < count → list_at i ns ≡ without p (list_at i ls))
-          → IsRemoved eq count v k (shown_element n) (record { nodes = shown e; lists = ns })
-      removed before p w d ms u n e taken count ns lists = record {
+          (n : Element (Entry K V)) (e : Nodes (Entry K V)) (taken : IsTaken d p n e) (count : ℕ) (ns : List (List Ptr)) (lists : (i : ℕ) → i < count → list_at i ns ≡ without p (list_at i ls)) (left : ℕ) (long : left ≡ size)
+          → IsRemoved eq count v k (shown_element n) (record { nodes = shown e; lists = ns; buckets = left })
+      removed before p w d ms u n e taken count ns lists left long = record {
         spot = p;
         found = placed_found before p w;
-        taken = subst (λ (z : Nodes (K × V)). IsTaken z p (shown_element n) (shown e)) (cut_shows c hs j p d ms before u ∙ ap (λ (z : Multi (K × V)). z.nodes) seen) (shown_taken d p n e taken);
-        lists = λ i less. lists i less ∙ ap (λ (z : Multi (K × V)). without p (list_at i z.lists)) seen;
+        taken = subst (λ (z : Nodes (K × V)). IsTaken z p (shown_element n) (shown e)) (cut_shows c hs j p d ms before u ∙ ap (λ (z : Mapped (K × V)). z.nodes) seen) (shown_taken d p n e taken);
+        lists = λ i less. lists i less ∙ ap (λ (z : Mapped (K × V)). without p (list_at i z.lists)) seen;
+        buckets = long ∙ ap (λ (z : Mapped (K × V)). z.buckets) seen;
       }
 
   -- the bucket that a key's hash says, of a table with n buckets
@@ -102,6 +103,3 @@ module _ {K V : Type 0} where
     value_found p f x held =
         let same : f.pair ≡ x = let t = sym (held_value c p f.pair distinct f.held) ∙ held_value c p x distinct held in cc in
         value_of_entry eq k (pairs c) f.pair f.found ∙ ap (λ (z : K × V). Some z.1) same
-
-    pub none_there : lookup (eq k) (pairs c) ≡ None → (p : Ptr) → IsFound eq c k p → ⊥
-    none_there none p f = let t = sym none ∙ value_of_entry eq k (pairs c) f.pair f.found in cc

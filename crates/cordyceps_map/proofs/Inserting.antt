@@ -1,6 +1,7 @@
 -- A node comes into the map.
-use Rattle.std.proofs.Common.{◌≡◌, ◌<◌, ℕ, Bool, true, false, List, [], ◌∷◌, ◌++◌, length, Option, Some, None, sym, ap, ◌∙◌}
+use Rattle.std.proofs.Common.{◌≡◌, ℕ, Bool, true, false, List, [], ◌∷◌, ◌++◌, length, Option, Some, None, sym, ap, ◌∙◌}
 use Rattle.std.specs.Cmp.{IsEquivalence}
+use Rattle.std.specs.Int.{IsPowerOfTwo}
 use Rattle.std.specs.Map.{lookup_entry}
 use denote.RawPtr.{Ptr}
 use Rattle.cordyceps_base.specs.BySpot.{HasSpot}
@@ -49,9 +50,9 @@ module _ {K V : Type 0} (eq : K → K → Bool) (laws : IsEquivalence eq) (hash 
   unlike : (q : Ptr) (x : K × V) → value_at (shown c) q ≡ Some x → eq n.value.key x.0 ≡ false
   unlike q x v = none_found eq n.value.key (shown c) none q x v
 
-  pub inserted : 0 < length ms → IsMap eq hash d ms
-  inserted some = record {
-    some = some;
+  pub inserted : IsPowerOfTwo (length ms) → IsMap eq hash d ms
+  inserted power = record {
+    power = power;
     chained = renamed hash (value_at d) ms (p ∷ spots c) (spots d) same_members (entered hash j hs p d ms (spots c) out b r n.value (ap (λ z. value_at z p) joined ∙ value_came c p n out) number before);
     apart = λ q z x y v w same. split (same_ptr q p)
         (λ here. split (same_ptr z p)

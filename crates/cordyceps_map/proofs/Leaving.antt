@@ -1,6 +1,7 @@
 -- A node is taken out of the chain of its bucket, and of the map.
-use Rattle.std.proofs.Common.{◌≡◌, ◌≢◌, ◌==◌, ◌<◌, ℕ, Bool, true, false, if◌then◌else◌, List, ◌∷◌, ◌++◌, length, Option, Some, None, sym, ap, ◌∙◌, subst}
+use Rattle.std.proofs.Common.{◌≡◌, ◌≢◌, ◌==◌, ℕ, Bool, true, false, if◌then◌else◌, List, ◌∷◌, ◌++◌, length, Option, Some, None, sym, ap, ◌∙◌, subst}
 use Rattle.std.specs.Cmp.{IsEquivalence}
+use Rattle.std.specs.Int.{IsPowerOfTwo}
 use Rattle.std.specs.Map.{lookup_entry}
 use Rattle.std.proofs.lemmas.List.{length-set, get_or-set_same, get_or-set_other}
 use denote.RawPtr.{Ptr}
@@ -169,7 +170,7 @@ module _ {K V : Type 0} (eq : K → K → Bool) (hash : K → ℕ) (c : Nodes (E
 
     pub left : IsMap eq hash e ms
     left = record {
-      some = subst (λ z. 0 < z) (sym long) m.some;
+      power = subst IsPowerOfTwo (sym long) m.power;
       chained = chained;
       apart = λ q r x y v v' same. m.apart q r x y (seen_before q x v) (seen_before r y v') same;
     }

@@ -10,6 +10,7 @@ mod Lent
 pub mod Looking
 mod Nulls
 mod Ordered
+mod Powers
 mod Redirecting
 mod Revalued
 mod Seen

@@ -49,6 +49,10 @@ module _ {K V : Type 0} (eq : K → K → Bool) (k : K) where
       (λ yes. let t = sym (ap (λ (b : Bool). cond b (Some y) (lookup_entry (eq k) s)) yes) ∙ e in let is : y ≡ x = cc in ap (λ (b : Bool). cond b (Some y.1) (lookup (eq k) s)) yes ∙ ap (λ (z : K × V). Some z.1) is)
       (λ no. ap (λ (b : Bool). cond b (Some y.1) (lookup (eq k) s)) no ∙ value_of_entry s x (sym (ap (λ (b : Bool). cond b (Some y) (lookup_entry (eq k) s)) no) ∙ e))
 
+  -- a key that no pair has is that of no node
+  pub none_there : (c : Nodes (K × V)) → lookup (eq k) (pairs c) ≡ None → (p : Ptr) → IsFound eq c k p → ⊥
+  none_there c none p f = let t = sym none ∙ value_of_entry (pairs c) f.pair f.found in cc
+
   pub none_of_entry : (s : List (K × V)) → lookup_entry (eq k) s ≡ None → lookup (eq k) s ≡ None
   none_of_entry [] e = refl
   none_of_entry (y ∷ s) e = split (eq k y.0)

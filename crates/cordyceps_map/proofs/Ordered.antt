@@ -7,12 +7,12 @@ use Rattle.cordyceps_base.specs.BySpot.{HoldsAt}
 use Rattle.cordyceps_base.specs.Element.{Element}
 use Rattle.cordyceps_base.specs.Nodes.{Nodes}
 use Rattle.cordyceps_many.specs.InOrder.{IsGreaterAt, IsAtMostAt, IsInOrder, IsPutInOrder}
-use Rattle.cordyceps_many.specs.MultiList.{Multi, list_at}
+use Rattle.cordyceps_many.specs.MultiList.{list_at}
 use Rattle.cordyceps_single.specs.ByKey.{by_key}
 use Rattle.cordyceps_map.specs.declared.entry.Entry.{Entry}
 use Rattle.cordyceps_map.specs.Orders.{ComparesByValue}
 use Rattle.cordyceps_map.specs.Shown.{shown}
-use Rattle.cordyceps_map.specs.StableMap.{valued}
+use Rattle.cordyceps_map.specs.StableMap.{Mapped, valued}
 
 module _ {K V : Type 0} where
   -- the element with the value alone
@@ -72,13 +72,13 @@ module _ {K V : Type 0} where
     order_from (p ∷ []) o = tt
     order_from (p ∷ q ∷ s) o = (at_most_from p q o.0, order_from (q ∷ s) o.1)
 
-  module _ {O : Type 0} (by : O → (V → V → Ordering) → Type 0) (order : O) (c : Nodes (Entry K V)) (ls : List (List Ptr)) (v : Multi (K × V)) (seen : record { nodes = shown c; lists = ls } ≡ v) (i : ℕ) (t : List Ptr) where
+  module _ {O : Type 0} (by : O → (V → V → Ordering) → Type 0) (order : O) (c : Nodes (Entry K V)) (ls : List (List Ptr)) {size : ℕ} (v : Mapped (K × V)) (seen : record { nodes = shown c; lists = ls; buckets = size } ≡ v) (i : ℕ) (t : List Ptr) where
     by_entries : (cmp : V → V → Ordering) → by order cmp → ComparesByValue by order (entries_by cmp)
     by_entries cmp is = record { values = cmp; by = is; compares = refl }
 
     -- a node that is put in order by the entries is so by the values
     pub put : (p : Ptr) → IsPutInOrder (ComparesByValue by order) c p (list_at i ls) t → IsPutInOrder (by order) (valued v.nodes) p (list_at i v.lists) t
-    put p r = subst (λ (z : Multi (K × V)). IsPutInOrder (by order) (valued z.nodes) p (list_at i z.lists) t) seen (record {
+    put p r = subst (λ (z : Mapped (K × V)). IsPutInOrder (by order) (valued z.nodes) p (list_at i z.lists) t) seen (record {
       front = r.front;
       back = r.back;
       was = r.was;
@@ -89,4 +89,4 @@ module _ {K V : Type 0} where
 
     pub kept : (d : Nodes (Entry K V)) → ((cmp : Entry K V → Entry K V → Ordering) → ComparesByValue by order cmp → IsInOrder cmp c (list_at i ls) → IsInOrder cmp d t) → (cmp : V → V → Ordering) → by order cmp
         → IsInOrder cmp (valued v.nodes) (list_at i v.lists) → IsInOrder cmp (valued (shown d)) t
-    kept d keeps cmp is o = order_to cmp d t (keeps (entries_by cmp) (by_entries cmp is) (order_from cmp c (list_at i ls) (subst (λ (z : Multi (K × V)). IsInOrder cmp (valued z.nodes) (list_at i z.lists)) (sym seen) o)))
+    kept d keeps cmp is o = order_to cmp d t (keeps (entries_by cmp) (by_entries cmp is) (order_from cmp c (list_at i ls) (subst (λ (z : Mapped (K × V)). IsInOrder cmp (valued z.nodes) (list_at i z.lists)) (sym seen) o)))

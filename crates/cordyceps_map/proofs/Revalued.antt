@@ -6,13 +6,13 @@ use Rattle.cordyceps_base.specs.Nodes.{Nodes, spots, with_item}
 use Rattle.cordyceps_base.specs.Spots.{same_ptr, index_of}
 use Rattle.cordyceps_base.proofs.SpotsMemory.{same_ptr_eq}
 use Rattle.cordyceps_many.specs.Entries.{value_at}
-use Rattle.cordyceps_many.specs.MultiList.{Multi}
 use Rattle.cordyceps_many.specs.Threads.{is_in}
 use Rattle.cordyceps_many.proofs.Threads.{split}
 use Rattle.cordyceps_map.specs.declared.entry.Entry.{Entry}
 use Rattle.cordyceps_map.specs.Shown.{pair_of, shown_element, shown}
 use Rattle.cordyceps_map.specs.Chains.{bucket_in, head_in, IsChain, IsMap}
 use Rattle.cordyceps_map.specs.MapLends.{with_second, with_value_at}
+use Rattle.cordyceps_map.specs.StableMap.{Mapped}
 use Rattle.cordyceps_map.proofs.ShownNodes.{spots_shown, value_shown, shown_value, shown_held}
 use Rattle.cordyceps_map.proofs.ValueAt.{value_here, value_there, value_in, value_held, value_written, value_kept}
 
@@ -70,7 +70,7 @@ module _ {K V : Type 0} where
 
     pub revalued : (eq : K → K → Bool) (hash : K → ℕ) (hs : List (Option Ptr)) → IsMap eq hash c hs → IsMap eq hash d hs
     revalued eq hash hs m = record {
-      some = m.some;
+      power = m.power;
       chained = record {
         chains = m.chained.chains;
         heads = λ j. chain (head_in hs j) (m.chained.chains j) (m.chained.heads j);
@@ -85,14 +85,14 @@ module _ {K V : Type 0} where
           m.apart q z (pair_of ra.entry) (pair_of rb.entry) (value_shown c q ra.entry ra.says) (value_shown c z rb.entry rb.says) keys;
     }
 
-    module _ (ls : List (List Ptr)) (v : Multi (K × V)) (seen : record { nodes = shown c; lists = ls } ≡ v) where
-      pub seen_written : record { nodes = shown d; lists = ls } ≡ with_value_at v p w
+    module _ (ls : List (List Ptr)) {size : ℕ} (v : Mapped (K × V)) (seen : record { nodes = shown c; lists = ls; buckets = size } ≡ v) where
+      pub seen_written : record { nodes = shown d; lists = ls; buckets = size } ≡ with_value_at v p w
       seen_written =
-          (λ i. record { nodes = (shown_second c p e w says ∙ ap (λ s. with_second (shown c) (index_of p s) w) (sym (spots_shown c))) i; lists = ls })
-          ∙ ap (λ (z : Multi (K × V)). with_value_at z p w) seen
+          (λ i. record { nodes = (shown_second c p e w says ∙ ap (λ s. with_second (shown c) (index_of p s) w) (sym (spots_shown c))) i; lists = ls; buckets = size })
+          ∙ ap (λ (z : Mapped (K × V)). with_value_at z p w) seen
 
-  pub seen_held : (c : Nodes (Entry K V)) (p : Ptr) (e : Entry K V) → value_at c p ≡ Some e → (ls : List (List Ptr)) (v : Multi (K × V)) → record { nodes = shown c; lists = ls } ≡ v → HoldsAt v.nodes p (pair_of e)
-  seen_held c p e says ls v seen = subst (λ (z : Multi (K × V)). HoldsAt z.nodes p (pair_of e)) seen (shown_held c p e (value_held c p e says))
+  pub seen_held : (c : Nodes (Entry K V)) (p : Ptr) (e : Entry K V) → value_at c p ≡ Some e → (ls : List (List Ptr)) {size : ℕ} (v : Mapped (K × V)) → record { nodes = shown c; lists = ls; buckets = size } ≡ v → HoldsAt v.nodes p (pair_of e)
+  seen_held c p e says ls v seen = subst (λ (z : Mapped (K × V)). HoldsAt z.nodes p (pair_of e)) seen (shown_held c p e (value_held c p e says))
 
-  pub seen_kept : (v : Multi (K × V)) (p : Ptr) (w : V) (q : Ptr) → HasSpot v.nodes q → HasSpot (with_value_at v p w).nodes q
+  pub seen_kept : (v : Mapped (K × V)) (p : Ptr) (w : V) (q : Ptr) → HasSpot v.nodes q → HasSpot (with_value_at v p w).nodes q
   seen_kept v p w q h = (h.0, ap (λ s. slice_get s h.0) (spots_second v.nodes (index_of p (spots v.nodes)) w) ∙ h.1)

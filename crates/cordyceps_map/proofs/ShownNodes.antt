@@ -1,11 +1,12 @@
 -- What a contract sees of nodes that come, go and are written.
-use Rattle.std.proofs.Common.{◌≡◌, zero, suc, Bool, if◌then◌else◌, [], ◌∷◌, ◌++◌, Some, refl, sym, ap, ◌∙◌, slice_get}
+use Rattle.std.proofs.Common.{◌≡◌, ℕ, zero, suc, Bool, if◌then◌else◌, [], ◌∷◌, ◌++◌, Some, refl, sym, ap, ◌∙◌, slice_get}
 use denote.RawPtr.{Ptr}
 use Rattle.cordyceps_base.specs.BySpot.{HasSpot, HoldsAt, IsTaken}
 use Rattle.cordyceps_base.specs.Element.{Element}
 use Rattle.cordyceps_base.specs.Nodes.{Nodes, spots, with_item}
 use Rattle.cordyceps_base.specs.Spots.{same_ptr, index_of}
 use Rattle.cordyceps_many.specs.Entries.{value_at}
+use Rattle.cordyceps_many.specs.MultiList.{HasNumber}
 use Rattle.cordyceps_many.proofs.Threads.{split}
 use Rattle.cordyceps_map.specs.declared.entry.Entry.{Entry}
 use Rattle.cordyceps_map.specs.Shown.{pair_of, shown_element, shown}
@@ -31,6 +32,14 @@ module _ {K V : Type 0} where
 
   pub shown_held : (c : Nodes (Entry K V)) (p : Ptr) (e : Entry K V) → HoldsAt c p e → HoldsAt (shown c) p (pair_of e)
   shown_held c p e (b, id, a, was) = (shown b, id, shown a, ap shown was ∙ shown_joined b ((p, record { id = id; value = e }) ∷ a))
+
+  pub shown_number : (c : Nodes (Entry K V)) (p : Ptr) (id : ℕ) → HasNumber c p id → HasNumber (shown c) p id
+  shown_number c p id n = record {
+    before = shown n.before;
+    value = pair_of n.value;
+    after = shown n.after;
+    whole = ap shown n.whole ∙ shown_joined n.before ((p, record { id = id; value = n.value }) ∷ n.after);
+  }
 
   pub value_shown : (c : Nodes (Entry K V)) (p : Ptr) (e : Entry K V) → value_at c p ≡ Some e → value_at (shown c) p ≡ Some (pair_of e)
   value_shown [] p e v = absurd cc

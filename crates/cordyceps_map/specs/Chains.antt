@@ -1,5 +1,6 @@
 -- How a map finds its nodes: a table has the first node of each bucket, and each node leads to the next of its bucket.
 use Rattle.std.specs.Prelude.{◌≡◌, ◌-◌, ◌<◌, ℕ, Bool, true, false, List, [], ◌∷◌, ◌++◌, length, Option, Some, None, MatchOption, slice_index_or}
+use Rattle.std.specs.Int.{IsPowerOfTwo}
 use Rattle.std.specs.Int.Bits.{bit_and}
 use Rattle.std.specs.List.{fold}
 use Rattle.std.specs.Map.{lookup_entry}
@@ -32,9 +33,9 @@ abbrev pub last_spot : Option Ptr → List Ptr → Option Ptr
 last_spot o [] = o
 last_spot o (p ∷ s) = last_spot (Some p) s
 
--- a table of buckets that are all empty
+-- a table of buckets that are all empty, as many as a power of two
 pub record IsEmptyTable (hs : List (Option Ptr)) : Type 0 where
-  pub some : 0 < length hs
+  pub power : IsPowerOfTwo (length hs)
   pub empty : (j : ℕ) → head_in hs j ≡ None
 
 module _ {K V : Type 0} where
@@ -70,9 +71,9 @@ module _ {K V : Type 0} where
       pub reach : (p : Ptr) (e : Entry K V) → is_in p done ≡ true → f p ≡ Some e →
           is_in p (chains (bucket_in (length hs) (hash e.key))) ≡ true
 
-  -- a table of buckets leads to each of the nodes, and no two of them have equal keys
+  -- a table of buckets, as many as a power of two, leads to each of the nodes, and no two of them have equal keys
   pub record IsMap (eq : K → K → Bool) (hash : K → ℕ) (c : Nodes (Entry K V)) (hs : List (Option Ptr)) : Type 0 where
-    pub some : 0 < length hs
+    pub power : IsPowerOfTwo (length hs)
     pub chained : AreChained hash (value_at c) hs (spots c)
     pub apart : AreApart eq (shown c)
 

@@ -1,9 +1,10 @@
 -- What a contract sees of the nodes of a map.
-use Rattle.std.specs.Prelude.{map}
+use Rattle.std.specs.Prelude.{ℕ, map}
 use Rattle.cordyceps_base.specs.Element.{Element}
 use Rattle.cordyceps_base.specs.Nodes.{Nodes}
 use Rattle.cordyceps_many.specs.MultiList.{Multi}
 use Rattle.cordyceps_map.specs.declared.entry.Entry.{Entry}
+use Rattle.cordyceps_map.specs.StableMap.{Mapped}
 
 module _ {K V : Type 0} where
   -- the key with the value
@@ -18,6 +19,6 @@ module _ {K V : Type 0} where
   abbrev pub shown : Nodes (Entry K V) → Nodes (K × V)
   shown = map (λ n. (n.0, shown_element n.1))
 
-  -- the nodes as a contract sees them, and the lists
-  abbrev pub seen : Multi (Entry K V) → Multi (K × V)
-  seen m = record { nodes = shown m.nodes; lists = m.lists }
+  -- the nodes as a contract sees them, the lists, and that there are n buckets
+  abbrev pub seen : Multi (Entry K V) → ℕ → Mapped (K × V)
+  seen m n = record { nodes = shown m.nodes; lists = m.lists; buckets = n }

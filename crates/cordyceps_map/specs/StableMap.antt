@@ -6,8 +6,20 @@ use Rattle.cordyceps_base.specs.BySpot.{HoldsAt, IsTaken}
 use Rattle.cordyceps_base.specs.Element.{Element, values}
 use Rattle.cordyceps_base.specs.Nodes.{Nodes, elements}
 use Rattle.cordyceps_many.specs.Entries.{value_at}
-use Rattle.cordyceps_many.specs.MultiList.{Multi, list_at, SameBut}
+use Rattle.cordyceps_many.specs.MultiList.{list_at, SameBut}
 use Rattle.cordyceps_many.specs.Threads.{without}
+
+-- what a contract sees: the nodes, each with its spot, of each list the spots of its nodes, and how many buckets there are
+pub record Mapped (X : Type 0) : Type 0 where
+  pub nodes : Nodes X
+  pub lists : List (List Ptr)
+  pub buckets : ℕ
+
+module _ {X : Type 0} where
+  -- the other lists stay, and so does the number of buckets
+  pub record OthersStay (i : ℕ) (v w : Mapped X) : Type 0 where
+    pub lists : SameBut i v.lists w.lists
+    pub buckets : w.buckets ≡ v.buckets
 
 module _ {K V : Type 0} where
   -- the keys with their values, in the order in which the nodes came
@@ -29,23 +41,24 @@ module _ {K V : Type 0} where
     pub found : lookup_entry (eq k) (pairs c) ≡ Some pair
 
   -- the node n of the key k was taken out of the map v and of its first `count` lists, and w is left
-  pub record IsRemoved (eq : K → K → Bool) (count : ℕ) (v : Multi (K × V)) (k : K) (n : Element (K × V)) (w : Multi (K × V))
+  pub record IsRemoved (eq : K → K → Bool) (count : ℕ) (v : Mapped (K × V)) (k : K) (n : Element (K × V)) (w : Mapped (K × V))
       : Type 0 where
     pub spot : Ptr
     pub found : IsFound eq v.nodes k spot
     pub taken : IsTaken v.nodes spot n w.nodes
     pub lists : (j : ℕ) → j < count → list_at j w.lists ≡ without spot (list_at j v.lists)
+    pub buckets : w.buckets ≡ v.buckets
 
   -- the node n came into the map v and to the back of list 0, is at p, and w is the map then
-  pub record IsAdded (v : Multi (K × V)) (p : Ptr) (n : Element (K × V)) (w : Multi (K × V)) : Type 0 where
+  pub record IsAdded (v : Mapped (K × V)) (p : Ptr) (n : Element (K × V)) (w : Mapped (K × V)) : Type 0 where
     pub nodes : w.nodes ≡ v.nodes ++ (p, n) ∷ []
     pub list : list_at 0 w.lists ≡ list_at 0 v.lists ++ p ∷ []
-    pub others : SameBut 0 v.lists w.lists
+    pub others : OthersStay 0 v w
 
   -- the node n is in the map at p in the place of the one that had its key, if there was one
-  pub record IsInserted (eq : K → K → Bool) (count : ℕ) (v : Multi (K × V)) (n : Element (K × V)) (p : Ptr)
-      (old : Option (Element (K × V))) (w : Multi (K × V)) : Type 0 where
-    pub rest : Multi (K × V)
+  pub record IsInserted (eq : K → K → Bool) (count : ℕ) (v : Mapped (K × V)) (n : Element (K × V)) (p : Ptr)
+      (old : Option (Element (K × V))) (w : Mapped (K × V)) : Type 0 where
+    pub rest : Mapped (K × V)
     pub replaced : MatchOption old ((lookup (eq n.value.0) (pairs v.nodes) ≡ None) × (rest ≡ v))
         (λ o. IsRemoved eq count v n.value.0 o rest)
     pub added : IsAdded rest p n w

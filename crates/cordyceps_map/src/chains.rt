@@ -140,8 +140,10 @@ pub(crate) fn take_out<K: Eq + Drop, V: Drop, H: Hooks>(
 ) -> Option<MapNode<K, V, H>>
     requires { IsBucketOf K.eq nodes.old.nodes buckets.old key.now bucket }
     ensures removed { MatchOption result
-        ((lookup (K.eq key.now) (pairs (shown nodes.old.nodes)) ≡ None) × (seen nodes.new ≡ seen nodes.old))
-        (λ n. IsRemoved K.eq H.count (seen nodes.old) key.now n (seen nodes.new)) }
+        ((lookup (K.eq key.now) (pairs (shown nodes.old.nodes)) ≡ None)
+        × (seen nodes.new (length buckets.new) ≡ seen nodes.old (length buckets.old)))
+        (λ n. IsRemoved K.eq H.count (seen nodes.old (length buckets.old)) key.now n
+        (seen nodes.new (length buckets.new))) }
     ensures gone { lookup (K.eq key.now) (pairs (shown nodes.new.nodes)) ≡ None }
     ensures kept { (p : Ptr) → HasSpot nodes.old.nodes p → (IsFound K.eq (shown nodes.old.nodes) key.now p → ⊥)
         → HasSpot nodes.new.nodes p }

@@ -8,10 +8,10 @@ ghost use Rattle.std.proofs.Common.{subst, sym};
 ghost use denote.RawPtr.{Ptr};
 ghost use Rattle.cordyceps_base.specs.BySpot.{HasSpot};
 ghost use Rattle.cordyceps_many.specs.InOrder.{IsInOrder, IsPutInOrder};
-ghost use Rattle.cordyceps_many.specs.MultiList.{list_at, SameBut};
+ghost use Rattle.cordyceps_many.specs.MultiList.{list_at};
 ghost use Rattle.cordyceps_many.specs.Threads.{is_in};
 ghost use Rattle.cordyceps_map.specs.Orders.{ComparesByValue, preorder_on};
-ghost use Rattle.cordyceps_map.specs.StableMap.{valued};
+ghost use Rattle.cordyceps_map.specs.StableMap.{valued, OthersStay};
 ghost use Rattle.cordyceps_single.specs.ByKey.{by_key};
 ghost use Rattle.cordyceps_single.specs.Preorder.{IsPreorder};
 
@@ -69,7 +69,7 @@ impl<K: Eq + Hash, V, H: Hooks, S: BuildHasher> StableMap<K, V, H, S> {
             → O.compares_by order.now cmp
             → IsInOrder cmp (valued self.old.nodes) (list_at i self.old.lists)
             → IsInOrder cmp (valued self.new.nodes) (list_at i self.new.lists) }
-        ensures others { SameBut i self.old.lists self.new.lists }
+        ensures others { OthersStay i self.old self.new }
         ensures in_list { is_in at (list_at i self.new.lists) ≡ true }
         ensures kept { (p : Ptr) → HasSpot self.old.nodes p → HasSpot self.new.nodes p }
     {

@@ -2,8 +2,9 @@
 ghost use Rattle.std.specs.Prelude.{◌≡◌, ℕ, ◌<◌, [], ◌∷◌, ◌++◌, length, true, false, MatchOption, IfSome};
 ghost use denote.RawPtr.{Ptr};
 ghost use Rattle.cordyceps_base.specs.BySpot.{HasSpot};
-ghost use Rattle.cordyceps_many.specs.MultiList.{list_at, SameBut, IsFirstOf, IsLastOf, AreNextIn};
+ghost use Rattle.cordyceps_many.specs.MultiList.{list_at, IsFirstOf, IsLastOf, AreNextIn};
 ghost use Rattle.cordyceps_many.specs.Threads.{is_in, without, with_before, with_after};
+ghost use Rattle.cordyceps_map.specs.StableMap.{OthersStay};
 
 use crate::stable_map::StableMap;
 use cordyceps_many::hooks::Hooks;
@@ -94,7 +95,7 @@ impl<K: Eq + Hash, V, H: Hooks, S: BuildHasher> StableMap<K, V, H, S> {
         requires fits { length (list_at i self.old.lists) < usize.MAX }
         ensures nodes { self.new.nodes ≡ self.old.nodes }
         ensures list { list_at i self.new.lists ≡ list_at i self.old.lists ++ at ∷ [] }
-        ensures others { SameBut i self.old.lists self.new.lists }
+        ensures others { OthersStay i self.old self.new }
         ensures in_list { is_in at (list_at i self.new.lists) ≡ true }
         ensures kept { (p : Ptr) → HasSpot self.old.nodes p → HasSpot self.new.nodes p }
     {
@@ -113,7 +114,7 @@ impl<K: Eq + Hash, V, H: Hooks, S: BuildHasher> StableMap<K, V, H, S> {
         requires fits { length (list_at i self.old.lists) < usize.MAX }
         ensures nodes { self.new.nodes ≡ self.old.nodes }
         ensures list { list_at i self.new.lists ≡ at ∷ list_at i self.old.lists }
-        ensures others { SameBut i self.old.lists self.new.lists }
+        ensures others { OthersStay i self.old self.new }
         ensures in_list { is_in at (list_at i self.new.lists) ≡ true }
         ensures kept { (p : Ptr) → HasSpot self.old.nodes p → HasSpot self.new.nodes p }
     {
@@ -133,7 +134,7 @@ impl<K: Eq + Hash, V, H: Hooks, S: BuildHasher> StableMap<K, V, H, S> {
         requires fits { length (list_at i self.old.lists) < usize.MAX }
         ensures nodes { self.new.nodes ≡ self.old.nodes }
         ensures list { list_at i self.new.lists ≡ with_before other at (list_at i self.old.lists) }
-        ensures others { SameBut i self.old.lists self.new.lists }
+        ensures others { OthersStay i self.old self.new }
         ensures in_list { is_in at (list_at i self.new.lists) ≡ true }
         ensures kept { (p : Ptr) → HasSpot self.old.nodes p → HasSpot self.new.nodes p }
     {
@@ -153,7 +154,7 @@ impl<K: Eq + Hash, V, H: Hooks, S: BuildHasher> StableMap<K, V, H, S> {
         requires fits { length (list_at i self.old.lists) < usize.MAX }
         ensures nodes { self.new.nodes ≡ self.old.nodes }
         ensures list { list_at i self.new.lists ≡ with_after other at (list_at i self.old.lists) }
-        ensures others { SameBut i self.old.lists self.new.lists }
+        ensures others { OthersStay i self.old self.new }
         ensures in_list { is_in at (list_at i self.new.lists) ≡ true }
         ensures kept { (p : Ptr) → HasSpot self.old.nodes p → HasSpot self.new.nodes p }
     {
@@ -170,7 +171,7 @@ impl<K: Eq + Hash, V, H: Hooks, S: BuildHasher> StableMap<K, V, H, S> {
         requires in_list { is_in at (list_at i self.old.lists) ≡ true }
         ensures nodes { self.new.nodes ≡ self.old.nodes }
         ensures list { list_at i self.new.lists ≡ without at (list_at i self.old.lists) }
-        ensures others { SameBut i self.old.lists self.new.lists }
+        ensures others { OthersStay i self.old self.new }
         ensures out { is_in at (list_at i self.new.lists) ≡ false }
         ensures there { HasSpot self.new.nodes at }
         ensures kept { (p : Ptr) → HasSpot self.old.nodes p → HasSpot self.new.nodes p }
@@ -188,7 +189,7 @@ impl<K: Eq + Hash, V, H: Hooks, S: BuildHasher> StableMap<K, V, H, S> {
         requires there { HasSpot self.old.nodes at }
         ensures nodes { self.new.nodes ≡ self.old.nodes }
         ensures list { list_at i self.new.lists ≡ without at (list_at i self.old.lists) }
-        ensures others { SameBut i self.old.lists self.new.lists }
+        ensures others { OthersStay i self.old self.new }
         ensures out { is_in at (list_at i self.new.lists) ≡ false }
         ensures kept { (p : Ptr) → HasSpot self.old.nodes p → HasSpot self.new.nodes p }
     {
@@ -205,6 +206,7 @@ impl<K: Eq + Hash, V, H: Hooks, S: BuildHasher> StableMap<K, V, H, S> {
         ensures all { list_at 0 self.new.lists ≡ list_at 0 self.old.lists }
         ensures others { (j : ℕ) → 0 < j → j < H.count
             → list_at j self.new.lists ≡ without at (list_at j self.old.lists) }
+        ensures buckets { self.new.buckets ≡ self.old.buckets }
         ensures out { (j : ℕ) → 0 < j → j < H.count → is_in at (list_at j self.new.lists) ≡ false }
         ensures kept { (p : Ptr) → HasSpot self.old.nodes p → HasSpot self.new.nodes p }
     {
@@ -221,7 +223,7 @@ impl<K: Eq + Hash, V, H: Hooks, S: BuildHasher> StableMap<K, V, H, S> {
         requires in_list { is_in at (list_at i self.old.lists) ≡ true }
         ensures nodes { self.new.nodes ≡ self.old.nodes }
         ensures list { list_at i self.new.lists ≡ without at (list_at i self.old.lists) ++ at ∷ [] }
-        ensures others { SameBut i self.old.lists self.new.lists }
+        ensures others { OthersStay i self.old self.new }
         ensures in_list { is_in at (list_at i self.new.lists) ≡ true }
         ensures kept { (p : Ptr) → HasSpot self.old.nodes p → HasSpot self.new.nodes p }
     {
@@ -238,7 +240,7 @@ impl<K: Eq + Hash, V, H: Hooks, S: BuildHasher> StableMap<K, V, H, S> {
         requires in_list { is_in at (list_at i self.old.lists) ≡ true }
         ensures nodes { self.new.nodes ≡ self.old.nodes }
         ensures list { list_at i self.new.lists ≡ at ∷ without at (list_at i self.old.lists) }
-        ensures others { SameBut i self.old.lists self.new.lists }
+        ensures others { OthersStay i self.old self.new }
         ensures in_list { is_in at (list_at i self.new.lists) ≡ true }
         ensures kept { (p : Ptr) → HasSpot self.old.nodes p → HasSpot self.new.nodes p }
     {
@@ -256,7 +258,7 @@ impl<K: Eq + Hash, V, H: Hooks, S: BuildHasher> StableMap<K, V, H, S> {
         ensures nodes { self.new.nodes ≡ self.old.nodes }
         ensures popped { MatchOption result ((list_at i self.old.lists ≡ []) × (list_at i self.new.lists ≡ []))
             (λ p. list_at i self.old.lists ≡ p ∷ list_at i self.new.lists) }
-        ensures others { SameBut i self.old.lists self.new.lists }
+        ensures others { OthersStay i self.old self.new }
         ensures out { IfSome result (λ p. is_in p (list_at i self.new.lists) ≡ false) }
         ensures there { IfSome result (λ p. HasSpot self.new.nodes p) }
         ensures kept { (p : Ptr) → HasSpot self.old.nodes p → HasSpot self.new.nodes p }

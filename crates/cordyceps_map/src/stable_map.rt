@@ -20,18 +20,19 @@
 //!
 //! A bucket is linked one way. A removal walks its bucket from the front to find the node before, which costs what the
 //! lookup has cost already. A second link would cost each node 8 bytes, and a removal one more node to write, which is
-//! often not in the cache. The number of buckets is not part of a map's contract: it changes the speed of a call and
-//! nothing that a call does, and `rehash` states that what the map holds stays. So an insertion never allocates, and
-//! never grows the table by itself.
+//! often not in the cache. A contract sees how many buckets there are, and no more of the table: their number changes
+//! the speed of a call and nothing else that a call does. `rehash` alone changes it. So an insertion never allocates,
+//! and never grows the table by itself.
 //!
 //! It is hashing with separate chains. The list of all nodes in order of arrival is that of Java's `LinkedHashMap`.
 ghost use Rattle.std.specs.Prelude.{◌≡◌, ◌≢◌, ℕ, ◌<◌, ◌≤◌, ◌==◌, List, [], ◌∷◌, ◌++◌, length, true, false};
-ghost use Rattle.std.specs.Prelude.{MatchOption, IfSome, IfOk, is_some, option_copied, None, Some};
+ghost use Rattle.std.specs.Prelude.{MatchOption, MatchResult, IfSome, IfOk, is_some, option_copied, None, Some};
+ghost use Rattle.std.specs.Int.{IsPowerOfTwo, IsNextPowerOfTwo};
 ghost use Rattle.std.specs.Map.{lookup};
 ghost use Rattle.std.specs.Borrow.{sem};
 ghost use denote.RawPtr.{Ptr};
 ghost use Rattle.cordyceps_base.specs.BySpot.{HasSpot, HoldsAt, IsTaken};
-ghost use Rattle.cordyceps_many.specs.MultiList.{list_at};
+ghost use Rattle.cordyceps_many.specs.MultiList.{list_at, HasNumber};
 ghost use Rattle.cordyceps_many.specs.Threads.{is_in, without};
 ghost use Rattle.cordyceps_map.specs.StableMap.{pairs, AreApart, IsFound, IsRemoved, IsInserted};
 ghost use Rattle.cordyceps_map.specs.Chains.{IsEmptyTable};
@@ -48,7 +49,7 @@ use std::hash::{BuildHasher, Hash};
 use std::marker::Model;
 
 /// A map from keys to nodes. A contract sees the nodes, each with its spot, its key and its value, in the order in which
-/// they came, and of each list the spots of its nodes.
+/// they came, of each list the spots of its nodes, and how many buckets its table has.
 ///
 /// A node stays where it is in memory, and keeps its spot as long as it is in the map. Every node is in list 0, and can
 /// be in the others, as those of a `MultiList`. Inserting allocates nothing and cannot be refused.
@@ -73,23 +74,25 @@ pub struct StableMap<K: Eq + Hash, V, H: Hooks, S: BuildHasher> {
 }
 
 impl<K: Eq + Hash, V, H: Hooks, S: BuildHasher> Model for StableMap<K, V, H, S> {
-    ghost use Rattle.cordyceps_many.specs.MultiList.{Multi};
+    ghost use Rattle.std.specs.Prelude.{length};
     ghost use Rattle.cordyceps_map.specs.Chains.{hash_of, IsMap};
-    ghost use Rattle.cordyceps_map.specs.Shown.{shown};
+    ghost use Rattle.cordyceps_map.specs.Shown.{seen};
+    ghost use Rattle.cordyceps_map.specs.StableMap.{Mapped};
 
-    ghost Value = { Multi (K × V) };
+    ghost Value = { Mapped (K × V) };
 
-    ghost view = { λ m. record { nodes = shown m.nodes.nodes; lists = m.nodes.lists } };
+    ghost view = { λ m. seen m.nodes (length m.buckets.items) };
 
     ghost invariant = { λ m. IsMap K.eq (λ k. hash_of S.BuildHasher S.Hasher.Hasher m.hasher (K.hash_input k))
         m.nodes.nodes m.buckets.items };
 }
 
 impl<K: Eq + Hash + Drop, V: Drop, H: Hooks, S: BuildHasher + Drop> StableMap<K, V, H, S> {
-    /// Creates an empty map with a table of at least `capacity` buckets, and hashes keys by `hasher`.
+    /// Creates an empty map, and hashes keys by `hasher`. The number of buckets is the least power of two that is at
+    /// least `capacity`.
     ///
     /// # Errors
-    /// If memory for the table is refused, it returns `AllocError`.
+    /// If memory for the table is refused, or `capacity` is greater than 2 to the 63, it returns `AllocError`.
     ///
     /// # Complexity
     /// O(c), for a capacity of c, with one allocation.
@@ -100,6 +103,7 @@ impl<K: Eq + Hash + Drop, V: Drop, H: Hooks, S: BuildHasher + Drop> StableMap<K,
     ) -> Result<StableMap<K, V, H, S>, AllocError>
         ensures nodes { IfOk result (λ m. m.nodes ≡ []) }
         ensures lists { IfOk result (λ m. (i : ℕ) → list_at i m.lists ≡ []) }
+        ensures buckets { IfOk result (λ m. IsNextPowerOfTwo capacity m.buckets) }
     {
         let buckets = empty_buckets(alloc, capacity)?;
         Ok(StableMap {
@@ -111,18 +115,23 @@ impl<K: Eq + Hash + Drop, V: Drop, H: Hooks, S: BuildHasher + Drop> StableMap<K,
 }
 
 impl<K: Eq + Hash + Drop, V: Drop, H: Hooks, S: BuildHasher> StableMap<K, V, H, S> {
-    /// Allocates a table of at least `capacity` buckets, and links every node into it. What the map holds stays the same.
+    /// Allocates another table, and links every node into it. The number of buckets becomes the least power of two that
+    /// is at least `capacity`, and what the map holds stays the same.
     ///
     /// A map whose nodes are more than its buckets gets slower, so a caller who cannot tell how many there will be calls
     /// it with twice the number of nodes whenever there are as many nodes as buckets.
     ///
     /// # Errors
-    /// If memory for the table is refused, it returns `AllocError`, and the table stays as it is.
+    /// If memory for the table is refused, or `capacity` is greater than 2 to the 63, it returns `AllocError`, and the
+    /// table stays as it is.
     ///
     /// # Complexity
     /// O(n + c), for n nodes and a capacity of c, with one allocation.
     pub fn rehash(&mut self, alloc: Global, capacity: usize) -> Result<(), AllocError>
-        ensures { self.new ≡ self.old }
+        ensures nodes { self.new.nodes ≡ self.old.nodes }
+        ensures lists { self.new.lists ≡ self.old.lists }
+        ensures buckets { MatchResult result (λ _. IsNextPowerOfTwo capacity self.new.buckets)
+            (λ _. self.new.buckets ≡ self.old.buckets) }
     {
         let mut buckets = empty_buckets(alloc, capacity)?;
         fill(&mut self.nodes, buckets.as_mut_slice(), &self.hasher);
@@ -133,7 +142,7 @@ impl<K: Eq + Hash + Drop, V: Drop, H: Hooks, S: BuildHasher> StableMap<K, V, H, 
     }
 
     /// Puts a node in, at the back of list 0. If a node with an equal key is there, it is removed from every list, and
-    /// returned. Requires fewer than `usize::MAX` nodes.
+    /// returned. All other spots stay valid. Requires fewer than `usize::MAX` nodes.
     ///
     /// # Complexity
     /// O(H) if the hashes of the keys are spread, and O(n) at the worst.
@@ -145,7 +154,7 @@ impl<K: Eq + Hash + Drop, V: Drop, H: Hooks, S: BuildHasher> StableMap<K, V, H, 
         ensures no_longer { (j : ℕ) → 0 < j → j < H.count
             → length (list_at j self.new.lists) ≤ length (list_at j self.old.lists) }
         ensures not_in { (j : ℕ) → 0 < j → is_in result.spot (list_at j self.new.lists) ≡ false }
-        ensures kept { (p : Ptr) → HasSpot self.old.nodes p → lookup (K.eq node.value.0) (pairs self.old.nodes) ≡ None
+        ensures kept { (p : Ptr) → HasSpot self.old.nodes p → (IsFound K.eq self.old.nodes node.value.0 p → ⊥)
             → HasSpot self.new.nodes p }
     {
         let key = node.key();
@@ -220,6 +229,17 @@ impl<K: Eq + Hash, V, H: Hooks, S: BuildHasher> StableMap<K, V, H, S> {
     {
         &self.nodes.get(at).key
     }
+
+    /// Returns the number of the node at `at`. Requires that `at` is valid.
+    ///
+    /// # Complexity
+    /// O(1).
+    pub fn id(&self, at: Spot) -> u64
+        requires { HasSpot self.now.nodes at }
+        ensures { HasNumber self.now.nodes at result }
+    {
+        self.nodes.id(at)
+    }
 }
 
 impl<K: Eq + Hash + Drop, V: Drop, H: Hooks, S: BuildHasher> StableMap<K, V, H, S> {
@@ -231,6 +251,7 @@ impl<K: Eq + Hash + Drop, V: Drop, H: Hooks, S: BuildHasher> StableMap<K, V, H, 
         requires { HasSpot self.old.nodes at }
         ensures taken { IsTaken self.old.nodes at result self.new.nodes }
         ensures lists { (j : ℕ) → j < H.count → list_at j self.new.lists ≡ without at (list_at j self.old.lists) }
+        ensures buckets { self.new.buckets ≡ self.old.buckets }
         ensures kept { (p : Ptr) → HasSpot self.old.nodes p → p ≢ at → HasSpot self.new.nodes p }
     {
         // for the proof: no two nodes are at one spot
@@ -267,12 +288,14 @@ impl<K: Eq + Hash, V, H: Hooks, S: BuildHasher> StableMap<K, V, H, S> {
         self.len() == 0
     }
 
-    /// Returns the number of buckets. It is a matter of speed alone: the calls do the same with any number.
+    /// Returns the number of buckets, a power of two. It is a matter of speed alone: the calls do the same with any
+    /// number.
     ///
     /// # Complexity
     /// O(1).
     pub fn bucket_count(&self) -> usize
-        ensures { 0 < result }
+        ensures count { result ≡ self.now.buckets }
+        ensures power { IsPowerOfTwo result }
     {
         self.buckets.len()
     }
@@ -290,15 +313,17 @@ impl<K: Eq + Hash, V, H: Hooks, S: BuildHasher> StableMap<K, V, H, S> {
 
 impl<K: Eq + Hash, V, H: Hooks, S: BuildHasher> StableMap<K, V, H, S> {
     ghost use Rattle.cordyceps_base.specs.Nodes.{spots};
-    ghost use Rattle.cordyceps_base.specs.Spots.{AreDistinct};
+    ghost use Rattle.cordyceps_base.specs.Spots.{AreDistinct, AreNullComparable};
 
     /// Does nothing when the program runs. Its contract states that no two nodes are at one spot or have equal keys,
-    /// that each list has a spot only once, and only spots of nodes, and that list 0 has all of these.
+    /// that no spot is null, that each list has a spot only once, and only spots of nodes, and that list 0 has all of
+    /// these.
     ///
     /// # Complexity
     /// O(1).
     pub fn lists_agree(&self)
         ensures distinct { AreDistinct (spots self.now.nodes) }
+        ensures comparable { AreNullComparable (spots self.now.nodes) }
         ensures once { (i : ℕ) → AreDistinct (list_at i self.now.lists) }
         ensures inside { (i : ℕ) (p : Ptr) → is_in p (list_at i self.now.lists) ≡ true → HasSpot self.now.nodes p }
         ensures all { (p : Ptr) → HasSpot self.now.nodes p → is_in p (list_at 0 self.now.lists) ≡ true }
@@ -356,14 +381,12 @@ pub struct Inserted<K, V, H: Hooks> {
     pub replaced: Option<MapNode<K, V, H>>,
 }
 
-/// Creates a table of at least `capacity` buckets, and at least one.
+/// Creates a table of empty buckets, whose number is the least power of two that is at least `capacity`.
 fn empty_buckets(alloc: Global, capacity: usize) -> Result<Vec<Link>, AllocError>
-    ensures { IfOk result (λ v. IsEmptyTable v.items) }
+    ensures count { IfOk result (λ v. IsNextPowerOfTwo capacity (length v.items)) }
+    ensures empty { IfOk result (λ v. IsEmptyTable v.items) }
 {
-    let count = capacity
-        .max(1)
-        .checked_next_power_of_two()
-        .ok_or(AllocError)?;
+    let count = capacity.checked_next_power_of_two().ok_or(AllocError)?;
     let mut buckets = Vec::new(alloc);
     buckets.resize(count, Link::none())?;
     Ok(buckets)

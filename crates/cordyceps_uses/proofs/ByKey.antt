@@ -8,12 +8,12 @@ use Rattle.cordyceps.specs.Elements.Element.{Element}
 use Rattle.cordyceps.specs.Elements.Nodes.{spots}
 use Rattle.cordyceps.specs.Spots.Spots.{same_ptr, AreDistinct}
 use Rattle.cordyceps.specs.Spots.Entries.{value_at}
-use Rattle.cordyceps.specs.Spots.MultiList.{Multi, list_at}
+use Rattle.cordyceps.specs.Spots.MultiList.{list_at}
 use Rattle.cordyceps.specs.Spots.Threads.{is_in, without, Once}
 use Rattle.cordyceps.proofs.Spots.Members.{in_has}
 use Rattle.cordyceps.proofs.Spots.Threads.{split, differ, parts, without_none, without_gone, apart}
 use Rattle.cordyceps.proofs.Spots.ValueAt.{held_value, value_in, value_joined, value_came, value_left, new_out}
-use Rattle.cordyceps.specs.Spots.StableMap.{pairs, IsFound, IsInserted, IsAdded}
+use Rattle.cordyceps.specs.Spots.StableMap.{Mapped, pairs, IsFound, IsInserted, IsAdded}
 use Rattle.cordyceps_uses.specs.Keyed.{in_order, order, moved_back, IsSound, IsAt, IsTakenOut, IsPut}
 use Rattle.cordyceps_uses.proofs.Ordered.{none_passes, found_past, cut_past, none_cut, passes, unlike, moved_here, order_joined, order_mid, framed, all_of}
 
@@ -25,7 +25,7 @@ once_of (x ∷ s) d = (new_out x s d.0, once_of s d.1)
 pub clear : (l f b : List Ptr) (p : Ptr) → l ≡ f ++ p ∷ b → AreDistinct l → is_in p f ≡ false
 clear l f b p e d = (apart f p b (subst Once e (once_of l d))).before
 
-module _ {K X : Type 0} (eq : K → K → Bool) (m : Multi (K × X)) (s : IsSound eq m) where
+module _ {K X : Type 0} (eq : K → K → Bool) (m : Mapped (K × X)) (s : IsSound eq m) where
   pub same_test : (k q : K) → eq k q ≡ true → eq k ≡ eq q
   same_test k q e = λ i y. s.laws.congr k q y e i
 
@@ -80,14 +80,14 @@ module _ {K X : Type 0} (eq : K → K → Bool) (m : Multi (K × X)) (s : IsSoun
         (λ no. ap (in_order m.nodes) (without_none p (list_at i m.lists) no) ∙ sym (none_cut (eq x.0) (order i m) (none_like (list_at i m.lists) no)))
 
     -- ---- the node at p comes last
-    pub moved : (k : K) → eq k x.0 ≡ true → (w : Multi (K × X)) → w.nodes ≡ m.nodes → list_at 0 w.lists ≡ without p (list_at 0 m.lists) ++ p ∷ [] → order 0 w ≡ moved_back (eq k) (order 0 m)
+    pub moved : (k : K) → eq k x.0 ≡ true → (w : Mapped (K × X)) → w.nodes ≡ m.nodes → list_at 0 w.lists ≡ without p (list_at 0 m.lists) ++ p ∷ [] → order 0 w ≡ moved_back (eq k) (order 0 m)
     moved k e w nodes list =
         ap (λ c. in_order c (list_at 0 w.lists)) nodes ∙ ap (in_order m.nodes) list
         ∙ order_mid m.nodes (without p (list_at 0 m.lists)) [] p x v ∙ ap (λ l. l ++ x ∷ []) (order_without 0)
         ∙ sym (ap (λ t. moved_back t (order 0 m)) (same_test k x.0 e) ∙ moved_here (eq x.0) (order 0 m) x (found_in 0 listed))
 
     -- ---- the node at p goes
-    module _ (count : ℕ) (some : 0 < count) (e : Element (K × X)) (is : e.value ≡ x) (w : Multi (K × X)) (taken : IsTaken m.nodes p e w.nodes) (lists : (j : ℕ) → j < count → list_at j w.lists ≡ without p (list_at j m.lists)) where
+    module _ (count : ℕ) (some : 0 < count) (e : Element (K × X)) (is : e.value ≡ x) (w : Mapped (K × X)) (taken : IsTaken m.nodes p e w.nodes) (lists : (j : ℕ) → j < count → list_at j w.lists ≡ without p (list_at j m.lists)) where
       out_of : (j : ℕ) → is_in p (without p (list_at j m.lists)) ≡ false
       out_of j = without_gone p (list_at j m.lists) (once_of (list_at j m.lists) (s.once j))
 
@@ -129,7 +129,7 @@ module _ {K X : Type 0} (eq : K → K → Bool) (m : Multi (K × X)) (s : IsSoun
     spot_apart out = ap (λ t. lookup_entry t (order i m)) (same_test k a.entry.0 a.same) ∙ none_like p a.entry a.value (list_at i m.lists) out
 
 -- ---- the node of a key went
-module _ {K X : Type 0} (eq : K → K → Bool) (laws : IsEquivalence eq) (m : Multi (K × X)) (k : K) (p : Ptr) (a : IsAt eq 0 m k p) (count : ℕ) (x : K × X) (w : Multi (K × X)) (t : IsTakenOut eq count m p x w) where
+module _ {K X : Type 0} (eq : K → K → Bool) (laws : IsEquivalence eq) (m : Mapped (K × X)) (k : K) (p : Ptr) (a : IsAt eq 0 m k p) (count : ℕ) (x : K × X) (w : Mapped (K × X)) (t : IsTakenOut eq count m p x w) where
   pub entry_is : a.entry ≡ x
   entry_is = let u = sym a.value ∙ t.value in cc
 
@@ -143,7 +143,7 @@ module _ {K X : Type 0} (eq : K → K → Bool) (laws : IsEquivalence eq) (m : M
   gone_by_key = ap (λ f. lookup_entry f (order 0 w)) test_is ∙ t.out.gone
 
 -- ---- a node comes
-module _ {K X : Type 0} (eq : K → K → Bool) (v : Multi (K × X)) (s : IsSound eq v) (n : Element (K × X)) (none : lookup_entry (eq n.value.0) (order 0 v) ≡ None) (count : ℕ) (p : Ptr) (w : Multi (K × X)) (z : IsSound eq w) where
+module _ {K X : Type 0} (eq : K → K → Bool) (v : Mapped (K × X)) (s : IsSound eq v) (n : Element (K × X)) (none : lookup_entry (eq n.value.0) (order 0 v) ≡ None) (count : ℕ) (p : Ptr) (w : Mapped (K × X)) (z : IsSound eq w) where
   -- no other goes
   rest_is : (old : Option (Element (K × X))) (r : IsInserted eq count v n p old w) → r.rest ≡ v
   rest_is None r = r.replaced.1
@@ -174,9 +174,9 @@ module _ {K X : Type 0} (eq : K → K → Bool) (v : Multi (K × X)) (s : IsSoun
     put = record {
       value = came_value;
       list = r.list;
-      others = r.others;
+      others = r.others.lists;
       entries = last;
-      orders = λ j some. ap (in_order w.nodes) (r.others j (λ e. absurd (omega (arith, some, e)))) ∙ order_kept j;
+      orders = λ j some. ap (in_order w.nodes) (r.others.lists j (λ e. absurd (omega (arith, some, e)))) ∙ order_kept j;
       found = ap (lookup_entry (eq n.value.0)) last ∙ found_past (eq n.value.0) (order 0 v) [] n.value none (s.laws.refl n.value.0);
     }
 

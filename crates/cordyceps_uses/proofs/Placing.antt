@@ -6,7 +6,8 @@ use denote.RawPtr.{Ptr}
 use Rattle.cordyceps.specs.Elements.Nodes.{Nodes}
 use Rattle.cordyceps.specs.Spots.Spots.{index_of, AreDistinct}
 use Rattle.cordyceps.specs.Spots.Entries.{value_at}
-use Rattle.cordyceps.specs.Spots.MultiList.{Multi, list_at, SameBut, IsFirstOf, IsLastOf, AreNextIn}
+use Rattle.cordyceps.specs.Spots.MultiList.{list_at, SameBut, IsFirstOf, IsLastOf, AreNextIn}
+use Rattle.cordyceps.specs.Spots.StableMap.{Mapped}
 use Rattle.cordyceps.specs.Spots.Threads.{with_after}
 use Rattle.cordyceps_uses.specs.Keyed.{in_order, order, HasAt, AreFrom, IsPassed, IsLinkedIn}
 use Rattle.cordyceps_uses.proofs.ByKey.{clear}
@@ -41,7 +42,7 @@ module _ {K X : Type 0} (rank : X → ℕ) (c : Nodes (K × X)) (l : List Ptr) (
     gone_on (Some q) n = record { before = n.before; after = p ∷ n.after; whole = n.whole; late = from_here (n.before ++ q ∷ []) n.after (n.whole ∙ sym (append_assoc n.before (q ∷ []) (p ∷ n.after))) }
 
 -- ---- the node at n is linked there
-module _ {K X : Type 0} (rank : X → ℕ) (i : ℕ) (m w : Multi (K × X)) (n : Ptr) (y : K × X) (v : value_at m.nodes n ≡ Some y) (nodes : w.nodes ≡ m.nodes) (others : SameBut i m.lists w.lists) where
+module _ {K X : Type 0} (rank : X → ℕ) (i : ℕ) (m w : Mapped (K × X)) (n : Ptr) (y : K × X) (v : value_at m.nodes n ≡ Some y) (nodes : w.nodes ≡ m.nodes) (others : SameBut i m.lists w.lists) where
   -- with this before it and that after it
   linked : (f b : List Ptr) → list_at i m.lists ≡ f ++ b → list_at i w.lists ≡ f ++ n ∷ b
       → All (λ x. rank x.1 ≤ rank y.1) (in_order m.nodes f) → AreFrom rank (suc (rank y.1)) (in_order m.nodes b)
@@ -85,5 +86,5 @@ module _ {K X : Type 0} (rank : X → ℕ) (i : ℕ) (m w : Multi (K × X)) (n :
       linked [] (list_at i m.lists) refl list (All-nil (λ x. rank x.1 ≤ rank y.1)) late (omega arith, from_less rank (suc (rank y.1)) (rank y.1) (order i m) (omega arith) late)
 
 -- the other lists stay
-pub order_other : {K X : Type 0} (rank : X → ℕ) (i : ℕ) (v : Multi (K × X)) (p : Ptr) (w : Multi (K × X)) → IsLinkedIn rank i v p w → (j : ℕ) → j ≢ i → order j w ≡ order j v
+pub order_other : {K X : Type 0} (rank : X → ℕ) (i : ℕ) (v : Mapped (K × X)) (p : Ptr) (w : Mapped (K × X)) → IsLinkedIn rank i v p w → (j : ℕ) → j ≢ i → order j w ≡ order j v
 order_other rank i v p w l j other = ap (λ c. in_order c (list_at j w.lists)) l.nodes ∙ ap (in_order v.nodes) (l.others j other)

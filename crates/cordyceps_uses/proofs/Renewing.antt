@@ -4,11 +4,12 @@ use Rattle.std.specs.Map.{remove_entry}
 use denote.RawPtr.{Ptr}
 use Rattle.cordyceps.specs.Spots.Spots.{same_ptr}
 use Rattle.cordyceps.proofs.Spots.{same_ptr_eq}
-use Rattle.cordyceps.specs.Spots.MultiList.{Multi, list_at, SameBut}
+use Rattle.cordyceps.specs.Spots.MultiList.{list_at, SameBut}
 use Rattle.cordyceps.specs.Spots.Threads.{is_in, without}
 use Rattle.cordyceps.proofs.Spots.Members.{in_mid, other_mid}
 use Rattle.cordyceps.proofs.Spots.Threads.{split, other_way, in_append, in_there, length_without, without_other}
 use Rattle.cordyceps.specs.Spots.MapLends.{with_value_at}
+use Rattle.cordyceps.specs.Spots.StableMap.{Mapped}
 use Rattle.cordyceps_uses.specs.declared.expiring.Timed.{Timed}
 use Rattle.cordyceps_uses.specs.Expiring.{Entry, AreTimed}
 use Rattle.cordyceps_uses.specs.Keyed.{in_order, order, moved_back, AreFrom, IsAt, IsSound, IsLinkedIn}
@@ -19,13 +20,13 @@ use Rattle.cordyceps_uses.proofs.States.{until}
 use Rattle.cordyceps_uses.proofs.Written.{written_left, written_last}
 
 -- the node at p, with the entry x of the key k, was taken out of list 1, and t was written there
-module _ {K V : Type 0} (eq : K → K → Bool) (m : Multi (Entry K V)) (s : IsSound eq m) (timed : AreTimed m) (k : K) (p : Ptr) (a : IsAt eq 0 m k p)
-    (w : Multi (Entry K V)) (nodes : w.nodes ≡ m.nodes) (one : list_at 1 w.lists ≡ without p (list_at 1 m.lists)) (others : SameBut 1 m.lists w.lists)
+module _ {K V : Type 0} (eq : K → K → Bool) (m : Mapped (Entry K V)) (s : IsSound eq m) (timed : AreTimed m) (k : K) (p : Ptr) (a : IsAt eq 0 m k p)
+    (w : Mapped (Entry K V)) (nodes : w.nodes ≡ m.nodes) (one : list_at 1 w.lists ≡ without p (list_at 1 m.lists)) (others : SameBut 1 m.lists w.lists)
     (t : Timed V) (z : IsSound eq (with_value_at w p t)) where
   zero_same : list_at 0 w.lists ≡ list_at 0 m.lists
   zero_same = others 0 (λ e. absurd cc)
 
-  abbrev n : Multi (Entry K V)
+  abbrev n : Mapped (Entry K V)
   n = with_value_at w p t
 
   abbrev y : Entry K V
@@ -35,7 +36,7 @@ module _ {K V : Type 0} (eq : K → K → Bool) (m : Multi (Entry K V)) (s : IsS
   timed_here = timed.all p (listed eq m s p a.entry a.value)
 
   -- and moved to the back of list 0
-  module _ (u : Multi (Entry K V)) (same : u.nodes ≡ n.nodes) (list : list_at 0 u.lists ≡ without p (list_at 0 w.lists) ++ p ∷ []) (rest : SameBut 0 w.lists u.lists) (moved : order 0 u ≡ moved_back (eq k) (order 0 n)) where
+  module _ (u : Mapped (Entry K V)) (same : u.nodes ≡ n.nodes) (list : list_at 0 u.lists ≡ without p (list_at 0 w.lists) ++ p ∷ []) (rest : SameBut 0 w.lists u.lists) (moved : order 0 u ≡ moved_back (eq k) (order 0 n)) where
     one_now : list_at 1 u.lists ≡ without p (list_at 1 m.lists)
     one_now = rest 1 (λ e. absurd cc) ∙ one
 
@@ -46,7 +47,7 @@ module _ {K V : Type 0} (eq : K → K → Bool) (m : Multi (Entry K V)) (s : IsS
     written_sorted = subst (AreFrom until 0) (sym (ap (λ c. in_order c (list_at 1 u.lists)) same ∙ ap (in_order n.nodes) one_now ∙ written_left eq m s k p a w nodes zero_same t z 1)) (from_cut until (eq a.entry.0) 0 (order 1 m) timed.sorted)
 
     -- and linked by its time
-    module _ (v : Multi (Entry K V)) (l : IsLinkedIn until 1 u p v) where
+    module _ (v : Mapped (Entry K V)) (l : IsLinkedIn until 1 u p v) where
       pub renewed_entries : order 0 v ≡ remove_entry (eq k) (order 0 m) ++ y ∷ []
       renewed_entries = order_other until 1 u p v l 0 (λ e. absurd cc) ∙ written_last eq m s k p a w nodes zero_same t z u moved
 

@@ -7,7 +7,8 @@ use denote.RawPtr.{Ptr}
 use Rattle.cordyceps.specs.Spots.Spots.{same_ptr}
 use Rattle.cordyceps.proofs.Spots.{same_ptr_eq}
 use Rattle.cordyceps.specs.Spots.Entries.{value_at}
-use Rattle.cordyceps.specs.Spots.MultiList.{Multi, list_at, SameBut, IsFirstOf}
+use Rattle.cordyceps.specs.Spots.MultiList.{list_at, SameBut, IsFirstOf}
+use Rattle.cordyceps.specs.Spots.StableMap.{Mapped}
 use Rattle.cordyceps.specs.Spots.Threads.{is_in, without}
 use Rattle.cordyceps.proofs.Spots.Members.{in_mid, other_mid, has_in, first_in}
 use Rattle.cordyceps.proofs.Spots.Threads.{split, differ, other_way, in_append, in_there, length_without, without_other, without_gone}
@@ -37,8 +38,8 @@ module _ {K V : Type 0} (now : ℕ) (t : K → Bool) (s : List (Entry K V)) (x :
   pub used_here : live now t s ≡ Some x → used now t s ≡ moved_back t s
   used_here e = let f : Option (Entry K V) → List (Entry K V) = λ o. elim o [ Some y ↦ moved_back t s | None ↦ s ] in ap f e
 
-module _ {K V : Type 0} (eq : K → K → Bool) (m : Multi (Entry K V)) (s : IsSound eq m) (t : AreTimed m) where
-  module _ (p : Ptr) (x : Entry K V) (v : value_at m.nodes p ≡ Some x) (w : Multi (Entry K V)) where
+module _ {K V : Type 0} (eq : K → K → Bool) (m : Mapped (Entry K V)) (s : IsSound eq m) (t : AreTimed m) where
+  module _ (p : Ptr) (x : Entry K V) (v : value_at m.nodes p ≡ Some x) (w : Mapped (Entry K V)) where
     here : is_in p (list_at 0 m.lists) ≡ true
     here = listed eq m s p x v
 
@@ -71,7 +72,7 @@ module _ {K V : Type 0} (eq : K → K → Bool) (m : Multi (Entry K V)) (s : IsS
         }
 
   -- a node came to q, and is also in the order of the times
-  pub put_timed : (w : Multi (Entry K V)) (q : Ptr) (y : Entry K V) (n : Multi (Entry K V)) → IsPut eq m q y n → IsLinkedIn until 1 n q w → AreTimed w
+  pub put_timed : (w : Mapped (Entry K V)) (q : Ptr) (y : Entry K V) (n : Mapped (Entry K V)) → IsPut eq m q y n → IsLinkedIn until 1 n q w → AreTimed w
   put_timed w q y n a l = record {
     long = let was = ap length (a.others 1 (λ e. absurd cc)) in let old = ap length l.old in let new = ap length l.new in let one = length-append l.before l.after in let two = length-append l.before (q ∷ l.after) in
         let zero = ap length (l.others 0 (λ e. absurd cc) ∙ a.list) in let last = length-append (list_at 0 m.lists) (q ∷ []) in let e = t.long in omega (arith, was, old, new, one, two, zero, last, e);

@@ -8,7 +8,8 @@ use Rattle.cordyceps.specs.Spots.BySpot.{HasSpot}
 use Rattle.cordyceps.specs.Spots.Spots.{same_ptr}
 use Rattle.cordyceps.proofs.Spots.{same_ptr_eq}
 use Rattle.cordyceps.specs.Spots.Entries.{value_at}
-use Rattle.cordyceps.specs.Spots.MultiList.{Multi, list_at, SameBut, IsFirstOf}
+use Rattle.cordyceps.specs.Spots.MultiList.{list_at, SameBut, IsFirstOf}
+use Rattle.cordyceps.specs.Spots.StableMap.{Mapped}
 use Rattle.cordyceps.specs.Spots.Threads.{is_in, without, Once}
 use Rattle.cordyceps.proofs.Spots.Members.{in_self, other_mid}
 use Rattle.cordyceps.proofs.Spots.Threads.{split, differ, other_way, in_there, in_more, not_in_both, length_without, without_other, without_gone}
@@ -42,7 +43,7 @@ pub entry_at : {K X : Type 0} (t : K → Bool) (c : Nodes (K × X)) (l : List Pt
 entry_at t c [] x e = absurd cc
 entry_at t c (p ∷ l) x e = entry_by t c p l x (entry_at t c l x) (value_at c p) refl e
 
-module _ {T : Type 0} (m : Multi (Entry T)) (s : IsSound nat_eq m) where
+module _ {T : Type 0} (m : Mapped (Entry T)) (s : IsSound nat_eq m) where
   -- a list that a node is not in has room for it
   pub room : (i : ℕ) (p : Ptr) → HasSpot m.nodes p → is_in p (list_at i m.lists) ≡ false → suc (length (list_at i m.lists)) ≤ length (list_at 0 m.lists)
   room i p h out = no_longer (p ∷ list_at i m.lists) (list_at 0 m.lists) (out, once_of (list_at i m.lists) (s.once i)) (λ q e. split (same_ptr p q)
@@ -113,7 +114,7 @@ module _ {T : Type 0} (m : Multi (Entry T)) (s : IsSound nat_eq m) where
           let other = other_way q p (differ q p (without p (list_at i m.lists)) h (out_of i)) in (other, sym (without_other p q (list_at i m.lists) other) ∙ h)
 
       -- ---- it was ready, and waits now
-      module _ (u : Multi (Entry T)) (nodes : u.nodes ≡ m.nodes) (zero : list_at 0 u.lists ≡ list_at 0 m.lists) (one : list_at 1 u.lists ≡ without p (list_at 1 m.lists)) (two : list_at 2 u.lists ≡ list_at 2 m.lists ++ p ∷ []) where
+      module _ (u : Mapped (Entry T)) (nodes : u.nodes ≡ m.nodes) (zero : list_at 0 u.lists ≡ list_at 0 m.lists) (one : list_at 1 u.lists ≡ without p (list_at 1 m.lists)) (two : list_at 2 u.lists ≡ list_at 2 m.lists ++ p ∷ []) where
         order_of : (i : ℕ) (l : List Ptr) → list_at i u.lists ≡ l → order i u ≡ in_order m.nodes l
         order_of i l e = ap (λ c. in_order c (list_at i u.lists)) nodes ∙ ap (in_order m.nodes) e
 
@@ -133,7 +134,7 @@ module _ {T : Type 0} (m : Multi (Entry T)) (s : IsSound nat_eq m) where
         }
 
       -- ---- it is ready now, and does not wait
-      module _ (w : Multi (Entry T)) (nodes : w.nodes ≡ m.nodes) (two : list_at 2 w.lists ≡ without p (list_at 2 m.lists)) (others : SameBut 2 m.lists w.lists) where
+      module _ (w : Mapped (Entry T)) (nodes : w.nodes ≡ m.nodes) (two : list_at 2 w.lists ≡ without p (list_at 2 m.lists)) (others : SameBut 2 m.lists w.lists) where
         order_kept : (i : ℕ) (l : List Ptr) → list_at i w.lists ≡ l → order i w ≡ in_order m.nodes l
         order_kept i l e = ap (λ c. in_order c (list_at i w.lists)) nodes ∙ ap (in_order m.nodes) e
 
@@ -143,7 +144,7 @@ module _ {T : Type 0} (m : Multi (Entry T)) (s : IsSound nat_eq m) where
         pub ready_sorted : AreFrom priority 0 (order 1 w)
         ready_sorted = subst (AreFrom priority 0) (sym (order_kept 1 (list_at 1 m.lists) same1)) t.sorted
 
-        module _ (u : Multi (Entry T)) (l : IsLinkedIn priority 1 w p u) where
+        module _ (u : Mapped (Entry T)) (l : IsLinkedIn priority 1 w p u) where
           pub readied : IsReadied (shown m) x (shown u)
           readied =
               let is : l.entry ≡ x = (let a = sym l.value ∙ ap (λ c. value_at c p) nodes ∙ v in cc) in record {
@@ -162,7 +163,7 @@ module _ {T : Type 0} (m : Multi (Entry T)) (s : IsSound nat_eq m) where
           }
 
       -- ---- it went
-      pub left_table : (u : Multi (Entry T)) → IsTakenOut nat_eq 3 m p x u → IsTable u
+      pub left_table : (u : Mapped (Entry T)) → IsTakenOut nat_eq 3 m p x u → IsTable u
       left_table u r =
           let one = r.lists 1 (omega arith) in let two = r.lists 2 (omega arith) in record {
             apart = λ q h. let i = left_in 1 q (sym (ap (is_in q) one) ∙ h) in ap (is_in q) two ∙ without_other p q (list_at 2 m.lists) i.0 ∙ t.apart q i.1;
@@ -170,24 +171,24 @@ module _ {T : Type 0} (m : Multi (Entry T)) (s : IsSound nat_eq m) where
           }
 
       -- ---- it was the first that is ready, and runs now
-      pub first_ready : (u : Multi (Entry T)) → u.nodes ≡ m.nodes → list_at 1 m.lists ≡ p ∷ list_at 1 u.lists → order 1 m ≡ x ∷ order 1 u
+      pub first_ready : (u : Mapped (Entry T)) → u.nodes ≡ m.nodes → list_at 1 m.lists ≡ p ∷ list_at 1 u.lists → order 1 m ≡ x ∷ order 1 u
       first_ready u nodes one = ap (in_order m.nodes) one ∙ order_here m.nodes p (list_at 1 u.lists) x v ∙ ap (λ c. x ∷ in_order c (list_at 1 u.lists)) (sym nodes)
 
-      pub run_table : (u : Multi (Entry T)) → u.nodes ≡ m.nodes → list_at 1 m.lists ≡ p ∷ list_at 1 u.lists → SameBut 1 m.lists u.lists → IsTable u
+      pub run_table : (u : Mapped (Entry T)) → u.nodes ≡ m.nodes → list_at 1 m.lists ≡ p ∷ list_at 1 u.lists → SameBut 1 m.lists u.lists → IsTable u
       run_table u nodes one others = record {
         apart = λ q h. ap (is_in q) (others 2 (λ e. absurd cc)) ∙ t.apart q (ap (is_in q) one ∙ in_more q p (list_at 1 u.lists) h);
         sorted = from_less priority (priority x.1) 0 (order 1 u) (omega arith) ((subst (AreFrom priority 0) (first_ready u nodes one) t.sorted).1);
       }
 
     -- ---- a node came
-    pub put_table : (p : Ptr) (x : Entry T) (u : Multi (Entry T)) → IsPut nat_eq m p x u → IsTable u
+    pub put_table : (p : Ptr) (x : Entry T) (u : Mapped (Entry T)) → IsPut nat_eq m p x u → IsTable u
     put_table p x u r =
         let one = r.others 1 (λ e. absurd cc) in let two = r.others 2 (λ e. absurd cc) in record {
           apart = λ q h. ap (is_in q) two ∙ t.apart q (sym (ap (is_in q) one) ∙ h);
           sorted = subst (AreFrom priority 0) (sym (r.orders 1 (omega arith))) t.sorted;
         }
 
-  pub spawned : (p : Ptr) (x : Entry T) (w u : Multi (Entry T)) → task x.0 (order 0 m) ≡ None → IsPut nat_eq m p x w → HasAt w (λ y. IsReadied (shown w) y (shown u)) p → IsSpawned (shown m) x (shown u)
+  pub spawned : (p : Ptr) (x : Entry T) (w u : Mapped (Entry T)) → task x.0 (order 0 m) ≡ None → IsPut nat_eq m p x w → HasAt w (λ y. IsReadied (shown w) y (shown u)) p → IsSpawned (shown m) x (shown u)
   spawned p x w u none r h =
       let is : h.entry ≡ x = (let a = sym h.value ∙ r.value in cc) in record {
         absent = none;

@@ -6,11 +6,12 @@ use Rattle.cordyceps.specs.Elements.Nodes.{Nodes, spots}
 use Rattle.cordyceps.specs.Spots.Spots.{same_ptr, index_of}
 use Rattle.cordyceps.proofs.Spots.{same_ptr_eq}
 use Rattle.cordyceps.specs.Spots.Entries.{value_at}
-use Rattle.cordyceps.specs.Spots.MultiList.{Multi, list_at}
+use Rattle.cordyceps.specs.Spots.MultiList.{list_at}
 use Rattle.cordyceps.specs.Spots.Threads.{without}
 use Rattle.cordyceps.proofs.Spots.Threads.{split, differ, without_gone}
 use Rattle.cordyceps.proofs.Spots.ValueAt.{value_here, value_there}
 use Rattle.cordyceps.specs.Spots.MapLends.{with_second, with_value_at}
+use Rattle.cordyceps.specs.Spots.StableMap.{Mapped}
 use Rattle.cordyceps_uses.specs.Keyed.{in_order, order, moved_back, IsAt, IsSound}
 use Rattle.cordyceps_uses.proofs.ByKey.{once_of, same_test, found_by, order_without}
 use Rattle.cordyceps_uses.proofs.Ordered.{moved_here, framed}
@@ -35,10 +36,10 @@ module _ {K V : Type 0} where
       ∙ ap (λ z. if same_ptr q n.0 then Some n.1.value else z) (second_there c p w q o))
 
 -- the node at p has the entry of the key k; w has its nodes and its list 0, and there v is written
-module _ {K V : Type 0} (eq : K → K → Bool) (m : Multi (K × V)) (s : IsSound eq m) (k : K) (p : Ptr) (a : IsAt eq 0 m k p)
-    (w : Multi (K × V)) (nodes : w.nodes ≡ m.nodes) (zero_same : list_at 0 w.lists ≡ list_at 0 m.lists)
+module _ {K V : Type 0} (eq : K → K → Bool) (m : Mapped (K × V)) (s : IsSound eq m) (k : K) (p : Ptr) (a : IsAt eq 0 m k p)
+    (w : Mapped (K × V)) (nodes : w.nodes ≡ m.nodes) (zero_same : list_at 0 w.lists ≡ list_at 0 m.lists)
     (v : V) (z : IsSound eq (with_value_at w p v)) where
-  abbrev n : Multi (K × V)
+  abbrev n : Mapped (K × V)
   n = with_value_at w p v
 
   abbrev y : K × V
@@ -56,7 +57,7 @@ module _ {K V : Type 0} (eq : K → K → Bool) (m : Multi (K × V)) (s : IsSoun
   pub written_at : IsAt eq 0 n k p
   written_at = record { entry = y; value = here; same = a.same; found = found_by eq n z p y here k a.same }
 
-  pub written_last : (u : Multi (K × V)) → order 0 u ≡ moved_back (eq k) (order 0 n) → order 0 u ≡ remove_entry (eq k) (order 0 m) ++ y ∷ []
+  pub written_last : (u : Mapped (K × V)) → order 0 u ≡ moved_back (eq k) (order 0 n) → order 0 u ≡ remove_entry (eq k) (order 0 m) ++ y ∷ []
   written_last u moved =
       let there = found_by eq n z p y here a.entry.0 (s.laws.refl a.entry.0) in
       moved ∙ ap (λ f. moved_back f (order 0 n)) (same_test eq n z k a.entry.0 a.same) ∙ moved_here (eq a.entry.0) (order 0 n) y there

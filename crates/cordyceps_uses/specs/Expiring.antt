@@ -3,7 +3,8 @@ use Rattle.std.specs.Prelude.{◌≡◌, ◌<◌, ◌≤◌, ◌⊎◌, ℕ, Boo
 use Rattle.std.specs.List.{All}
 use Rattle.std.specs.Map.{lookup_entry, remove_entry}
 use denote.RawPtr.{Ptr}
-use Rattle.cordyceps.specs.Spots.MultiList.{Multi, list_at}
+use Rattle.cordyceps.specs.Spots.MultiList.{list_at}
+use Rattle.cordyceps.specs.Spots.StableMap.{Mapped}
 use Rattle.cordyceps.specs.Spots.Threads.{is_in}
 use Rattle.cordyceps_uses.specs.declared.expiring.Timed.{Timed}
 use Rattle.cordyceps_uses.specs.Keyed.{order, moved_back, IsOut, AreFrom}
@@ -89,19 +90,19 @@ module _ {K V : Type 0} where
 -- ---- the nodes
 module _ {K V : Type 0} where
   -- what was used longest ago first, and what expires first first
-  abbrev pub by_use : Multi (Entry K V) → List (Entry K V)
+  abbrev pub by_use : Mapped (Entry K V) → List (Entry K V)
   by_use m = order 0 m
 
-  abbrev pub by_time : Multi (Entry K V) → List (Entry K V)
+  abbrev pub by_time : Mapped (Entry K V) → List (Entry K V)
   by_time m = order 1 m
 
   -- list 1 has the nodes of list 0, in the order of their times
-  pub record AreTimed (m : Multi (Entry K V)) : Type 0 where
+  pub record AreTimed (m : Mapped (Entry K V)) : Type 0 where
     pub long : length (list_at 1 m.lists) ≡ length (list_at 0 m.lists)
     pub all : (p : Ptr) → is_in p (list_at 0 m.lists) ≡ true → is_in p (list_at 1 m.lists) ≡ true
     pub sorted : AreFrom (λ (t : Timed V). t.until) 0 (by_time m)
 
-  pub record IsKept (m : Multi (Entry K V)) (capacity : ℕ) : Type 0 where
+  pub record IsKept (m : Mapped (Entry K V)) (capacity : ℕ) : Type 0 where
     pub some : 0 < capacity
     pub fits : length (by_use m) ≤ capacity
     pub timed : AreTimed m

@@ -7,9 +7,9 @@ use denote.RawPtr.{Ptr}
 use Rattle.cordyceps.specs.Elements.Nodes.{Nodes, spots}
 use Rattle.cordyceps.specs.Spots.BySpot.{HasSpot}
 use Rattle.cordyceps.specs.Spots.Entries.{value_at}
-use Rattle.cordyceps.specs.Spots.MultiList.{Multi, list_at, SameBut}
+use Rattle.cordyceps.specs.Spots.MultiList.{list_at, SameBut}
 use Rattle.cordyceps.specs.Spots.Spots.{AreDistinct}
-use Rattle.cordyceps.specs.Spots.StableMap.{AreApart}
+use Rattle.cordyceps.specs.Spots.StableMap.{Mapped, AreApart}
 use Rattle.cordyceps.specs.Spots.Threads.{is_in, without}
 
 module _ {X : Type 0} where
@@ -24,11 +24,11 @@ module _ {X : Type 0} where
   in_order c (p ∷ s) = with_value (value_at c p) (in_order c s)
 
   -- the values of list i
-  abbrev pub order : ℕ → Multi X → List X
+  abbrev pub order : ℕ → Mapped X → List X
   order i m = in_order m.nodes (list_at i m.lists)
 
   -- the node at p has a value of which P holds
-  pub record HasAt (m : Multi X) (P : X → Type 0) (p : Ptr) : Type 0 where
+  pub record HasAt (m : Mapped X) (P : X → Type 0) (p : Ptr) : Type 0 where
     pub entry : X
     pub value : value_at m.nodes p ≡ Some entry
     pub holds : P entry
@@ -40,7 +40,7 @@ module _ {K X : Type 0} where
 
   module _ (eq : K → K → Bool) where
     -- what holds of a map at any time
-    pub record IsSound (m : Multi (K × X)) : Type 0 where
+    pub record IsSound (m : Mapped (K × X)) : Type 0 where
       pub laws : IsEquivalence eq
       pub distinct : AreDistinct (spots m.nodes)
       pub once : (i : ℕ) → AreDistinct (list_at i m.lists)
@@ -49,7 +49,7 @@ module _ {K X : Type 0} where
       pub apart : AreApart eq m.nodes
 
     -- the node at p has the entry of the key k, which is in list i
-    pub record IsAt (i : ℕ) (m : Multi (K × X)) (k : K) (p : Ptr) : Type 0 where
+    pub record IsAt (i : ℕ) (m : Mapped (K × X)) (k : K) (p : Ptr) : Type 0 where
       pub entry : K × X
       pub value : value_at m.nodes p ≡ Some entry
       pub same : eq k entry.0 ≡ true
@@ -62,14 +62,14 @@ module _ {K X : Type 0} where
       pub gone : lookup_entry (eq x.0) rest ≡ None
 
     -- the entry x, which was at p, went from v and from its first `count` lists, and w is left
-    pub record IsTakenOut (count : ℕ) (v : Multi (K × X)) (p : Ptr) (x : K × X) (w : Multi (K × X)) : Type 0 where
+    pub record IsTakenOut (count : ℕ) (v : Mapped (K × X)) (p : Ptr) (x : K × X) (w : Mapped (K × X)) : Type 0 where
       pub value : value_at v.nodes p ≡ Some x
       pub lists : (j : ℕ) → j < count → list_at j w.lists ≡ without p (list_at j v.lists)
       pub orders : (j : ℕ) → j < count → order j w ≡ remove_entry (eq x.0) (order j v)
       pub out : IsOut (order 0 v) x (order 0 w)
 
     -- the entry x, whose key no other has, came last into v, at p, and w is the map then
-    pub record IsPut (v : Multi (K × X)) (p : Ptr) (x : K × X) (w : Multi (K × X)) : Type 0 where
+    pub record IsPut (v : Mapped (K × X)) (p : Ptr) (x : K × X) (w : Mapped (K × X)) : Type 0 where
       pub value : value_at w.nodes p ≡ Some x
       pub list : list_at 0 w.lists ≡ list_at 0 v.lists ++ p ∷ []
       pub others : SameBut 0 v.lists w.lists
@@ -101,7 +101,7 @@ module _ {K X : Type 0} (rank : X → ℕ) where
     pub late : AreFrom rank t (in_order c after)
 
   -- the node at p came into list i of v at the place of its rank, and w is the map then
-  pub record IsLinkedIn (i : ℕ) (v : Multi (K × X)) (p : Ptr) (w : Multi (K × X)) : Type 0 where
+  pub record IsLinkedIn (i : ℕ) (v : Mapped (K × X)) (p : Ptr) (w : Mapped (K × X)) : Type 0 where
     pub nodes : w.nodes ≡ v.nodes
     pub others : SameBut i v.lists w.lists
     pub before : List Ptr

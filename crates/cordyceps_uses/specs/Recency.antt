@@ -1,7 +1,7 @@
 -- A cache by recency: keys and values, what was used longest ago first.
 use Rattle.std.specs.Prelude.{◌≡◌, ◌<◌, ◌≤◌, ℕ, Bool, List, [], ◌∷◌, ◌++◌, length, Option, Some, None, drop, slice_get, nat_lt, if◌then◌else◌}
 use Rattle.std.specs.Map.{lookup_entry, remove_entry}
-use Rattle.cordyceps.specs.Spots.MultiList.{Multi}
+use Rattle.cordyceps.specs.Spots.StableMap.{Mapped}
 use Rattle.cordyceps_uses.specs.Keyed.{order}
 
 -- what a contract sees of a cache
@@ -37,6 +37,6 @@ module _ {K V : Type 0} where
     pub found : lookup_entry test s ≡ Some (key, v)
     pub entries : t ≡ remove_entry test s ++ (key, w) ∷ []
 
-  pub record IsHeld (m : Multi (K × V)) (capacity : ℕ) : Type 0 where
+  pub record IsHeld (m : Mapped (K × V)) (capacity : ℕ) : Type 0 where
     pub some : 0 < capacity
     pub fits : length (order 0 m) ≤ capacity

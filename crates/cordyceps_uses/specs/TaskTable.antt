@@ -2,7 +2,8 @@
 use Rattle.std.specs.Prelude.{◌≡◌, ℕ, true, false, List, [], ◌∷◌, ◌++◌, Option, Some, None, is_some, nat_eq, if◌then◌else◌}
 use Rattle.std.specs.Map.{lookup_entry, remove_entry}
 use denote.RawPtr.{Ptr}
-use Rattle.cordyceps.specs.Spots.MultiList.{Multi, list_at}
+use Rattle.cordyceps.specs.Spots.MultiList.{list_at}
+use Rattle.cordyceps.specs.Spots.StableMap.{Mapped}
 use Rattle.cordyceps.specs.Spots.Threads.{is_in}
 use Rattle.cordyceps_uses.specs.declared.task_table.State.{State}
 use Rattle.cordyceps_uses.specs.declared.task_table.State.TheVariants.{Ready, Waiting, Running}
@@ -72,10 +73,10 @@ module _ {T : Type 0} where
     pub waiting : w.waiting ≡ v.waiting
 
   -- ---- the nodes
-  abbrev pub shown : Multi (Entry T) → Tasks T
+  abbrev pub shown : Mapped (Entry T) → Tasks T
   shown m = record { tasks = order 0 m; ready = order 1 m; waiting = order 2 m }
 
   -- no task is ready and waits, and those that are ready are in the order of their priorities
-  pub record IsTable (m : Multi (Entry T)) : Type 0 where
+  pub record IsTable (m : Mapped (Entry T)) : Type 0 where
     pub apart : (p : Ptr) → is_in p (list_at 1 m.lists) ≡ true → is_in p (list_at 2 m.lists) ≡ false
     pub sorted : AreFrom priority 0 (order 1 m)

@@ -317,7 +317,11 @@ pub fn reply<H: Hooks>(
             at_most(rt, map.len(), LONGEST);
             let node = made(rt, MapNode::new(alloc, number, key, value));
             let Inserted { spot, replaced } = map.insert(node);
-            same(rt, (*map.key_at(spot), *map.value_at(spot)), (key, value));
+            same(
+                rt,
+                (map.id(spot), *map.key_at(spot), *map.value_at(spot)),
+                (number, key, value),
+            );
             out(replaced)
         }
         Call::Remove(key) => out(map.remove(&key)),

@@ -1,4 +1,5 @@
-//! Tests of maps whose nodes keep their places: each call by tables, drops, refused memory, many calls beside vectors.
+//! Tests of maps whose nodes keep their places: each call by tables, drops, refused memory, many calls beside vectors,
+//! and how nodes are spread over buckets.
 #![tactic(auto)]
 
 #[cfg(test)]
@@ -13,3 +14,5 @@ mod maps;
 mod memory;
 #[cfg(test)]
 mod plain;
+#[cfg(test)]
+mod spread;

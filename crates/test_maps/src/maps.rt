@@ -154,6 +154,7 @@ fn a_node_keeps_its_number_its_key_and_its_value(rt: HostRuntime) {
         StableMap::with_capacity(rt.alloc(), 1, Seeded::new(0, 0)),
     );
     let spot = map.insert(node).spot;
+    same(&rt, map.id(spot), 4);
     let node = map.remove_at(spot);
     same(&rt, (node.id(), *node.key(), *node.value()), (4, 40, 41));
     same(&rt, node.into_pair(), (40, 41));

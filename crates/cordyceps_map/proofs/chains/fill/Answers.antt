@@ -7,6 +7,7 @@ use Rattle.cordyceps_map.specs.Chains.{hash_of}
 use Rattle.cordyceps_map.proofs.Filling.{IsFilling, begun, gone_on, fewer, among, filled}
 use Rattle.cordyceps_map.proofs.Finding.{no_some}
 use Rattle.cordyceps_map.proofs.ValueAt.{held_value}
+use Rattle.cordyceps_map.proofs.Powers.{positive}
 use Rattle.cordyceps_map.proofs.chains.fill.Goals as goal
 
 pub loop-at-init : goal.loop-at-init
@@ -19,6 +20,9 @@ get-requires g c =
     let hash : g.row.K.Denot → ℕ = (λ (x : g.row.K.Denot). hash_of g.S.BuildHasher g.S.Hasher.Hasher c.args.hasher.now (g.K.Hash.hash_input x)) in let ns = c.loop-at.nodes.nodes in let hs = c.loop-at.buckets in let s = list_at 0 c.loop-at.nodes.lists in let p = c.in-Some.spot in
     let w = subst (λ o. IsFilling hash ns hs s o) c.in-Some.is c.loop-at.invariant.way in let once = c.lists_agree.ensures.once 0 in
     c.lists_agree.ensures.inside 0 p (among hash ns hs s p w once)
+
+pub bucket_of-bucket-requires : goal.bucket_of-bucket-requires
+bucket_of-bucket-requires g c = subst (λ n. 0 < n) (sym c.loop-at.invariant.long) (positive (length c.args.buckets.now) c.requires.power)
 
 pub enter-requires-clause-there : goal.enter-requires-clause-there
 enter-requires-clause-there g c =

@@ -1,6 +1,10 @@
-use Rattle.std.proofs.Common.{ap}
+use Rattle.std.proofs.Common.{length, ap}
 use Rattle.cordyceps_map.specs.Chains.{hash_of}
+use Rattle.cordyceps_map.proofs.Powers.{positive}
 use Rattle.cordyceps_map.proofs.chains.place_of.Goals as goal
+
+pub bucket_of-requires : goal.bucket_of-requires
+bucket_of-requires g c = positive (length c.args.buckets.now) c.requires.power
 
 pub place_in-requires : goal.place_in-requires
 place_in-requires g c = record {

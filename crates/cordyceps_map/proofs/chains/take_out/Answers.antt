@@ -1,4 +1,4 @@
-use Rattle.std.proofs.Common.{refl, sym, ap, ◌∙◌, subst}
+use Rattle.std.proofs.Common.{length, refl, sym, ap, ◌∙◌, subst}
 use Rattle.cordyceps_many.specs.MultiList.{list_at}
 use Rattle.cordyceps_many.specs.Threads.{without}
 use Rattle.cordyceps_map.specs.Shown.{shown, seen}
@@ -26,7 +26,7 @@ remove-requires g c =
 
 pub returns-in_err-place : goal.returns-in_err-place
 returns-in_err-place g c =
-    let eq = g.K.PartialEq.eq in let v = seen c.args.nodes.now in let k = c.args.key.now in
+    let eq = g.K.PartialEq.eq in let v = seen c.args.nodes.now (length c.args.buckets.now) in let k = c.args.key.now in
     let none = none_of_entry eq k (pairs v.nodes) c.in_err-place.ensures in
     record {
       removed = when_none (λ n. IsRemoved eq g.H.Rows.count v k n v) c.from_residual.result c.from_residual.ensures (none, refl);
@@ -44,10 +44,10 @@ returns g c =
     let n = c.remove.result in let e = c.remove.new.self.nodes in let (b, a, was, is_left) = c.remove.ensures.taken in
     let distinct = c.lists_agree.ensures.distinct in
     record {
-      removed = removed eq ns hs k j ls (seen c.args.nodes.now) refl before p w d ms u n e c.remove.ensures.taken g.H.Rows.count c.remove.new.self.lists
-          (λ i less. c.remove.ensures.lists i less ∙ ap (λ z. without p (list_at i z)) c.leave.ensures.lists);
+      removed = removed eq ns hs k j ls (seen c.args.nodes.now (length hs)) refl before p w d ms u n e c.remove.ensures.taken g.H.Rows.count c.remove.new.self.lists
+          (λ i less. c.remove.ensures.lists i less ∙ ap (λ z. without p (list_at i z)) c.leave.ensures.lists) (length ms) (cut_long ns hs j p d ms before u);
       gone = none_of_entry eq k (pairs (shown e)) (gone eq c.requires.hash ns hs c.requires.map k j p d ms before w u distinct n e b a was is_left g.met.K.Eq.laws);
-      kept = λ q h other. c.remove.ensures.kept q (cut_has eq ns hs k j before p d ms u q h) (λ same. other (subst (IsFound eq (shown ns) k) (sym same) (placed_found eq ns hs k j ls (seen c.args.nodes.now) refl before p w)));
+      kept = λ q h other. c.remove.ensures.kept q (cut_has eq ns hs k j before p d ms u q h) (λ same. other (subst (IsFound eq (shown ns) k) (sym same) (placed_found eq ns hs k j ls (seen c.args.nodes.now (length hs)) refl before p w)));
       map = λ hash m. left eq hash ns hs m k j p d ms before w u distinct n e b a was is_left;
       long = cut_long ns hs j p d ms before u;
     }

@@ -6,15 +6,15 @@ use Rattle.cordyceps_uses.proofs.task_table.make_ready.Goals as goal
 
 pub link_by_rank-requires-clause-fits : goal.link_by_rank-requires-clause-fits
 link_by_rank-requires-clause-fits g c =
-    let same = ap length (c.ensure_unlinked.ensures.others 1 (λ e. absurd cc)) in let more = room c.args.map.now c.lists_agree.ensures 1 c.args.at c.requires.there c.requires.not_in in
+    let same = ap length (c.ensure_unlinked.ensures.others.lists 1 (λ e. absurd cc)) in let more = room c.args.map.now c.lists_agree.ensures 1 c.args.at c.requires.there c.requires.not_in in
     let long = c.len-len.ensures in let fits = c.len-len.type_inv in omega (arith, same, more, long, fits)
 
 pub returns-clause-ready : goal.returns-clause-ready
 returns-clause-ready g c =
     let m = c.args.map.now in let a = c.ensure_unlinked.ensures in let r = in_value m.nodes c.args.at (has_in m.nodes c.args.at c.requires.there) in
-    record { entry = r.0; value = r.1; holds = readied m c.lists_agree.ensures c.requires.table c.args.at r.0 r.1 c.ensure_unlinked.new.self a.nodes a.list a.others c.link_by_rank.new.map c.link_by_rank.ensures }
+    record { entry = r.0; value = r.1; holds = readied m c.lists_agree.ensures c.requires.table c.args.at r.0 r.1 c.ensure_unlinked.new.self a.nodes a.list a.others.lists c.link_by_rank.new.map c.link_by_rank.ensures }
 
 pub returns-clause-table : goal.returns-clause-table
 returns-clause-table g c =
     let m = c.args.map.now in let a = c.ensure_unlinked.ensures in let r = in_value m.nodes c.args.at (has_in m.nodes c.args.at c.requires.there) in
-    readied_table m c.lists_agree.ensures c.requires.table c.args.at r.0 r.1 c.ensure_unlinked.new.self a.nodes a.list a.others c.link_by_rank.new.map c.link_by_rank.ensures
+    readied_table m c.lists_agree.ensures c.requires.table c.args.at r.0 r.1 c.ensure_unlinked.new.self a.nodes a.list a.others.lists c.link_by_rank.new.map c.link_by_rank.ensures

@@ -4,14 +4,15 @@ use Rattle.std.specs.Option.{option_copied_mut, ghost_name_of}
 use denote.RawPtr.{Ptr}
 use Rattle.cordyceps_map.specs.MapLends.{with_value_at}
 use Rattle.cordyceps_map.specs.StableMap.{IsFound}
-use Rattle.cordyceps_map.proofs.Finding.{one_spot, value_found, none_there}
+use Rattle.cordyceps_map.proofs.Finding.{one_spot, value_found}
+use Rattle.cordyceps_map.proofs.Looking.{none_there}
 use Rattle.cordyceps_map.proofs.Revalued.{seen_kept}
 use Rattle.cordyceps_map.proofs.stable_map.StableMap.get_mut.Goals as goal
 
 pub returns-in_err-at : goal.returns-in_err-at
 returns-in_err-at g c =
     let eq = g.K.PartialEq.eq in let v = c.args.self.now in let k = c.args.key.now in let a = c.lists_agree.ensures in
-    let none = none_there eq g.met.K.Eq.laws v.nodes a.distinct a.apart k c.in_err-at.ensures.found in (
+    let none = none_there eq k v.nodes c.in_err-at.ensures.found in (
       (ap ghost_name_of (sym c.from_residual.ensures), λ w p f. absurd (none p f), refl),
       record {
         writes_back = tt;

@@ -1,10 +1,9 @@
-use Rattle.std.proofs.Common.{◌≡◌, ℕ, None, MatchOption, sym, ap, ◌∙◌, subst}
+use Rattle.std.proofs.Common.{◌≡◌, ℕ, length, None, MatchOption, sym, ap, ◌∙◌, subst}
 use Rattle.std.specs.Map.{lookup_entry}
 use Rattle.cordyceps_base.specs.BySpot.{IsTaken}
 use Rattle.cordyceps_base.specs.Nodes.{Nodes}
-use Rattle.cordyceps_many.specs.MultiList.{Multi}
 use Rattle.cordyceps_map.specs.Shown.{shown, shown_element}
-use Rattle.cordyceps_map.specs.StableMap.{pairs}
+use Rattle.cordyceps_map.specs.StableMap.{Mapped, pairs}
 use Rattle.cordyceps_map.specs.Chains.{hash_of, IsMap, IsPlace, IsCut}
 use Rattle.cordyceps_map.proofs.Finding.{no_some, placed_has, before_has, cut_has, never_none, same_place}
 use Rattle.cordyceps_map.proofs.Leaving.{cut_long, cut_shows, left}
@@ -84,7 +83,7 @@ returns-clause-taken g c =
     let d = c.leave.new.nodes.nodes in let ms = c.leave.new.buckets in
     let u = subst (λ h. IsCut ns h j before at d ms) c.as_mut_slice.ensures.value (subst (λ z. IsCut ns c.as_mut_slice.result.now j before z d ms) same c.leave.ensures.cut) in
     subst (λ (z : Nodes (g.row.K.Denot × g.row.V.Denot)). IsTaken z at (shown_element c.remove.result) (shown c.remove.new.self.nodes))
-    (cut_shows ns hs j at d ms before u ∙ ap (λ (z : Multi (g.row.K.Denot × g.row.V.Denot)). z.nodes) seen)
+    (cut_shows ns hs j at d ms before u ∙ ap (λ (z : Mapped (g.row.K.Denot × g.row.V.Denot)). z.nodes) seen)
     (shown_taken d at c.remove.result c.remove.new.self.nodes c.remove.ensures.taken)
 
 pub returns-clause-kept : goal.returns-clause-kept
@@ -98,3 +97,9 @@ returns-clause-kept g c =
     let d = c.leave.new.nodes.nodes in let ms = c.leave.new.buckets in
     let u = subst (λ h. IsCut ns h j before at d ms) c.as_mut_slice.ensures.value (subst (λ z. IsCut ns c.as_mut_slice.result.now j before z d ms) same c.leave.ensures.cut) in
     λ p h other. shown_has c.remove.new.self.nodes p (c.remove.ensures.kept p (cut_has eq ns hs k j before at d ms u p (inner_has ns ls v seen p h)) other)
+
+pub returns-clause-buckets : goal.returns-clause-buckets
+returns-clause-buckets g c =
+    let ms = c.leave.new.buckets in
+    let long = cut_long c.self.inside.nodes.nodes c.as_mut_slice.result.now c.in-Some.place.bucket c.in-Some.place.at c.leave.new.nodes.nodes ms c.in-Some.place.before c.leave.ensures.cut in
+    ap length (lent_items c.self.inside.buckets.len ms _ (long ∙ c.as_mut_slice.ensures.len)) ∙ long ∙ ap length c.as_mut_slice.ensures.value ∙ ap (λ (z : Mapped (g.row.K.Denot × g.row.V.Denot)). z.buckets) c.self.view_is

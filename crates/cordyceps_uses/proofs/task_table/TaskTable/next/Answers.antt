@@ -8,7 +8,7 @@ pub invariant_of-self-2 : goal.invariant_of-self-2
 invariant_of-self-2 g c =
     let m = c.self.inside.map in let n = c.number_at.ensures in let a = c.in_ok-at.ensures in
     let there = sym (ap (λ ns. value_at ns c.in_ok-at.at) a.nodes) ∙ n.value in
-    run_table m c.lists_agree.ensures c.self.invariant c.in_ok-at.at n.entry there c.pop_front.new.self a.nodes a.popped a.others
+    run_table m c.lists_agree.ensures c.self.invariant c.in_ok-at.at n.entry there c.pop_front.new.self a.nodes a.popped a.others.lists
 
 pub returns-clause-answer : goal.returns-clause-answer
 returns-clause-answer g c =
