@@ -23,8 +23,8 @@ use cordyceps_base::double_chain::DoubleChain;
 use cordyceps_base::node::Node;
 use std::marker::Model;
 
-/// What owns the nodes of a list while a `CursorMut` is there. It is a parameter of `CursorMut`, since the contract of a
-/// `Drop` says what a struct leaves behind a reference only if no type of its fields names a raw pointer.
+/// What owns the nodes of a list while a `CursorMut` is there. It is a parameter of `CursorMut`, since the contract of
+/// a `Drop` says what a struct leaves behind a reference only if no type of its fields names a raw pointer.
 pub trait OwnsNodes<T> {
     ghost use Rattle.cordyceps_base.specs.Element.{Elements};
     ghost use Rattle.cordyceps_base.specs.Nodes.{elements};
