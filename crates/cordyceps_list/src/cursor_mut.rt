@@ -21,6 +21,7 @@ ghost use mir.Syntax.{named};
 ghost use Rattle.cordyceps_base.specs.Element.{values};
 
 use crate::cursor::{Cursor, place_after, place_before};
+use crate::finger::Finger;
 use crate::list::{Links, List};
 use crate::owned::{OwnedCursor, OwnsNodes};
 use cordyceps_base::linked::Linked;
@@ -115,6 +116,33 @@ impl<'a, T: Linked<Links<T>>> CursorMut<'a, T> {
     ghost use Rattle.cordyceps_list.specs.Places.{next_place, prev_place, index_at};
     ghost use Rattle.cordyceps_list.specs.Filter.{RemovesFirst};
     ghost use Rattle.cordyceps_list.specs.Walks.{MayAsk};
+
+    /// Returns a cursor at a place, which is sought from the fingers of the list. Requires that the place is at most
+    /// the length. It is inlined, so that it costs no search at the front finger.
+    #[inline(always)]
+    pub(crate) fn at_place(list: &'a mut List<T>, index: usize) -> CursorMut<'a, T>
+        requires { index ≤ length list.old }
+        ensures same_reference { lender result ≡ list.entry.ghost_name }
+        ensures elements { elements result ≡ list.old }
+        ensures place { place result ≡ index }
+    {
+        let address = list.fingers.seek_within(&list.chain, index);
+        let nodes = OwnedCursor::at_place(list.chain.take(), Finger { address, index });
+        CursorMut { list, nodes }
+    }
+
+    /// Ends the cursor as its drop does, and returns its place, where it leaves the front finger of the list.
+    #[inline(always)]
+    pub(crate) fn close(self) -> usize
+        ensures list { self.exit.0.now ≡ elements self.entry }
+        ensures place { result ≡ place self.entry }
+        ensures within { result ≤ length (elements self.entry) }
+    {
+        let CursorMut { list, nodes } = self;
+        let place = nodes.place();
+        list.put_back_at(nodes);
+        place
+    }
 
     /// Returns the cursor's place.
     pub(crate) fn place(&self) -> usize
@@ -496,8 +524,22 @@ impl<'a, T: Linked<Links<T>>> CursorMut<'a, T> {
             (elements self.new) (place self.new) last }
         ensures same_reference { lender self.new ≡ lender self.old }
     {
-        self.nodes.go_to_passing(&mut predicate);
-        self.remove_current()
+        self.remove_first_by(&mut predicate)
+    }
+
+    /// Removes an element as `remove_first` does, by a predicate that the caller keeps. It is inlined, so that a filter
+    /// has no call.
+    #[inline(always)]
+    pub(crate) fn remove_first_by<F: FnMut(&T) -> bool>(
+        &mut self,
+        predicate: &mut F,
+    ) -> Option<T::Handle>
+        requires { MayAsk F.FnMut (drop (place self.old) (values (elements self.old))) predicate.old }
+        ensures removes { RemovesFirst T.element (CalledAt F.FnMut) (elements self.old) (place self.old) predicate.old
+            result (elements self.new) (place self.new) predicate.new }
+        ensures same_reference { lender self.new ≡ lender self.old }
+    {
+        Some(T::from_ptr(self.nodes.remove_first(predicate)?))
     }
 
     /// Returns a cursor that only reads, at the same place.

@@ -1,6 +1,11 @@
 //! The iterator that removes the elements for which a predicate returns `true`.
+//!
+//! Each `next` opens a `CursorMut` at the filter's place, calls its `remove_first`, and closes it. Between two calls
+//! the list has its nodes, so a filter that is forgotten by `mem::forget` leaves the list as it is then. The front
+//! finger of the list keeps the address of the place, so no cursor is opened by a search.
 ghost use Rattle.std.specs.Prelude.{◌≡◌, ◌≤◌, length};
 
+use crate::cursor_mut::CursorMut;
 use crate::finger::Fingers;
 use crate::list::{Links, List};
 use cordyceps_base::linked::Linked;
@@ -105,9 +110,10 @@ impl<'a, T: Linked<Links<T>>, F: FnMut(&T) -> bool + Drop> Iterator for DrainFil
     /// # Complexity
     /// O(k), for k values that the predicate is called on.
     fn next(&mut self) -> Option<T::Handle> {
-        let found = self.list.first_passing(self.index, &mut self.predicate);
-        self.index = found;
-        self.list.take_at(found)
+        let mut cursor = CursorMut::at_place(&mut *self.list, self.index);
+        let removed = cursor.remove_first_by(&mut self.predicate);
+        self.index = cursor.close();
+        removed
     }
 
     /// Returns 0 and the length of the list as bounds.

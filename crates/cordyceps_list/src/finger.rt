@@ -14,17 +14,17 @@
 //! nearest end or finger, and leaves a finger there.
 //!
 //! A list keeps fingers since an `IterMut` and a `DrainFilter` borrow it, and lose what they knew of addresses with
-//! each value that they lend or each call of the predicate. There are two, since an iterator that is used from both
+//! each value that they lend and at the end of each `next`. There are two, since an iterator that is used from both
 //! ends would move a single one to and fro. A push, `pop_front` and `append` take the fingers off; `pop_back` and a
 //! split need not. For its four words of fingers `append` takes longer than that of the Rust crate `cordyceps`.
 //!
-//! A removal leaves the front finger at the next node, and takes the back finger off, so a filter goes on without a
-//! search. Moving both fingers along took two comparisons and two writes more.
+//! `remove` and a filter's cursor leave the front finger at the next node, and take the back finger off, so a filter
+//! goes on without a search. Moving both fingers along took two comparisons and two writes more.
 //!
 //! A loop over a list contains no search and no call. A call that is given the list keeps its fingers in memory, and a
 //! short loop then takes twice as long. So `next` of `IterMut` leaves the front finger after the value that it lends,
-//! and the compiler drops the search. `seek`, `seek_within`, `stand_within`, and `remove_at` and `take_at` of the list,
-//! are `inline(always)`; otherwise two filters took 1.5 to 2.2 times the time of the Rust crate's.
+//! and the compiler drops the search. `seek` and `seek_within`, and the steps of a filter's cursor, are
+//! `inline(always)`; otherwise two filters took 1.5 to 2.2 times the time of the Rust crate's.
 //!
 //! A split walks on and back by different loops. One loop that asks at each node which way to go took 6.8 instructions
 //! a node; these take 1.9, since the compiler unrolls them.
@@ -293,17 +293,6 @@ impl Fingers {
         }
     }
 
-    /// Takes the back finger off every chain of at most `len` nodes, by one write at most. Only the contract needs
-    /// `len`.
-    pub(crate) fn take_back_off(&mut self, len: usize)
-        ensures front { self.new.front ≡ self.old.front }
-        ensures back { len ≤ self.new.back.index }
-    {
-        if self.back.index != usize::MAX {
-            self.back.index = usize::MAX;
-        }
-    }
-
     /// Puts the front finger on a node, and takes the back one off every chain of at most `len` nodes. Only the
     /// contract needs `len`.
     pub(crate) fn stand(&mut self, address: Address, index: usize, len: usize)
@@ -392,22 +381,5 @@ impl Fingers {
         } else {
             Address::null()
         }
-    }
-
-    /// Returns the address of a node as `seek_within` does, and puts the front finger on it. It is inlined, so that an
-    /// edit at the front finger has no call.
-    #[inline(always)]
-    pub(crate) fn stand_within<T>(&mut self, chain: &DoubleChain<T>, to: usize) -> Address
-        requires { FingersFit chain.now self.old }
-        ensures fit { FingersFit chain.now self.new }
-        ensures index { self.new.front.index ≡ to }
-        ensures address { self.new.front.address ≡ result }
-        ensures on { to < length chain.now → IsAt chain.now to result }
-    {
-        if self.front.index != to {
-            let address = self.seek_within(chain, to);
-            self.front = Finger { address, index: to };
-        }
-        self.front.address
     }
 }

@@ -8,7 +8,7 @@
 //! dropped (`owned`). An `IterMut` borrows its list, keeps places as numbers, and finds nodes by the fingers. It keeps
 //! no address of a node and no borrowed part of the chain: with those, no contract could say what the list has after
 //! the drop. A `Cursor` and an `Iter` only read, and keep the address of their node. A `DrainFilter` has a place, a
-//! list and a predicate.
+//! list and a predicate, and each `next` is `remove_first` of a `CursorMut` at that place.
 //!
 //! Proved: that each call does what it does on a plain sequence, at all lengths; how many links a split follows, by
 //! `try_split_off_in`. Only tested: that steps of a guard take few moves, and that a drop leaves no node.

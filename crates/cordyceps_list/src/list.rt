@@ -10,6 +10,7 @@ ghost use Rattle.cordyceps_list.specs.GrowsBy.{GrowsBy, EndsWithin};
 ghost use Rattle.cordyceps_list.specs.Walks.{MayAsk, Walks};
 
 use crate::finger::{Finger, Fingers};
+use crate::owned::OwnedCursor;
 use cordyceps_base::boxes::Address;
 use cordyceps_base::double_chain::DoubleChain;
 use cordyceps_base::linked::Linked;
@@ -66,6 +67,17 @@ impl<T: Drop> List<T> {
         ensures { self.new ≡ elements chain }
     {
         self.fingers.take_off(chain.len());
+        self.chain = chain;
+    }
+
+    /// Replaces the nodes of the list by those of a cursor, and leaves the front finger at its place. It is inlined, so
+    /// that the next search from there has no call.
+    #[inline(always)]
+    pub(crate) fn put_back_at(&mut self, nodes: OwnedCursor<T>)
+        ensures { self.new ≡ nodes.elements }
+    {
+        let (chain, at) = nodes.into_parts();
+        self.fingers.stand(at.address, at.index, chain.len());
         self.chain = chain;
     }
 }
@@ -496,9 +508,10 @@ impl<T: Linked<Links<T>>> List<T> {
         ensures kept { self.new ≡ without_id id self.old }
     {
         let found = find(&self.chain, id)?;
-        self.fingers
-            .stand(found.address, found.index, self.chain.len());
-        Some(self.remove_at(found.index))
+        let next = self.chain.next(found.address, found.index);
+        let node = self.chain.unlink(found.address, found.index);
+        self.fingers.stand(next, found.index, self.chain.len());
+        Some(T::from_ptr(node))
     }
 
     /// Returns a mutable reference to the value at an index. Requires that the index is below the length.
@@ -531,60 +544,5 @@ impl<T: Linked<Links<T>>> List<T> {
             index: index + 1,
         };
         self.chain.get_mut(address, index)
-    }
-
-    /// Removes the element at an index, and leaves the front finger on the node that is at the index then. Requires
-    /// that the index is below the length. It is inlined, so that it costs no search where its caller has just sought
-    /// this index.
-    #[inline(always)]
-    pub(crate) fn remove_at(&mut self, index: usize) -> T::Handle
-        requires { index < length self.old }
-        ensures value { slice_get self.old index ≡ Some (T.element result) }
-        ensures kept { self.new ≡ take index self.old ++ drop (index + 1) self.old }
-    {
-        let address = self.fingers.stand_within(&self.chain, index);
-        let next = self.chain.next(address, index);
-        let node = self.chain.unlink(address, index);
-        self.fingers.front.address = next;
-        self.fingers.take_back_off(self.chain.len());
-        T::from_ptr(node)
-    }
-
-    /// Removes the element at an index and returns it, or `None` if the index is not below the length.
-    #[inline(always)]
-    pub(crate) fn take_at(&mut self, index: usize) -> Option<T::Handle>
-        ensures answer { option_map T.element result ≡ slice_get self.old index }
-        ensures kept { self.new ≡ take index self.old ++ drop (index + 1) self.old }
-    {
-        if index < self.chain.len() {
-            Some(self.remove_at(index))
-        } else {
-            None
-        }
-    }
-
-    /// Calls the predicate on the values from a place on, up to the first `true`, and returns its index, or the length
-    /// if there is none.
-    pub(crate) fn first_passing<F: FnMut(&T) -> bool>(
-        &mut self,
-        index: usize,
-        predicate: &mut F,
-    ) -> usize
-        requires inside { index ≤ length self.old }
-        requires callable { MayAsk F.FnMut (drop index (values self.old)) predicate.old }
-        ensures elements { self.new ≡ self.old }
-        ensures walks { Walks (CalledAt F.FnMut) predicate.old (drop index (values self.old)) (result - index)
-            predicate.new }
-        ensures from { index ≤ result }
-        ensures to { result ≤ length self.old }
-    {
-        let from = Finger {
-            address: self.fingers.seek_within(&self.chain, index),
-            index,
-        };
-        let found = first_passing(&self.chain, from, predicate);
-        self.fingers
-            .stand(found.address, found.index, self.chain.len());
-        found.index
     }
 }

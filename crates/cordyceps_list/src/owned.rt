@@ -12,6 +12,8 @@ ghost use Rattle.std.specs.Borrow.{sem};
 ghost use Rattle.std.specs.Fn.{CalledAt};
 ghost use Rattle.cordyceps_base.specs.Element.{values};
 ghost use Rattle.cordyceps_base.specs.Nodes.{elements};
+ghost use Rattle.cordyceps_list.specs.Filter.{RemovesFirst};
+ghost use Rattle.cordyceps_list.specs.Position.{StandsAt};
 ghost use Rattle.cordyceps_list.specs.Walks.{MayAsk, Walks};
 
 use crate::cursor::Cursor;
@@ -21,8 +23,8 @@ use cordyceps_base::double_chain::DoubleChain;
 use cordyceps_base::node::Node;
 use std::marker::Model;
 
-/// What owns the nodes of a list while a `CursorMut` is there. It is a parameter of `CursorMut`, since the contract of a
-/// `Drop` says what a struct leaves behind a reference only if no type of its fields names a raw pointer.
+/// What owns the nodes of a list while a `CursorMut` is there. It is a parameter of `CursorMut`, since the contract of
+/// a `Drop` says what a struct leaves behind a reference only if no type of its fields names a raw pointer.
 pub trait OwnsNodes<T> {
     ghost use Rattle.cordyceps_base.specs.Element.{Elements};
     ghost use Rattle.cordyceps_base.specs.Nodes.{elements};
@@ -98,6 +100,25 @@ impl<T> OwnedCursor<T> {
     {
         let at = Finger::at_back(&chain);
         OwnedCursor { chain, at }
+    }
+
+    /// Returns a cursor at a place, given the finger there.
+    pub(crate) fn at_place(chain: DoubleChain<T>, at: Finger) -> OwnedCursor<T>
+        requires { StandsAt chain at.address at.index }
+        ensures elements { result.elements ≡ elements chain }
+        ensures place { result.place ≡ at.index }
+    {
+        OwnedCursor { chain, at }
+    }
+
+    /// Ends the cursor, and returns the nodes and the finger at its place.
+    pub(crate) fn into_parts(self) -> (DoubleChain<T>, Finger)
+        ensures elements { elements result.0 ≡ self.elements }
+        ensures stands { StandsAt result.0 result.1.address result.1.index }
+        ensures place { result.1.index ≡ self.place }
+    {
+        let OwnedCursor { chain, at } = self;
+        (chain, at)
     }
 
     /// Returns the place.
@@ -317,5 +338,23 @@ impl<T: Drop> OwnedCursor<T> {
         let here = self.at;
         self.at.address = self.chain.next(here.address, here.index);
         self.chain.unlink(here.address, here.index)
+    }
+
+    /// Removes the first node from the cursor's on whose value passes, and returns it, or `None` if there is none. The
+    /// cursor is then at the next place. It is inlined, so that a loop over removals has no call.
+    #[inline(always)]
+    pub(crate) fn remove_first<F: FnMut(&T) -> bool>(
+        &mut self,
+        predicate: &mut F,
+    ) -> Option<Node<T, Links<T>>>
+        requires { MayAsk F.FnMut (drop self.old.place (values self.old.elements)) predicate.old }
+        ensures { RemovesFirst (λ node. node) (CalledAt F.FnMut) self.old.elements self.old.place predicate.old result
+            self.new.elements self.new.place predicate.new }
+    {
+        self.go_to_passing(predicate);
+        if self.place() == self.len() {
+            return None;
+        }
+        Some(self.remove_current())
     }
 }
