@@ -10,8 +10,9 @@
 //! the drop. A `Cursor` and an `Iter` only read, and keep the address of their node. A `DrainFilter` has a place, a
 //! list and a predicate, and each `next` is `remove_first` of a `CursorMut` at that place.
 //!
-//! Proved: that each call does what it does on a plain sequence, at all lengths; how many links a split follows, by
-//! `try_split_off_in`. Only tested: that steps of a guard take few moves, and that a drop leaves no node.
+//! Proved: that each call does what it does on a plain sequence, at all lengths; what `try_split_off_in` counts. That a
+//! split follows no link which it does not count is read in one private function, and no contract says it. Only tested:
+//! that steps of a guard take few moves, and that a drop leaves no node.
 //!
 //! A list takes 56 bytes, 32 of them for the fingers, and a node 32 bytes and its value. Calls at the ends and at a
 //! cursor are O(1), but for `remove_first`. `split_off` walks from the nearer end, and `remove`, which takes a number,

@@ -9,9 +9,10 @@
 //! `mpsc_queue` the public names.
 //!
 //! Proved: that elements come out in the order in which they went in, each once; that `Empty` is returned only where no
-//! element was in the queue; that one party at a time has the right to dequeue; that no room is lost. This holds for
-//! all parties and all interleavings of their steps. Only tested: that calls that may wait return, that a drop of the
-//! queue drops each element, and that only the constructors allocate. That atomic steps have one order is trusted.
+//! element was in the queue; that one party at a time has the right to dequeue; that no room is lost but those of a
+//! party that is dropped. This holds for all parties and all interleavings of their steps. Only tested: that calls that
+//! may wait return, that a drop of the queue drops each element, and that only the constructors allocate. That atomic
+//! steps have one order is trusted.
 //!
 //! A room takes 24 bytes, with handles of one word. `new` and `close` are O(r), for r rooms. `split`, `give_back` and
 //! `refill_at_most` walk through the rooms that they give or keep. Other calls that do not wait are O(1), and

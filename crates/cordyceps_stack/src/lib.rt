@@ -9,10 +9,10 @@
 //! `stack` has the names for users; it also has those of `cordyceps_single`, as `sorted_list` does.
 //!
 //! Proved: what each call adds to the history that its party has seen, whatever other threads do between its steps;
-//! that a batch is all that was held, in order; that no element and no room is lost or duplicated; that a whole party's
-//! push succeeds at its first try; that who was told of elements by a receipt takes some, unless others did. Only
-//! tested: that calls which may wait return, that a drop leaves no node, and how many rooms of the pool a party that is
-//! not whole takes.
+//! that a batch is all that was held, in order; that no element is lost or duplicated, and no room but those of a party
+//! that is dropped; that a whole party's push succeeds at its first try; that who was told of elements by a receipt
+//! takes some, unless others did. Only tested: that calls which may wait return, that a drop leaves no node, and how
+//! many rooms of the pool a party that is not whole takes.
 //!
 //! A room takes 16 bytes, and `new` allocates them all, at most 1,048,576; a node takes 32 bytes and its value. A try
 //! to push is O(1): one load and one compare-exchange of the head. One of n elements has also a step on each of n

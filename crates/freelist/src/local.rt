@@ -72,8 +72,9 @@ impl<'a, T: Linked<Links<T>>> Local<'a, T> {
         }
     }
 
-    /// Removes the block that was put back last and returns it. If there is none, it first takes all shared blocks.
-    /// Returns `None` if there is no block at all.
+    /// Removes a block and returns it: of the local blocks the one that was put back last. If there is none, it first
+    /// takes all shared blocks, of which the one that was put back last is first. Returns `None` if there is no block at
+    /// all.
     ///
     /// # Complexity
     /// O(1) if there is a local block, without an atomic step. Otherwise O(n), for n shared blocks: one swap of the
