@@ -85,6 +85,10 @@ module _ {E : Type 0} where
     pub few : length elements ≤ max
     pub receives : Receives elements u w
 
+  -- the receiver received elements of which f tells the same as of these, in this order
+  abbrev pub ReceivesAs : {A : Type 0} → (E → A) → List E → PartyOf E → PartyOf E → Type 0
+  ReceivesAs f items u w = (es : List E) × (map f items ≡ map f es) × Receives es u w
+
   -- the receiver received nothing, and, if the channel is disconnected, it is over
   abbrev pub FindsNone : TryRecvError → PartyOf E → PartyOf E → Type 0
   FindsNone nothing.Empty u w = Receives [] u w
