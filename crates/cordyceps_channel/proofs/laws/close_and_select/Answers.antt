@@ -10,5 +10,5 @@ pub returns-clause-order : goal.returns-clause-order
 returns-clause-order g c =
     let us = c.args.select.now in
     let vs = c.learn.new.self in
-    let learned = subst (λ h. LearnsAt c.args.index h us vs) c.close.ensures.1 c.learn.ensures in
+    let learned = subst (λ h. LearnsAt c.args.index h us vs) c.close.ensures.receipt.1 c.learn.ensures in
     order_selected (λ v. v.items) c.select_all.result c.args.index c.args.sender us vs c.select_all.new.select learned c.select_all.ensures
