@@ -25,7 +25,7 @@ module _ {E : Type 0} where
       let out : went (plain w.seen) ≡ went before = ap went all ∙ (flat_map-append goes before after ∙ append-nil (went before)) in
       let in_all : came (plain w.seen) ≡ came before = ap came all ∙ (flat_map-append comes before after ∙ append-nil (came before)) in
       let alone : w.share ≡ whole = a.0.share ∙ is in
-      record { alone = alone; all = sym (ap went (plain_own w.seen (a.0.alone alone))) ∙ (out ∙ (even ∙ sym in_all)) }
+      record { alone = alone; legal = a.0.legal; all = sym (ap went (plain_own w.seen (a.0.alone alone))) ∙ (out ∙ (even ∙ sym in_all)) }
 
   pub over : (u w : PartyOf E) (why : TryDequeueError) → u.share ≡ whole → Consumes (Err why) u w → why ≡ error.Empty → IsOver w
   over u w why is d c = finds_all u w is (subst (λ (y : TryDequeueError). Consumes (Err y) u w) c d)

@@ -5,4 +5,5 @@ mod Received
 mod Registering
 mod Selecting
 mod Taking
+mod Telling
 mod Waiting

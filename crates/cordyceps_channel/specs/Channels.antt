@@ -7,7 +7,7 @@ use Rattle.cordyceps_shared.specs.Knowing.{IsPrefixOf}
 use Rattle.cordyceps_shared.specs.Shares.{Name, whole, keeps_half, gives_half}
 use Rattle.cordyceps_queue.specs.History.{Event, came, went}
 use Rattle.cordyceps_shared.specs.Interleaving.{Interleaves}
-use Rattle.cordyceps_queue.specs.Shared.Calls.{PartyOf, FindsFull, capacity}
+use Rattle.cordyceps_queue.specs.Shared.Calls.{PartyOf, Legal, FindsFull, capacity}
 use Rattle.cordyceps_queue.specs.Shared.Moves.{Moves}
 use Rattle.cordyceps_channel.specs.declared.errors.RecvTimeoutError.{RecvTimeoutError}
 use Rattle.cordyceps_channel.specs.declared.errors.RecvTimeoutError.TheVariants as in_time
@@ -63,9 +63,10 @@ module _ {E : Type 0} where
     pub seen : IsPrefixOf (plain u.seen) (plain w.seen)
 
   -- all senders have ended, and the receiver received each element that was ever sent, in the order in which they came
-  -- in
+  -- in. The history that it has seen is legal
   pub record IsOver (w : PartyOf E) : Type 0 where
     pub alone : w.share ≡ whole
+    pub legal : Legal (plain w.seen)
     pub all : received w ≡ came (plain w.seen)
 
   -- the receiver received nothing, and has the same share
@@ -84,6 +85,10 @@ module _ {E : Type 0} where
     pub some : elements ≢ []
     pub few : length elements ≤ max
     pub receives : Receives elements u w
+
+  -- the receiver received elements of which f tells the same as of these, in this order
+  abbrev pub ReceivesAs : {A : Type 0} → (E → A) → List E → PartyOf E → PartyOf E → Type 0
+  ReceivesAs f items u w = (es : List E) × (map f items ≡ map f es) × Receives es u w
 
   -- the receiver received nothing, and, if the channel is disconnected, it is over
   abbrev pub FindsNone : TryRecvError → PartyOf E → PartyOf E → Type 0

@@ -1,14 +1,16 @@
 //! Calls of a channel in a row, whose contracts are laws.
-ghost use Rattle.std.specs.Prelude.{◌≡◌, [], ◌∷◌, IfOk};
-ghost use Rattle.cordyceps_channel.specs.Channels.{IsOver, Receives, AreAmong, TellsReceiver, sent, received};
+ghost use Rattle.std.specs.Prelude.{◌≡◌, ◌≤◌, [], ◌∷◌, ◌++◌, map, IfOk};
+ghost use Rattle.cordyceps_channel.specs.Channels.{IsOver, Receives, ReceivesAs, AreAmong, TellsReceiver, sent, received};
+ghost use Rattle.cordyceps_channel.specs.Selects.{At, AreOver, Selects};
 
 use crate::errors::Disconnected;
 use crate::receiver::Receiver;
+use crate::select::{Select, Selected};
 use crate::sender::Sender;
 use crate::wake::Wake;
 use cordyceps_base::linked::Linked;
 use cordyceps_base::mpsc_queue::Links;
-use cordyceps_queue::mpsc_queue::Receipt;
+use cordyceps_queue::mpsc_queue::{Batch, Receipt};
 use std::alloc::{AllocError, Global};
 use std::sync::Wait;
 
@@ -87,4 +89,102 @@ pub fn recv_told<T: Linked<Links<T>>, W: Wake + Drop, R: Wait>(
         Ok(element) => element,
         Err(Disconnected { value: () }) => unreachable!(),
     }
+}
+
+/// Appends the elements of a batch.
+fn push_batch<T: Linked<Links<T>>>(
+    all: &mut Vec<T::Handle>,
+    batch: Batch<T>,
+) -> Result<(), AllocError>
+    ensures { IfOk result (λ _. map T.element all.new.items ≡ map T.element all.old.items ++ batch) }
+{
+    for element in batch {
+        all.push(element)?;
+    }
+    Ok(())
+}
+
+/// Receives up to `max` elements at a time until all senders have ended, and returns the elements in the order in which
+/// they came. By then each element that was ever sent has been received. Requires that `max` is at least 1.
+///
+/// # Errors
+/// As `receive_all`.
+///
+/// # Complexity
+/// As `receive_all`.
+///
+/// # Waits
+/// Until all senders have ended.
+pub fn receive_all_in_batches<T: Linked<Links<T>>, W: Wake + Drop, R: Wait>(
+    rt: &R,
+    alloc: Global,
+    receiver: &mut Receiver<T, W>,
+    max: usize,
+) -> Result<Vec<T::Handle>, AllocError>
+    requires { 1 ≤ max }
+    ensures { IfOk result (λ all. ReceivesAs T.element all.items receiver.old receiver.new × IsOver receiver.new) }
+{
+    let mut all = Vec::new(alloc);
+    for _ in rt.forever() {
+        match receiver.recv_batch(rt, max) {
+            Ok(batch) => push_batch(&mut all, batch)?,
+            Err(Disconnected { value: () }) => return Ok(all),
+        }
+    }
+    unreachable!()
+}
+
+/// Receives from the channels of a select until all senders have ended, and returns the elements in the order in which
+/// they came. By then each element that was ever sent has been received.
+///
+/// # Errors
+/// As `receive_all`.
+///
+/// # Complexity
+/// O(n), for n elements, besides the tries of a thread that waits.
+///
+/// # Waits
+/// Until all senders of all channels have ended.
+pub fn select_all<T: Linked<Links<T>>, W: Wake + Drop, R: Wait>(
+    rt: &R,
+    alloc: Global,
+    select: &mut Select<T, W>,
+) -> Result<Vec<Selected<T::Handle>>, AllocError>
+    ensures { IfOk result (λ all. Selects all.items select.old select.new × AreOver select.new) }
+{
+    let mut all = Vec::new(alloc);
+    for _ in rt.forever() {
+        match select.recv(rt) {
+            Ok(found) => all.push(found)?,
+            Err(Disconnected { value: () }) => return Ok(all),
+        }
+    }
+    unreachable!()
+}
+
+/// Ends a sender of the channel with this number of a select, and receives from all channels until all senders have
+/// ended. What this sender sent is then among what the channel's receiver received, in the order in which it was sent.
+/// Requires that the select has this channel, and that the sender is of it.
+///
+/// # Errors
+/// As `receive_all`.
+///
+/// # Complexity
+/// As `select_all`.
+///
+/// # Waits
+/// Until all senders of all channels have ended.
+pub fn close_and_select<T: Linked<Links<T>>, W: Wake + Drop, R: Wait>(
+    rt: &R,
+    alloc: Global,
+    sender: Sender<T, W>,
+    index: usize,
+    select: &mut Select<T, W>,
+) -> Result<Vec<Selected<T::Handle>>, AllocError>
+    requires { At index (λ w. sender.table ≡ w.table) select.old }
+    ensures all { IfOk result (λ all. Selects all.items select.old select.new × AreOver select.new) }
+    ensures order { IfOk result (λ _. At index (λ w. AreAmong (sent sender) (received w)) select.new) }
+{
+    select.learn(index, sender.close());
+    select_all(rt, alloc, select)
 }

@@ -7,6 +7,7 @@
 ghost use Rattle.std.specs.Prelude.{◌≡◌, ◌≤◌, ◌++◌, [], ◌∷◌, length, IfOk, MatchResult};
 ghost use Rattle.cordyceps_channel.specs.Channels.{IsChannel};
 ghost use Rattle.cordyceps_channel.specs.Selects.{AreOver, ReceivesAt, ReceivesNothing, SelectsNone, SelectsNoneInTime};
+ghost use Rattle.cordyceps_channel.specs.Selects.{At, LearnsAt};
 
 use crate::bell::{Bell, Listening};
 use crate::errors::{Disconnected, RecvTimeoutError, TryRecvError};
@@ -17,6 +18,7 @@ use crate::wake::{NoWake, Wake};
 use cordyceps_base::linked::Linked;
 use cordyceps_base::mpsc_queue::Links;
 use cordyceps_base::shared::MAX_ROOMS;
+use cordyceps_queue::mpsc_queue::Receipt;
 use std::alloc::{AllocError, Global};
 use std::marker::Model;
 use std::sync::{Arc, Wait};
@@ -238,6 +240,28 @@ impl<T: Linked<Links<T>>, W: Wake + Drop> Select<T, W> {
             }
         }
         unreachable!()
+    }
+
+    /// Learns a receipt of a sender of the channel with this number. Its receiver has then seen all that the receipt
+    /// tells. Requires that the select has this channel, and that the receipt is of it.
+    ///
+    /// # Complexity
+    /// O(1): two loads.
+    ///
+    /// # Waits
+    /// Never.
+    ///
+    /// # Examples
+    /// From `laws::close_and_select` of `cordyceps_channel`:
+    /// ```
+    /// select.learn(index, sender.close());
+    /// select_all(rt, alloc, select)
+    /// ```
+    pub fn learn(&mut self, index: usize, receipt: Receipt<T>)
+        requires { At index (λ u. receipt.table ≡ u.table) self.old }
+        ensures { LearnsAt index receipt.told self.old self.new }
+    {
+        self.receivers[index].learn(receipt);
     }
 
     /// Arms the select: the next sender of one of the channels that sends or ends calls the waker of `with_waker`, once.

@@ -7,7 +7,7 @@
 ghost use Rattle.std.specs.Arc.{arc_value};
 ghost use Rattle.std.specs.Prelude.{◌≡◌, ◌<◌, true, false, IfOk, MatchResult};
 ghost use Rattle.cordyceps_shared.specs.Histories.{plain};
-ghost use Rattle.cordyceps_queue.specs.Shared.Calls.{FindsFull};
+ghost use Rattle.cordyceps_queue.specs.Shared.Calls.{FindsFull, Legal};
 ghost use Rattle.cordyceps_channel.specs.Channels.{Sends, SendsNothing, HasBack, IsOpened, HasRegister, IsRegister};
 
 use crate::bell::Listening;
@@ -181,7 +181,8 @@ impl<T: Linked<Links<T>>, W: Wake + Drop> Sender<T, W> {
         unreachable!()
     }
 
-    /// Returns a receipt, which tells the receiver what this sender has seen: its own elements, and others'.
+    /// Returns a receipt, which tells the receiver what this sender has seen: its own elements, and others'. This history
+    /// is legal.
     ///
     /// # Complexity
     /// O(1): one load.
@@ -191,7 +192,9 @@ impl<T: Linked<Links<T>>, W: Wake + Drop> Sender<T, W> {
     pub fn receipt(&mut self) -> Receipt<T>
         ensures same { self.new ≡ self.old }
         ensures receipt { (result.table ≡ self.old.table) × (result.told ≡ plain self.old.seen) }
+        ensures legal { Legal result.told }
     {
+        let _rooms = self.party.rooms();
         self.shared.queue.receipt(&mut self.party)
     }
 
@@ -204,7 +207,8 @@ impl<T: Linked<Links<T>>, W: Wake + Drop> Sender<T, W> {
     /// # Waits
     /// Never.
     pub fn close(self) -> Receipt<T>
-        ensures { (result.table ≡ self.table) × (result.told ≡ plain self.seen) }
+        ensures receipt { (result.table ≡ self.table) × (result.told ≡ plain self.seen) }
+        ensures legal { Legal result.told }
     {
         let mut sender = self;
         let receipt = sender.receipt();

@@ -223,6 +223,27 @@ const TURNS: [(Call, Reply); 24] = [
     (Call::Recv, Reply::Disconnected),
 ];
 
+/// An element of either channel is found by the next try, wherever the search begins, and so is the end of both.
+const EITHER: [(Call, Reply); 17] = [
+    (Call::Channel(4), Reply::Done),
+    (Call::Channel(4), Reply::Done),
+    (Call::TrySend(1, 1), Reply::Done),
+    (Call::TryRecv, Reply::Received(1, 1)),
+    (Call::TrySend(1, 2), Reply::Done),
+    (Call::TryRecv, Reply::Received(1, 2)),
+    (Call::TrySend(0, 3), Reply::Done),
+    (Call::TryRecv, Reply::Received(0, 3)),
+    (Call::TrySend(0, 4), Reply::Done),
+    (Call::TryRecv, Reply::Received(0, 4)),
+    (Call::TrySend(1, 5), Reply::Done),
+    (Call::EndSender(0), Reply::Done),
+    (Call::RecvDeadline(0), Reply::Received(1, 5)),
+    (Call::RecvDeadline(0), Reply::Timeout),
+    (Call::EndSender(1), Reply::Done),
+    (Call::TryRecv, Reply::Disconnected),
+    (Call::RecvDeadline(0), Reply::Disconnected),
+];
+
 /// The waker is called once for each time that the select is armed, by a sender that sends or ends.
 const WAKES: [(Call, Reply); 21] = [
     (Call::Channel(4), Reply::Done),
@@ -262,7 +283,13 @@ const DROPS: [(Call, Reply); 8] = [
 
 #[test]
 fn a_select_replies(rt: HostRuntime) {
-    for lines in [&NO_CHANNEL[..], &TURNS[..], &WAKES[..], &DROPS[..]] {
+    for lines in [
+        &NO_CHANNEL[..],
+        &TURNS[..],
+        &EITHER[..],
+        &WAKES[..],
+        &DROPS[..],
+    ] {
         let mut hub = Hub::new(&rt, rt.alloc());
         for (call, wanted) in lines {
             same(&rt, hub.call(&rt, rt.alloc(), *call), *wanted);

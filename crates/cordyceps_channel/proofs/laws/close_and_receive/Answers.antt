@@ -10,5 +10,5 @@ returns-clause-all g c = all_received (λ v. v.items) c.receive_all.result c.arg
 pub returns-clause-order : goal.returns-clause-order
 returns-clause-order g c =
     let v = c.learn.new.self in
-    let told = subst (λ h. IsPrefixOf h (plain v.seen)) c.close.ensures.1 c.learn.ensures.told in
+    let told = subst (λ h. IsPrefixOf h (plain v.seen)) c.close.ensures.receipt.1 c.learn.ensures.told in
     order_kept (λ l. l.items) c.receive_all.result c.args.sender v c.receive_all.new.receiver told c.receive_all.ensures
