@@ -6,14 +6,14 @@ use Rattle.std.proofs.lemmas.Option.{none-some}
 use Rattle.std.specs.Option.{unwrap_or}
 use Rattle.slab.specs.Slab.{get, SameValues, Updates}
 use denote.RawPtr.{Ptr}
-use Rattle.cordyceps.specs.Elements.Element.{Element}
-use Rattle.cordyceps.specs.Elements.Nodes.{Nodes, spots}
-use Rattle.cordyceps.specs.Spots.Agreeing.{HasElementAt}
-use Rattle.cordyceps.specs.Spots.BySpot.{HasSpot, IsTaken}
-use Rattle.cordyceps.specs.Spots.Spots.{AreDistinct}
-use Rattle.cordyceps.proofs.Spots.Apart.{permuted_distinct}
-use Rattle.cordyceps.proofs.Spots.Holding.{left_is_at, spot_is_at, taken_gone, taken_is_at, taken_or_left}
-use Rattle.cordyceps.proofs.Spots.Valid.{permuted_is_at}
+use Rattle.cordyceps_base.specs.Element.{Element}
+use Rattle.cordyceps_base.specs.Nodes.{Nodes, spots}
+use Rattle.cordyceps_stable.specs.Agreeing.{HasElementAt}
+use Rattle.cordyceps_base.specs.BySpot.{HasSpot, IsTaken}
+use Rattle.cordyceps_base.specs.Spots.{AreDistinct}
+use Rattle.cordyceps_heap.proofs.Apart.{permuted_distinct}
+use Rattle.cordyceps_stable.proofs.Holding.{left_is_at, spot_is_at, taken_gone, taken_is_at, taken_or_left}
+use Rattle.cordyceps_stable.proofs.Valid.{permuted_is_at}
 use Rattle.cordyceps_c_base.specs.declared.tickets.Entry.{Entry}
 use Rattle.cordyceps_c_base.specs.declared.tickets.Ticket.{Ticket}
 use Rattle.cordyceps_c_base.specs.declared.tickets.Tickets.{Tickets}

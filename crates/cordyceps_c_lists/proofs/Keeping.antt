@@ -3,12 +3,12 @@ use Rattle.std.proofs.Common.{◌≡◌, ◌+◌, ◌<◌, ◌≤◌, ℕ, Some,
 use Rattle.std.proofs.lemmas.Option.{none-some}
 use Rattle.slab.specs.Slab.{get, SameValues, Updates}
 use denote.RawPtr.{Ptr}
-use Rattle.cordyceps.specs.Elements.Element.{Element}
-use Rattle.cordyceps.specs.Elements.Nodes.{Nodes, spots}
-use Rattle.cordyceps.specs.Spots.Agreeing.{HasElementAt}
-use Rattle.cordyceps.specs.Spots.BySpot.{IsTaken}
-use Rattle.cordyceps.specs.Spots.Spots.{AreDistinct}
-use Rattle.cordyceps.proofs.Spots.Holding.{left_is_at, moved_is_at, taken_is_at, taken_or_left}
+use Rattle.cordyceps_base.specs.Element.{Element}
+use Rattle.cordyceps_base.specs.Nodes.{Nodes, spots}
+use Rattle.cordyceps_stable.specs.Agreeing.{HasElementAt}
+use Rattle.cordyceps_base.specs.BySpot.{IsTaken}
+use Rattle.cordyceps_base.specs.Spots.{AreDistinct}
+use Rattle.cordyceps_stable.proofs.Holding.{left_is_at, moved_is_at, taken_is_at, taken_or_left}
 use Rattle.cordyceps_c_base.specs.declared.tickets.Ticket.{Ticket}
 use Rattle.cordyceps_c_base.specs.declared.tickets.Tickets.{Tickets}
 use Rattle.cordyceps_c_base.specs.Tickets.{IsEnded, IsNext}

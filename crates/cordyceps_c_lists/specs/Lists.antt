@@ -1,12 +1,12 @@
 -- Lists whose elements have tickets, and what their calls do: l is the list before, and m after.
 use Rattle.std.specs.Prelude.{◌≡◌, ℕ, ◌<◌, ◌≤◌, [], ◌∷◌, ◌++◌, ◌⊎◌}
 use denote.RawPtr.{Ptr}
-use Rattle.cordyceps.specs.Elements.Element.{Element}
-use Rattle.cordyceps.specs.Elements.Nodes.{Nodes, spots}
-use Rattle.cordyceps.specs.Spots.Agreeing.{HasElementAt}
-use Rattle.cordyceps.specs.Spots.BySpot.{IsTaken, IsPutBefore, IsPutAfter, IsMovedFront, IsMovedBack, IsMovedAfter}
-use Rattle.cordyceps.specs.Spots.BySpot.{IsFirst, IsLast, AreNext}
-use Rattle.cordyceps.specs.Spots.Spots.{AreDistinct}
+use Rattle.cordyceps_base.specs.Element.{Element}
+use Rattle.cordyceps_base.specs.Nodes.{Nodes, spots}
+use Rattle.cordyceps_stable.specs.Agreeing.{HasElementAt}
+use Rattle.cordyceps_base.specs.BySpot.{IsTaken, IsPutBefore, IsPutAfter, IsMovedFront, IsMovedBack, IsMovedAfter}
+use Rattle.cordyceps_base.specs.BySpot.{IsFirst, IsLast, AreNext}
+use Rattle.cordyceps_base.specs.Spots.{AreDistinct}
 use Rattle.cordyceps_c_base.specs.declared.tickets.Ticket.{Ticket}
 use Rattle.cordyceps_c_base.specs.declared.tickets.Tickets.{Tickets}
 use Rattle.cordyceps_c_base.specs.Tickets.{Bears, Fit, IsGiven, NoneBears}

@@ -2,17 +2,17 @@
 use Rattle.std.proofs.Common.{◌≡◌, ℕ, ◌+◌, [], ◌∷◌, ◌++◌, List, true, Option, Some, None, MatchOption, refl, ap, ◌∙◌, IsPermutation}
 use Rattle.std.specs.Ordering.{nat_cmp}
 use denote.RawPtr.{Ptr}
-use Rattle.cordyceps.specs.Elements.Element.{Element}
-use Rattle.cordyceps.specs.Elements.Nodes.{Nodes, spots}
-use Rattle.cordyceps.specs.Orders.Arrangement.{IsEarliestLeast}
-use Rattle.cordyceps.specs.Orders.ByKey.{by_key}
-use Rattle.cordyceps.specs.Spots.Arranged.{precedes}
-use Rattle.cordyceps.specs.Spots.BySpot.{HasSpot, IsTaken}
-use Rattle.cordyceps.specs.Spots.DoubleLines.{flat}
-use Rattle.cordyceps.specs.Spots.Heap.{Holds}
-use Rattle.cordyceps.specs.Spots.Spots.{AreDistinct}
-use Rattle.cordyceps.proofs.Spots.Arrivals.{Stands, first_of}
-use Rattle.cordyceps.proofs.Spots.Valid.{permuted_is_at, permuted_keeps}
+use Rattle.cordyceps_base.specs.Element.{Element}
+use Rattle.cordyceps_base.specs.Nodes.{Nodes, spots}
+use Rattle.cordyceps_single.specs.Arrangement.{IsEarliestLeast}
+use Rattle.cordyceps_single.specs.ByKey.{by_key}
+use Rattle.cordyceps_stable.specs.Arranged.{precedes}
+use Rattle.cordyceps_base.specs.BySpot.{HasSpot, IsTaken}
+use Rattle.cordyceps_base.specs.DoubleLines.{flat}
+use Rattle.cordyceps_heap.specs.Heap.{Holds}
+use Rattle.cordyceps_base.specs.Spots.{AreDistinct}
+use Rattle.cordyceps_stable.proofs.Arrivals.{Stands, first_of}
+use Rattle.cordyceps_stable.proofs.Valid.{permuted_is_at, permuted_keeps}
 use Rattle.cordyceps_c_base.specs.declared.tickets.Ticket.{Ticket}
 use Rattle.cordyceps_c_base.specs.declared.tickets.Tickets.{Tickets}
 use Rattle.cordyceps_c_base.specs.Tickets.{Fit, Leads, NoneBears, no_ticket}

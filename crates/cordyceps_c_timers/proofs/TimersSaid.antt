@@ -4,16 +4,16 @@ use Rattle.std.proofs.lemmas.List.Sorted.{IsPermutation-sym}
 use Rattle.std.specs.List.{AllByRecursion}
 use Rattle.std.specs.Prelude.{IfSome}
 use denote.RawPtr.{Ptr}
-use Rattle.cordyceps.specs.Elements.Element.{Element}
-use Rattle.cordyceps.specs.Elements.Nodes.{Nodes, spots}
-use Rattle.cordyceps.specs.Orders.Arrangement.{IsEarliestLeast}
-use Rattle.cordyceps.specs.Spots.Agreeing.{HasElementAt}
-use Rattle.cordyceps.specs.Spots.Arranged.{precedes}
-use Rattle.cordyceps.specs.Spots.BySpot.{HasSpot, IsTaken}
-use Rattle.cordyceps.specs.Spots.Clock.{Holds, rounded}
-use Rattle.cordyceps.specs.Spots.Spots.{AreDistinct}
-use Rattle.cordyceps.proofs.Spots.Classes.{all_back}
-use Rattle.cordyceps.proofs.Spots.Valid.{permuted_is_at, permuted_keeps}
+use Rattle.cordyceps_base.specs.Element.{Element}
+use Rattle.cordyceps_base.specs.Nodes.{Nodes, spots}
+use Rattle.cordyceps_single.specs.Arrangement.{IsEarliestLeast}
+use Rattle.cordyceps_stable.specs.Agreeing.{HasElementAt}
+use Rattle.cordyceps_stable.specs.Arranged.{precedes}
+use Rattle.cordyceps_base.specs.BySpot.{HasSpot, IsTaken}
+use Rattle.cordyceps_clock.specs.Clock.{Holds, rounded}
+use Rattle.cordyceps_base.specs.Spots.{AreDistinct}
+use Rattle.cordyceps_stable.proofs.Classes.{all_back}
+use Rattle.cordyceps_stable.proofs.Valid.{permuted_is_at, permuted_keeps}
 use Rattle.cordyceps_c_base.specs.declared.tickets.Ticket.{Ticket}
 use Rattle.cordyceps_c_base.specs.declared.tickets.Tickets.{Tickets}
 use Rattle.cordyceps_c_base.specs.Tickets.{Fit, Leads, NoneBears, no_ticket}

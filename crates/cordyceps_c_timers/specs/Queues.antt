@@ -2,12 +2,12 @@
 use Rattle.std.specs.Prelude.{◌≡◌, ℕ, [], ◌∷◌, List, Bool, MatchBool, Option, None, Some, MatchOption}
 use Rattle.std.specs.Ordering.{nat_cmp}
 use denote.RawPtr.{Ptr}
-use Rattle.cordyceps.specs.Elements.Element.{Element}
-use Rattle.cordyceps.specs.Elements.Nodes.{Nodes}
-use Rattle.cordyceps.specs.Orders.ByKey.{by_key}
-use Rattle.cordyceps.specs.Spots.BySpot.{IsTaken}
-use Rattle.cordyceps.specs.Spots.DoubleLines.{flat}
-use Rattle.cordyceps.specs.Spots.Heap.{Holds}
+use Rattle.cordyceps_base.specs.Element.{Element}
+use Rattle.cordyceps_base.specs.Nodes.{Nodes}
+use Rattle.cordyceps_single.specs.ByKey.{by_key}
+use Rattle.cordyceps_base.specs.BySpot.{IsTaken}
+use Rattle.cordyceps_base.specs.DoubleLines.{flat}
+use Rattle.cordyceps_heap.specs.Heap.{Holds}
 use Rattle.cordyceps_c_base.specs.declared.tickets.Ticket.{Ticket}
 use Rattle.cordyceps_c_base.specs.declared.tickets.Tickets.{Tickets}
 use Rattle.cordyceps_c_base.specs.Tickets.{Bears, Fit, IsGiven, NoneBears, no_ticket}

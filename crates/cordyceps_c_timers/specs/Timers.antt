@@ -2,10 +2,10 @@
 use Rattle.std.specs.Prelude.{◌≡◌, ◌⊎◌, ℕ, ◌≤◌, ◌<◌, max, [], ◌∷◌, Bool, MatchBool, Option, None, Some, MatchOption}
 use Rattle.std.specs.List.{AllByRecursion}
 use denote.RawPtr.{Ptr}
-use Rattle.cordyceps.specs.Elements.Element.{Element}
-use Rattle.cordyceps.specs.Elements.Nodes.{Nodes}
-use Rattle.cordyceps.specs.Spots.BySpot.{IsTaken}
-use Rattle.cordyceps.specs.Spots.Clock.{rounded}
+use Rattle.cordyceps_base.specs.Element.{Element}
+use Rattle.cordyceps_base.specs.Nodes.{Nodes}
+use Rattle.cordyceps_base.specs.BySpot.{IsTaken}
+use Rattle.cordyceps_clock.specs.Clock.{rounded}
 use Rattle.cordyceps_c_base.specs.declared.tickets.Ticket.{Ticket}
 use Rattle.cordyceps_c_base.specs.Tickets.{Bears, IsGiven, NoneBears, no_ticket}
 use Rattle.cordyceps_c_timers.specs.Arranged.{placed}

@@ -1,7 +1,7 @@
 use Rattle.std.proofs.Common.{◌≡◌, Ok, Err, refl, ap, subst}
-use Rattle.cordyceps.specs.Elements.Element.{Element}
-use Rattle.cordyceps.specs.Parties.Shares.{whole}
-use Rattle.cordyceps.specs.Queues.Calls.{Dequeues, IsCertain}
+use Rattle.cordyceps_base.specs.Element.{Element}
+use Rattle.cordyceps_shared.specs.Shares.{whole}
+use Rattle.cordyceps_queue.specs.Shared.Calls.{Dequeues, IsCertain}
 use Rattle.cordyceps_c_shared.specs.declared.inbox.Inbox.{Inbox}
 use Rattle.cordyceps_c_base.specs.declared.carried.Carried.{Carried}
 use Rattle.cordyceps_c_base.proofs.Answering.{on_some}

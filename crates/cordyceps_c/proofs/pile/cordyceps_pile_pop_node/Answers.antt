@@ -1,5 +1,5 @@
 use Rattle.std.proofs.Common.{◌≡◌, Bool, true, false, Option, Some, None, MatchOption, is_some, subst}
-use Rattle.cordyceps.specs.Elements.Element.{Element}
+use Rattle.cordyceps_base.specs.Element.{Element}
 use Rattle.cordyceps_base.specs.declared.node.Block.{Block}
 use Rattle.cordyceps_c_base.specs.declared.carried.Carried.{Carried}
 use Rattle.cordyceps_c_base.specs.Elements.{HoldsElement}

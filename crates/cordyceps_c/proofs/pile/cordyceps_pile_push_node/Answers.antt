@@ -1,6 +1,6 @@
 use Rattle.std.proofs.Common.{Err, refl, subst}
-use Rattle.cordyceps.specs.Elements.Element.{Element}
-use Rattle.cordyceps.specs.Transfers.TryPushError.{TryPushError}
+use Rattle.cordyceps_base.specs.Element.{Element}
+use Rattle.cordyceps_stack.specs.declared.shared.push_error.TryPushError.{TryPushError}
 use Rattle.cordyceps_c_base.specs.declared.carried.Carried.{Carried}
 use Rattle.cordyceps_c_base.specs.Elements.{HoldsElement}
 use Rattle.cordyceps_c_base.proofs.Answering.{on_some}

@@ -1,7 +1,7 @@
 use Rattle.std.proofs.Common.{◌≡◌, ◌∷◌, ◌++◌, [], true, false, refl, ap, sym, ◌∙◌, subst}
-use Rattle.cordyceps.specs.Elements.Element.{Element}
-use Rattle.cordyceps.specs.Spots.Heap.{nodes_in}
-use Rattle.cordyceps.proofs.Spots.Holding.{last_taken}
+use Rattle.cordyceps_base.specs.Element.{Element}
+use Rattle.cordyceps_heap.specs.Heap.{nodes_in}
+use Rattle.cordyceps_stable.proofs.Holding.{last_taken}
 use Rattle.cordyceps_c_base.proofs.Fitting.{changed_fits, permuted_fits, there_is}
 use Rattle.cordyceps_c_timers.specs.declared.queue.Ranked.{Ranked}
 use Rattle.cordyceps_c_timers.specs.Queues.{Changes, Queued, key_of, slot_of, with_key}

@@ -1,5 +1,5 @@
 use Rattle.std.proofs.Common.{◌≡◌, ◌∷◌, Some, refl, sym, subst}
-use Rattle.cordyceps.specs.Spots.Heap.{Heaped, nodes_in}
+use Rattle.cordyceps_heap.specs.Heap.{Heaped, nodes_in}
 use Rattle.cordyceps_c_base.proofs.Fitting.{popped_fits}
 use Rattle.cordyceps_c_timers.specs.declared.queue.ByPriority.{ByPriority}
 use Rattle.cordyceps_c_timers.specs.declared.queue.Ranked.{Ranked}

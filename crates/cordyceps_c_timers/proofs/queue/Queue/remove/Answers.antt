@@ -1,5 +1,5 @@
 use Rattle.std.proofs.Common.{◌≡◌, Some, None, refl, subst}
-use Rattle.cordyceps.specs.Spots.Heap.{nodes_in}
+use Rattle.cordyceps_heap.specs.Heap.{nodes_in}
 use Rattle.cordyceps_c_base.proofs.Fitting.{ended_fits, there_is}
 use Rattle.cordyceps_c_timers.specs.Queues.{Queued, Removes, slot_of}
 use Rattle.cordyceps_c_timers.proofs.QueuesSaid.{none_has, removes, seen}

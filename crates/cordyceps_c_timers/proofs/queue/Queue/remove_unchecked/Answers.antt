@@ -1,6 +1,6 @@
 use Rattle.std.proofs.Common.{refl, sym, subst}
-use Rattle.cordyceps.specs.Spots.BySpot.{HasSpot}
-use Rattle.cordyceps.specs.Spots.Heap.{nodes_in}
+use Rattle.cordyceps_base.specs.BySpot.{HasSpot}
+use Rattle.cordyceps_heap.specs.Heap.{nodes_in}
 use Rattle.cordyceps_c_base.proofs.Fitting.{ended_fits}
 use Rattle.cordyceps_c_timers.specs.Queues.{Queued, RemovesAt, slot_of}
 use Rattle.cordyceps_c_timers.proofs.QueuesSaid.{removes_at, seen, waits_at}

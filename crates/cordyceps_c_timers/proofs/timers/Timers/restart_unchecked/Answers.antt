@@ -1,5 +1,5 @@
 use Rattle.std.proofs.Common.{◌≡◌, max, refl, ap, sym, ◌∙◌, subst}
-use Rattle.cordyceps.specs.Spots.BySpot.{HasSpot}
+use Rattle.cordyceps_base.specs.BySpot.{HasSpot}
 use Rattle.cordyceps_c_base.proofs.Fitting.{changed_fits}
 use Rattle.cordyceps_c_timers.specs.declared.timers.Timer.{Timer}
 use Rattle.cordyceps_c_timers.specs.Timers.{RestartsAt, Running, due_of, slot_of, with_deadline}

@@ -1,5 +1,5 @@
 use Rattle.std.proofs.Common.{refl, sym, subst}
-use Rattle.cordyceps.specs.Spots.BySpot.{HasSpot}
+use Rattle.cordyceps_base.specs.BySpot.{HasSpot}
 use Rattle.cordyceps_c_base.proofs.Fitting.{ended_fits}
 use Rattle.cordyceps_c_timers.specs.Timers.{Running, StopsAt, due_of, slot_of}
 use Rattle.cordyceps_c_timers.proofs.TimersSaid.{runs_at, seen, stops_at}
