@@ -83,11 +83,12 @@ pub struct List {
 }
 
 impl Model for List {
-    ghost use Rattle.cordyceps_c_lists.specs.Lists.{Listed, Sound, listed};
+    ghost use Rattle.cordyceps_c_base.specs.Tickets.{ticketed};
+    ghost use Rattle.cordyceps_c_lists.specs.Lists.{Listed, Sound};
 
     ghost Value = { Listed };
 
-    ghost view = { λ l. listed l.tickets l.list };
+    ghost view = { λ l. ticketed l.tickets l.list };
 
     ghost invariant = { λ l. Sound l.tickets l.list };
 }

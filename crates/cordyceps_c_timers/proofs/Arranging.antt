@@ -82,7 +82,7 @@ module _ {X : Type 0} (number : X → ℕ) where
         )
 
   -- ---- the same nodes
-  placed_taken : (q : Ptr) (e : Element X) (s : Nodes X) → IsTaken (placed number q e s) q e s
+  pub placed_taken : (q : Ptr) (e : Element X) (s : Nodes X) → IsTaken (placed number q e s) q e s
   placed_taken q e [] = ([], [], refl, refl)
   placed_taken q e (x ∷ s) =
       let put : Bool → Nodes X = λ b. cond b ((q, e) ∷ x ∷ s) (x ∷ placed number q e s) in

@@ -1,4 +1,4 @@
-use Rattle.std.proofs.Common.{◌≡◌, ◌∷◌, ◌++◌, [], Some, refl, ap, ◌∙◌, subst}
+use Rattle.std.proofs.Common.{◌∷◌, ◌++◌, [], Some, refl, ap, ◌∙◌, subst}
 use Rattle.cordyceps_heap.specs.Heap.{nodes_in}
 use Rattle.cordyceps_stable.proofs.Holding.{last_taken}
 use Rattle.cordyceps_c_base.proofs.Fitting.{permuted_fits, put_without}

@@ -15,7 +15,8 @@ invariant_of-self c =
 
 pub returns : goal.returns
 returns c =
-    let was = c.self.inside in let new = c.remove-timer.new.self in let ended = c.into_fired.ensures.ended in
+    let was = c.self.inside in let new = c.remove-timer.new.self in
     subst (λ (t : Running). StopsAt c.args.at c.into_fired.result t (seen new.nodes new.clock c.into_fired.new.tickets)) c.self.view_is
-    (stops_at was.queue.nodes new.nodes was.queue.clock new.clock was.tickets c.into_fired.new.tickets c.args.at c.remove-timer.result c.into_fired.result c.into_fired.ensures.fired c.remove-timer.ensures.now ended.collection ended.given
+    (stops_at was.queue.nodes new.nodes was.queue.clock new.clock was.tickets c.into_fired.new.tickets c.args.at c.remove-timer.result c.into_fired.result c.self.invariant c.spots_are_distinct.ensures
+    c.into_fired.ensures.fired c.remove-timer.ensures.now c.into_fired.ensures.ended
     (λ a h. c.remove-timer.ensures.arrivals due_of a refl h))
