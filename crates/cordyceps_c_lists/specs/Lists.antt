@@ -64,7 +64,8 @@ PutsAfter at x k l m =
 -- ---- one element less, whose payload is x
 
 abbrev pub PopsFront : (payload : ℕ) → Listed → Listed → Type 0
-PopsFront x l m = (p : Ptr) × (e : Element Item) × (l.nodes ≡ (p, e) ∷ m.nodes) × (x ≡ e.value.payload) × Ends slot_of e l m
+PopsFront x l m =
+    (p : Ptr) × (e : Element Item) × (l.nodes ≡ (p, e) ∷ m.nodes) × (x ≡ e.value.payload) × Ends slot_of e l m
 
 abbrev pub PopsBack : (payload : ℕ) → Listed → Listed → Type 0
 PopsBack x l m =
