@@ -1,9 +1,9 @@
 //! The calls of inboxes.
 ghost use Rattle.std.specs.Prelude.{◌≡◌, true, false, Some, None, MatchBool, MatchOption, Result};
-ghost use Rattle.cordyceps.specs.Elements.Element.{Element};
-ghost use Rattle.cordyceps.specs.Parties.Shares.{whole};
-ghost use Rattle.cordyceps.specs.QueueCores.{TryDequeueError};
-ghost use Rattle.cordyceps.specs.Queues.Calls.{Dequeues, IsCertain};
+ghost use Rattle.cordyceps_base.specs.Element.{Element};
+ghost use Rattle.cordyceps_shared.specs.Shares.{whole};
+ghost use Rattle.cordyceps_queue.specs.declared.cores.steps.TryDequeueError.{TryDequeueError};
+ghost use Rattle.cordyceps_queue.specs.Shared.Calls.{Dequeues, IsCertain};
 ghost use Rattle.cordyceps_c_shared.specs.Inboxes.{IsNew, SplitsOff, TakesOver, KeepsOrRejoins, TriesToSend};
 ghost use Rattle.cordyceps_c_shared.specs.Inboxes.{HoldsTried, SendsNode, letter_of};
 ghost use Rattle.cordyceps_c_shared.specs.Inboxes.{GivesRooms};
@@ -13,11 +13,11 @@ ghost use Rattle.cordyceps_c_base.specs.declared.carried.Carried.{Carried};
 ghost use Rattle.cordyceps_c_base.specs.Elements.{HoldsElement, HoldsNode};
 ghost use Rattle.cordyceps_c_shared.specs.declared.inbox.Sent.{Sent};
 
-use cordyceps::mpsc_queue::MAX_ROOMS;
 use cordyceps_c_base::node_handle::NodeHandle;
 use cordyceps_c_shared::answers::{DONE, FULL, NOTHING, number_of};
 use cordyceps_c_shared::inbox::Inbox;
 use cordyceps_c_shared::inbox_handle::InboxHandle;
+use cordyceps_queue::mpsc_queue::MAX_ROOMS;
 use std::alloc::{AllocFailed, Global};
 
 /// Makes an inbox of `rooms` rooms, of which this handle has all, in a handle of nothing, and returns `true`. Returns

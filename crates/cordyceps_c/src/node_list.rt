@@ -1,19 +1,19 @@
 //! The calls of lists of C's own nodes.
 ghost use Rattle.std.specs.Prelude.{◌≡◌, ◌≢◌, ◌<◌, [], ◌∷◌, ◌++◌, length, Some, None, MatchBool};
 ghost use denote.RawPtr.{Ptr};
-ghost use Rattle.cordyceps.specs.Elements.Element.{Element};
-ghost use Rattle.cordyceps.specs.Elements.Nodes.{Nodes};
-ghost use Rattle.cordyceps.specs.Spots.BySpot.{AreNext, HasSpot, IsFirst, IsLast, IsMovedBack, IsMovedFront};
-ghost use Rattle.cordyceps.specs.Spots.BySpot.{IsPutAfter, IsPutBefore, IsTaken};
+ghost use Rattle.cordyceps_base.specs.Element.{Element};
+ghost use Rattle.cordyceps_base.specs.Nodes.{Nodes};
+ghost use Rattle.cordyceps_base.specs.BySpot.{AreNext, HasSpot, IsFirst, IsLast, IsMovedBack, IsMovedFront};
+ghost use Rattle.cordyceps_base.specs.BySpot.{IsPutAfter, IsPutBefore, IsTaken};
 ghost use Rattle.cordyceps_c_base.specs.declared.carried.Carried.{Carried};
 ghost use Rattle.cordyceps_c_base.specs.Elements.{HoldsElement, HoldsNode};
 
-use cordyceps::{Spot, StableList};
 use cordyceps_base::boxes::homes::Home;
 use cordyceps_c_base::carried::Carried;
 use cordyceps_c_base::node_handle::NodeHandle;
 use cordyceps_c_base::out::write_found;
 use cordyceps_c_lists::node_list_handle::NodeListHandle;
+use cordyceps_stable::stable_list::{Spot, StableList};
 use std::alloc::Global;
 
 /// Makes an empty list in a handle of nothing, and returns `true`. Returns `false` if memory is refused, and changes

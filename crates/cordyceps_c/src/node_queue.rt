@@ -1,19 +1,19 @@
 //! The calls of priority queues of C's own nodes.
 ghost use Rattle.std.specs.Prelude.{◌≡◌, ◌≢◌, ◌<◌, ◌≤◌, [], length, Some, None, MatchBool};
-ghost use Rattle.cordyceps.specs.Elements.Element.{Element};
-ghost use Rattle.cordyceps.specs.Elements.Nodes.{Nodes};
-ghost use Rattle.cordyceps.specs.Spots.BySpot.{HasSpot, IsTaken};
+ghost use Rattle.cordyceps_base.specs.Element.{Element};
+ghost use Rattle.cordyceps_base.specs.Nodes.{Nodes};
+ghost use Rattle.cordyceps_base.specs.BySpot.{HasSpot, IsTaken};
 ghost use Rattle.cordyceps_c_base.specs.declared.carried.Carried.{Carried};
 ghost use Rattle.cordyceps_c_base.specs.Elements.{HoldsElement, HoldsNode};
 ghost use Rattle.cordyceps_c_timers.specs.Arranged.{placed};
 ghost use Rattle.cordyceps_c_timers.specs.NodeQueues.{Begins, ChangesValue, value_of};
 
-use cordyceps::Spot;
 use cordyceps_base::boxes::homes::Home;
 use cordyceps_c_base::node_handle::NodeHandle;
 use cordyceps_c_base::out::write_found;
 use cordyceps_c_timers::node_queue::NodeQueue;
 use cordyceps_c_timers::node_queue_handle::NodeQueueHandle;
+use cordyceps_stable::stable_list::Spot;
 use std::alloc::Global;
 
 /// Makes an empty queue in a handle of nothing, and returns `true`. Returns `false` if memory is refused, and changes

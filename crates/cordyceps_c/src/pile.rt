@@ -1,6 +1,6 @@
 //! The calls of piles.
 ghost use Rattle.std.specs.Prelude.{◌≡◌, ◌≢◌, [], true, false, Option, Some, None, MatchBool, MatchOption, is_some};
-ghost use Rattle.cordyceps.specs.Elements.Element.{Element};
+ghost use Rattle.cordyceps_base.specs.Element.{Element};
 ghost use Rattle.cordyceps_c_shared.specs.Piles.{IsNew, SplitsOff, TakesOver, KeepsOrRejoins, TriesToPush, Pops};
 ghost use Rattle.cordyceps_c_shared.specs.Piles.{GivesRooms, HoldsPopped, HoldsUnless};
 ghost use Rattle.cordyceps_c_shared.specs.Inboxes.{letter_of};
@@ -11,11 +11,11 @@ ghost use Rattle.cordyceps_c_shared.specs.declared.pile.Pile.{Pile};
 ghost use Rattle.cordyceps_c_shared.specs.declared.pile.Pushed.{Pushed};
 ghost use Rattle.cordyceps_c_shared.specs.declared.pile.Pushed.TheVariants.{NoMemory};
 
-use cordyceps::stack::{MAX_ROOMS, TryPushError};
 use cordyceps_c_base::node_handle::NodeHandle;
 use cordyceps_c_shared::answers::{BUSY, DONE, FULL, NOTHING};
 use cordyceps_c_shared::pile::Pile;
 use cordyceps_c_shared::pile_handle::PileHandle;
+use cordyceps_stack::stack::{MAX_ROOMS, TryPushError};
 use std::alloc::{AllocFailed, Global};
 
 /// Makes a pile of `rooms` rooms, of which this handle has all, in a handle of nothing, and returns `true`. Returns

@@ -1,14 +1,14 @@
 //! The calls of priority queues.
 ghost use Rattle.std.specs.Prelude.{◌≡◌, [], length, true, false, Some, None, MatchBool, MatchOption, ⊤};
-ghost use Rattle.cordyceps.specs.Spots.BySpot.{HasSpot};
+ghost use Rattle.cordyceps_base.specs.BySpot.{HasSpot};
 ghost use Rattle.cordyceps_c_timers.specs.Queues.{Changes, ChangesAt, IsFirst, Pops, Pushes, PushesAt, Queued};
 ghost use Rattle.cordyceps_c_timers.specs.Queues.{Removes, RemovesAt};
 
-use cordyceps::Spot;
 use cordyceps_c_base::out::write_found;
 use cordyceps_c_base::tickets::Ticket;
 use cordyceps_c_timers::queue::{Item, Queue};
 use cordyceps_c_timers::queue_handle::QueueHandle;
+use cordyceps_stable::stable_list::Spot;
 use std::alloc::Global;
 
 /// Makes an empty queue, in a handle of nothing, and returns `true`. Its tickets have the number `collection`.

@@ -1,14 +1,14 @@
 //! The calls of timers.
 ghost use Rattle.std.specs.Prelude.{◌≡◌, [], length, true, false, Some, None, MatchBool, MatchOption, ⊤};
-ghost use Rattle.cordyceps.specs.Spots.BySpot.{HasSpot};
+ghost use Rattle.cordyceps_base.specs.BySpot.{HasSpot};
 ghost use Rattle.cordyceps_c_timers.specs.Timers.{Bounds, Running, Starts, Stops, Restarts, Fires, NoneFires};
 ghost use Rattle.cordyceps_c_timers.specs.Timers.{StartsAt, StopsAt, RestartsAt};
 
-use cordyceps::Spot;
 use cordyceps_c_base::out::write_found;
 use cordyceps_c_base::tickets::Ticket;
 use cordyceps_c_timers::timers::{Fired, Timers};
 use cordyceps_c_timers::timers_handle::TimersHandle;
+use cordyceps_stable::stable_list::Spot;
 use std::alloc::Global;
 
 /// Makes timers of which none runs, at the time 0, in a handle of nothing, and returns `true`. Their tickets have the

@@ -1,19 +1,18 @@
 -- Tickets that lead to the elements of a collection still do after its calls.
-use Rattle.std.proofs.Common.{◌≡◌, ◌≢◌, ℕ, ◌+◌, ◌<◌, ◌≤◌, [], ◌∷◌, length, length-append, slice_index_or, Option, Some, None, refl, sym, ap, ◌∙◌, subst, ◌⊎◌, inl, inr, arith, IsPermutation}
+use Rattle.std.proofs.Common.{◌≡◌, ℕ, ◌<◌, ◌≤◌, [], ◌∷◌, length, length-append, slice_index_or, Option, Some, None, sym, ap, ◌∙◌, subst, inl, inr, arith, IsPermutation}
 use Rattle.std.proofs.lemmas.List.Sorted.{IsPermutation-sym}
 use Rattle.std.proofs.lemmas.Bool.Decides.{eqb_tells}
 use Rattle.std.proofs.lemmas.Option.{none-some}
 use Rattle.std.specs.Option.{unwrap_or}
 use Rattle.slab.specs.Slab.{get, SameValues, Updates}
 use denote.RawPtr.{Ptr}
-use Rattle.cordyceps.specs.Elements.Element.{Element}
-use Rattle.cordyceps.specs.Elements.Nodes.{Nodes, spots}
-use Rattle.cordyceps.specs.Spots.Agreeing.{HasElementAt}
-use Rattle.cordyceps.specs.Spots.BySpot.{HasSpot, IsTaken}
-use Rattle.cordyceps.specs.Spots.Spots.{AreDistinct}
-use Rattle.cordyceps.proofs.Spots.Apart.{permuted_distinct}
-use Rattle.cordyceps.proofs.Spots.Holding.{left_is_at, spot_is_at, taken_gone, taken_is_at, taken_or_left}
-use Rattle.cordyceps.proofs.Spots.Valid.{permuted_is_at}
+use Rattle.cordyceps_base.specs.Element.{Element}
+use Rattle.cordyceps_base.specs.Nodes.{Nodes, spots}
+use Rattle.cordyceps_stable.specs.Agreeing.{HasElementAt}
+use Rattle.cordyceps_base.specs.BySpot.{HasSpot, IsTaken}
+use Rattle.cordyceps_base.specs.Spots.{AreDistinct}
+use Rattle.cordyceps_stable.proofs.Holding.{left_is_at, spot_is_at, taken_gone, taken_is_at, taken_or_left}
+use Rattle.cordyceps_stable.proofs.Valid.{permuted_is_at}
 use Rattle.cordyceps_c_base.specs.declared.tickets.Entry.{Entry}
 use Rattle.cordyceps_c_base.specs.declared.tickets.Ticket.{Ticket}
 use Rattle.cordyceps_c_base.specs.declared.tickets.Tickets.{Tickets}
@@ -192,10 +191,3 @@ module _ {X : Type 0} (slot : X → ℕ) where
     | inl (_, none) ↦ same_fits s t d (taken_without s c d p e fit taken none) ended.given (ended.kept none)
     | inr (_, some) ↦ let one : 0 < e.id = omega (arith, some) in taken_fits s t c d p e fit distinct taken one ended.given (ended.gone one)
   ]
-
-  -- the first was taken out
-  pub popped_fits : (s t : Tickets) (c d : Nodes X) (p : Ptr) (e : Element X) → Fit slot s c → AreDistinct (spots c) → IsPermutation c ((p, e) ∷ d)
-      → IsEnded e.id (slot e.value) s t → Fit slot t d
-  popped_fits s t c d p e fit distinct same ended =
-      let all : Nodes X = (p, e) ∷ d in
-      ended_fits s t all d p e (permuted_fits s c all same fit) (permuted_distinct c all same distinct) ([], d, refl, refl) ended

@@ -3,4 +3,5 @@ pub mod Fitting
 pub mod Held
 pub mod NodeHandles
 pub mod NodesOut
+pub mod Stale
 pub mod Values

@@ -2,9 +2,9 @@
 use Rattle.std.specs.Prelude.{◌≡◌, ℕ, ◌+◌, ◌<◌, ◌≤◌, Some, None}
 use Rattle.slab.specs.Slab.{get, HasRoomFor, SameValues, Updates}
 use denote.RawPtr.{Ptr}
-use Rattle.cordyceps.specs.Elements.Element.{Element}
-use Rattle.cordyceps.specs.Elements.Nodes.{Nodes}
-use Rattle.cordyceps.specs.Spots.Agreeing.{HasElementAt}
+use Rattle.cordyceps_base.specs.Element.{Element}
+use Rattle.cordyceps_base.specs.Nodes.{Nodes}
+use Rattle.cordyceps_stable.specs.Agreeing.{HasElementAt}
 use Rattle.cordyceps_c_base.specs.declared.tickets.Entry.{Entry}
 use Rattle.cordyceps_c_base.specs.declared.tickets.Ticket.{Ticket}
 use Rattle.cordyceps_c_base.specs.declared.tickets.Tickets.{Tickets}
@@ -37,7 +37,18 @@ no_ticket = record { collection = 0; slot = 0; number = 0 }
 abbrev pub IsGiven : (collection given : ℕ) → Ticket → Type 0
 IsGiven collection given k = (k.collection ≡ collection) × (k.number ≡ given + 1)
 
+-- what a contract sees of a collection with tickets: its elements, each with its spot; the number that its maker chose;
+-- and how many tickets it has given
+pub record Ticketed (X : Type 0) : Type 0 where
+  pub nodes : Nodes X
+  pub collection : ℕ
+  pub given : ℕ
+
+abbrev pub ticketed : {X : Type 0} → Tickets → Nodes X → Ticketed X
+ticketed s c = record { nodes = c; collection = s.collection; given = s.given }
+
 -- An element's number is that of its ticket, or 0 if it has none. A function of its value says in which slot it is.
+-- Of a call, l is the collection before, and m after.
 module _ {X : Type 0} (slot : X → ℕ) where
   -- the element has the ticket, in a collection of this number
   pub record Bears (collection : ℕ) (k : Ticket) (e : Element X) : Type 0 where
@@ -49,6 +60,28 @@ module _ {X : Type 0} (slot : X → ℕ) where
   -- no element has it
   abbrev pub NoneBears : (collection : ℕ) → Ticket → Nodes X → Type 0
   NoneBears collection k c = (p : Ptr) (e : Element X) → HasElementAt c p e → Bears collection k e → ⊥
+
+  -- no element has the ticket, and none will, since those to come have numbers above all that were given
+  abbrev pub IsStale : Ticketed X → Ticket → Type 0
+  IsStale l k = NoneBears l.collection k l.nodes × (k.number ≤ l.given)
+
+  -- no ticket was given, and each stale one is stale still
+  pub record GivesNone (l m : Ticketed X) : Type 0 where
+    pub collection : m.collection ≡ l.collection
+    pub given : m.given ≡ l.given
+    pub stale : (o : Ticket) → IsStale l o → IsStale m o
+
+  -- the ticket k was given, a new one, and each stale one is stale still
+  pub record Gives (k : Ticket) (l m : Ticketed X) : Type 0 where
+    pub is_new : IsGiven l.collection l.given k
+    pub collection : m.collection ≡ l.collection
+    pub given : m.given ≡ k.number
+    pub stale : (o : Ticket) → IsStale l o → IsStale m o
+
+  -- the element e came out, so its ticket is stale, if it had one; no ticket was given
+  pub record Ends (e : Element X) (l m : Ticketed X) : Type 0 where
+    pub ended : (k : Ticket) → Bears l.collection k e → IsStale m k
+    pub rest : GivesNone l m
 
   -- the slot k, which has the entry n, is that of an element of c
   pub record Reaches (c : Nodes X) (k : ℕ) (n : Entry) : Type 0 where

@@ -1,7 +1,9 @@
 //! What a node of C's has, and the kinds of collections that link it.
 ghost use Rattle.std.specs.Prelude.{◌≡◌};
 
-use cordyceps::{Linked, Node, list, mpsc_queue, stack};
+use cordyceps_base::linked::Linked;
+use cordyceps_base::node::Node;
+use cordyceps_base::{list, mpsc_queue, stack};
 
 /// What a node has beside its number: a value of C's, which is the key by which a queue orders it.
 #[repr(C)]

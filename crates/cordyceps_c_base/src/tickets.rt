@@ -3,7 +3,7 @@ ghost use Rattle.std.specs.Prelude.{◌≡◌, [], IfSome, MatchOption, Some};
 ghost use Rattle.slab.specs.Slab.{SameValues, Updates};
 ghost use Rattle.cordyceps_c_base.specs.Tickets.{IsEnded, IsNext, Leads, no_ticket};
 
-use cordyceps::Spot;
+use cordyceps_stable::stable_list::Spot;
 use slab::Slab;
 use std::alloc::Global;
 

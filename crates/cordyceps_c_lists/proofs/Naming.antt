@@ -3,19 +3,19 @@ use Rattle.std.proofs.Common.{◌≡◌, ℕ, ◌<◌, Option, Some, None, Match
 use Rattle.std.specs.Option.{unwrap_or}
 use Rattle.slab.specs.Slab.{get}
 use denote.RawPtr.{Ptr}
-use Rattle.cordyceps.specs.Elements.Element.{Element}
-use Rattle.cordyceps.specs.Elements.Nodes.{Nodes, spots}
-use Rattle.cordyceps.specs.Spots.Agreeing.{HasElementAt}
-use Rattle.cordyceps.specs.Spots.BySpot.{HasSpot, HoldsAt, IsTaken}
-use Rattle.cordyceps.specs.Spots.Spots.{AreDistinct}
-use Rattle.cordyceps.proofs.Spots.Holding.{spot_is_at, taken_is_at, unique}
+use Rattle.cordyceps_base.specs.Element.{Element}
+use Rattle.cordyceps_base.specs.Nodes.{Nodes, spots}
+use Rattle.cordyceps_stable.specs.Agreeing.{HasElementAt}
+use Rattle.cordyceps_base.specs.BySpot.{HasSpot, HoldsAt, IsTaken}
+use Rattle.cordyceps_base.specs.Spots.{AreDistinct}
+use Rattle.cordyceps_stable.proofs.Holding.{spot_is_at, taken_is_at, unique}
 use Rattle.cordyceps_c_base.specs.declared.tickets.Entry.{Entry}
 use Rattle.cordyceps_c_base.specs.declared.tickets.Ticket.{Ticket}
 use Rattle.cordyceps_c_base.specs.declared.tickets.Tickets.{Tickets}
-use Rattle.cordyceps_c_base.specs.Tickets.{Leads}
+use Rattle.cordyceps_c_base.specs.Tickets.{Leads, ticketed}
 use Rattle.cordyceps_c_base.proofs.Fitting.{leads_to, none_bears}
 use Rattle.cordyceps_c_lists.specs.declared.list.Item.{Item}
-use Rattle.cordyceps_c_lists.specs.Lists.{IsAt, Listed, Names, NamesNone, Sound, listed, slot_of}
+use Rattle.cordyceps_c_lists.specs.Lists.{IsAt, Listed, Names, NamesNone, Sound, slot_of}
 
 -- two entries of one slot have one number
 one_number : {o : Option Entry} (n m : Entry) → o ≡ Some n → o ≡ Some m → n.number ≡ m.number
@@ -23,7 +23,7 @@ one_number n m is was = ap (λ (x : Option Entry). (unwrap_or x n).number) (sym 
 
 module _ (s : Tickets) (c : Nodes Item) where
   pub finds : (k : Ticket) (o : Option Ptr) → Sound s c → AreDistinct (spots c) → MatchOption o ((p : Ptr) → Leads s k p → ⊥) (Leads s k)
-      → MatchOption o (NamesNone (listed s c) k) (IsAt (listed s c) k)
+      → MatchOption o (NamesNone (ticketed s c) k) (IsAt (ticketed s c) k)
   finds k None sound distinct none = none_bears slot_of s c k sound.fit none
   finds k (Some p) sound distinct leads =
       let (e, there, bears) = leads_to slot_of s c k p sound.fit leads in
@@ -36,7 +36,7 @@ module _ (s : Tickets) (c : Nodes Item) where
       (id, sound.fit.found p e there (sound.given p e there))
 
   pub named_at : (p : Ptr) (w : Item) (n : Entry) → Sound s c → AreDistinct (spots c) → HoldsAt c p w → get s.slots w.slot ≡ Some n
-      → IsAt (listed s c) (record { collection = s.collection; slot = w.slot; number = n.number }) p
+      → IsAt (ticketed s c) (record { collection = s.collection; slot = w.slot; number = n.number }) p
   named_at p w n sound distinct (before, id, after, is) at =
       let e : Element Item = record { id = id; value = w } in let there : HasElementAt c p e = (before, after, is) in let pos = sound.given p e there in
       let same : id ≡ n.number = one_number (record { number = id; spot = p }) n (sound.fit.found p e there pos) at in
@@ -66,7 +66,7 @@ module _ (l : Listed) where
       apart (sym one.bears.slot_is ∙ ap (λ (x : Element Item). x.value.slot) is ∙ other.bears.slot_is)
 
 -- tickets with one slot that name an element are the same
-pub same_ticket : (s : Tickets) (c : Nodes Item) (k m : Ticket) (p q : Ptr) → Sound s c → IsAt (listed s c) k p → IsAt (listed s c) m q → k.slot ≡ m.slot → k ≡ m
+pub same_ticket : (s : Tickets) (c : Nodes Item) (k m : Ticket) (p q : Ptr) → Sound s c → IsAt (ticketed s c) k p → IsAt (ticketed s c) m q → k.slot ≡ m.slot → k ≡ m
 same_ticket s c k m p q sound (e, one) (o, other) same =
     let at = sound.fit.found p e one.there (sound.given p e one.there) in let on = sound.fit.found q o other.there (sound.given q o other.there) in
     let slots : e.value.slot ≡ o.value.slot = one.bears.slot_is ∙ same ∙ sym other.bears.slot_is in

@@ -1,26 +1,20 @@
 -- Lists whose elements have tickets, and what their calls do: l is the list before, and m after.
-use Rattle.std.specs.Prelude.{◌≡◌, ℕ, ◌<◌, ◌≤◌, [], ◌∷◌, ◌++◌, ◌⊎◌}
+use Rattle.std.specs.Prelude.{◌≡◌, ℕ, ◌<◌, [], ◌∷◌, ◌++◌, ◌⊎◌}
 use denote.RawPtr.{Ptr}
-use Rattle.cordyceps.specs.Elements.Element.{Element}
-use Rattle.cordyceps.specs.Elements.Nodes.{Nodes, spots}
-use Rattle.cordyceps.specs.Spots.Agreeing.{HasElementAt}
-use Rattle.cordyceps.specs.Spots.BySpot.{IsTaken, IsPutBefore, IsPutAfter, IsMovedFront, IsMovedBack, IsMovedAfter}
-use Rattle.cordyceps.specs.Spots.BySpot.{IsFirst, IsLast, AreNext}
-use Rattle.cordyceps.specs.Spots.Spots.{AreDistinct}
+use Rattle.cordyceps_base.specs.Element.{Element}
+use Rattle.cordyceps_base.specs.Nodes.{Nodes, spots}
+use Rattle.cordyceps_stable.specs.Agreeing.{HasElementAt}
+use Rattle.cordyceps_base.specs.BySpot.{IsTaken, IsPutBefore, IsPutAfter, IsMovedFront, IsMovedBack, IsMovedAfter}
+use Rattle.cordyceps_base.specs.BySpot.{IsFirst, IsLast, AreNext}
+use Rattle.cordyceps_base.specs.Spots.{AreDistinct}
 use Rattle.cordyceps_c_base.specs.declared.tickets.Ticket.{Ticket}
 use Rattle.cordyceps_c_base.specs.declared.tickets.Tickets.{Tickets}
-use Rattle.cordyceps_c_base.specs.Tickets.{Bears, Fit, IsGiven, NoneBears}
+use Rattle.cordyceps_c_base.specs.Tickets.{Bears, Ends, Fit, Gives, GivesNone, NoneBears, Ticketed}
 use Rattle.cordyceps_c_lists.specs.declared.list.Item.{Item}
 
--- what a contract sees of a list: its elements in order, each with its spot; the number that its maker chose; and how
--- many tickets it has given
-pub record Listed : Type 0 where
-  pub nodes : Nodes Item
-  pub collection : ℕ
-  pub given : ℕ
-
-abbrev pub listed : Tickets → Nodes Item → Listed
-listed s c = record { nodes = c; collection = s.collection; given = s.given }
+-- what a contract sees of a list, its elements in order
+abbrev pub Listed : Type 0
+Listed = Ticketed Item
 
 -- in which slot the ticket of an element is
 abbrev pub slot_of : Item → ℕ
@@ -51,57 +45,36 @@ IsAt l k p = (e : Element Item) × Names l k p e
 abbrev pub NamesNone : Listed → Ticket → Type 0
 NamesNone l k = NoneBears slot_of l.collection k l.nodes
 
--- no element has the ticket, and none will, since those to come have numbers above all that were given
-abbrev pub IsStale : Listed → Ticket → Type 0
-IsStale l k = NamesNone l k × (k.number ≤ l.given)
-
--- no ticket was given, and each stale one is stale still
-pub record GivesNone (l m : Listed) : Type 0 where
-  pub collection : m.collection ≡ l.collection
-  pub given : m.given ≡ l.given
-  pub stale : (o : Ticket) → IsStale l o → IsStale m o
-
--- the ticket k was given, a new one, and each stale one is stale still
-pub record Gives (k : Ticket) (l m : Listed) : Type 0 where
-  pub is_new : IsGiven l.collection l.given k
-  pub collection : m.collection ≡ l.collection
-  pub given : m.given ≡ k.number
-  pub stale : (o : Ticket) → IsStale l o → IsStale m o
-
--- the element e came out, so its ticket is stale; no ticket was given
-pub record Ends (e : Element Item) (l m : Listed) : Type 0 where
-  pub ended : (k : Ticket) → Bears slot_of l.collection k e → IsStale m k
-  pub rest : GivesNone l m
-
 -- ---- one more element, which gets the ticket k
 
 abbrev pub PushesFront : (payload : ℕ) → Ticket → Listed → Listed → Type 0
-PushesFront x k l m = (q : Ptr) × (m.nodes ≡ (q, new_element k x) ∷ l.nodes) × Gives k l m
+PushesFront x k l m = (q : Ptr) × (m.nodes ≡ (q, new_element k x) ∷ l.nodes) × Gives slot_of k l m
 
 abbrev pub PushesBack : (payload : ℕ) → Ticket → Listed → Listed → Type 0
-PushesBack x k l m = (q : Ptr) × (m.nodes ≡ l.nodes ++ (q, new_element k x) ∷ []) × Gives k l m
+PushesBack x k l m = (q : Ptr) × (m.nodes ≡ l.nodes ++ (q, new_element k x) ∷ []) × Gives slot_of k l m
 
 abbrev pub PutsBefore : (at : Ticket) (payload : ℕ) → Ticket → Listed → Listed → Type 0
 PutsBefore at x k l m =
-    (p : Ptr) × (q : Ptr) × IsAt l at p × IsPutBefore l.nodes p q (new_element k x) m.nodes × Gives k l m
+    (p : Ptr) × (q : Ptr) × IsAt l at p × IsPutBefore l.nodes p q (new_element k x) m.nodes × Gives slot_of k l m
 
 abbrev pub PutsAfter : (at : Ticket) (payload : ℕ) → Ticket → Listed → Listed → Type 0
 PutsAfter at x k l m =
-    (p : Ptr) × (q : Ptr) × IsAt l at p × IsPutAfter l.nodes p q (new_element k x) m.nodes × Gives k l m
+    (p : Ptr) × (q : Ptr) × IsAt l at p × IsPutAfter l.nodes p q (new_element k x) m.nodes × Gives slot_of k l m
 
 -- ---- one element less, whose payload is x
 
 abbrev pub PopsFront : (payload : ℕ) → Listed → Listed → Type 0
-PopsFront x l m = (p : Ptr) × (e : Element Item) × (l.nodes ≡ (p, e) ∷ m.nodes) × (x ≡ e.value.payload) × Ends e l m
+PopsFront x l m =
+    (p : Ptr) × (e : Element Item) × (l.nodes ≡ (p, e) ∷ m.nodes) × (x ≡ e.value.payload) × Ends slot_of e l m
 
 abbrev pub PopsBack : (payload : ℕ) → Listed → Listed → Type 0
 PopsBack x l m =
-    (p : Ptr) × (e : Element Item) × (l.nodes ≡ m.nodes ++ (p, e) ∷ []) × (x ≡ e.value.payload) × Ends e l m
+    (p : Ptr) × (e : Element Item) × (l.nodes ≡ m.nodes ++ (p, e) ∷ []) × (x ≡ e.value.payload) × Ends slot_of e l m
 
 abbrev pub Removes : (at : Ticket) (payload : ℕ) → Listed → Listed → Type 0
 Removes at x l m =
     (p : Ptr) × (e : Element Item) × Names l at p e × IsTaken l.nodes p e m.nodes × (x ≡ e.value.payload)
-    × Ends e l m
+    × Ends slot_of e l m
 
 -- ---- what is where
 
@@ -121,14 +94,14 @@ NamesNext k o l = (p : Ptr) × (q : Ptr) × IsAt l k p × IsAt l o q × AreNext 
 -- ---- an element in another place
 
 abbrev pub MovesFront : (at : Ticket) → Listed → Listed → Type 0
-MovesFront at l m = (p : Ptr) × IsAt l at p × IsMovedFront l.nodes p m.nodes × GivesNone l m
+MovesFront at l m = (p : Ptr) × IsAt l at p × IsMovedFront l.nodes p m.nodes × GivesNone slot_of l m
 
 abbrev pub MovesBack : (at : Ticket) → Listed → Listed → Type 0
-MovesBack at l m = (p : Ptr) × IsAt l at p × IsMovedBack l.nodes p m.nodes × GivesNone l m
+MovesBack at l m = (p : Ptr) × IsAt l at p × IsMovedBack l.nodes p m.nodes × GivesNone slot_of l m
 
 abbrev pub MovesAfter : (at to : Ticket) → Listed → Listed → Type 0
 MovesAfter at to l m =
-    (p : Ptr) × (q : Ptr) × IsAt l at p × IsAt l to q × IsMovedAfter l.nodes p q m.nodes × GivesNone l m
+    (p : Ptr) × (q : Ptr) × IsAt l at p × IsAt l to q × IsMovedAfter l.nodes p q m.nodes × GivesNone slot_of l m
 
 -- one of the tickets is of no element, or they are the same
 abbrev pub HasNoPair : Listed → Ticket → Ticket → Type 0

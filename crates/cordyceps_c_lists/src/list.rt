@@ -1,15 +1,17 @@
 //! Ordered lists whose elements are named by tickets.
 ghost use Rattle.std.specs.Prelude.{◌≡◌, ◌⊎◌, [], length, MatchBool, MatchOption, IfSome};
-ghost use Rattle.cordyceps.specs.Spots.BySpot.{HasSpot};
+ghost use Rattle.cordyceps_base.specs.BySpot.{HasSpot};
 ghost use Rattle.slab.specs.Slab.{SameValues};
 ghost use Rattle.cordyceps_c_base.specs.Tickets.{IsEnded, IsNext};
 ghost use Rattle.cordyceps_c_lists.specs.Lists.{new_element, IsAt, NamesNone, PushesFront, PushesBack, PutsBefore};
 ghost use Rattle.cordyceps_c_lists.specs.Lists.{PutsAfter, PopsFront, PopsBack, Removes, Holds, NamesFirst, NamesLast};
 ghost use Rattle.cordyceps_c_lists.specs.Lists.{NamesNext, MovesFront, MovesBack, MovesAfter, HasNoPair};
 
-use cordyceps::list::Links;
-use cordyceps::{Linked, Node, Spot, StableList};
+use cordyceps_base::linked::Linked;
+use cordyceps_base::list::Links;
+use cordyceps_base::node::Node;
 use cordyceps_c_base::tickets::{Ticket, Tickets};
+use cordyceps_stable::stable_list::{Spot, StableList};
 use std::alloc::Global;
 use std::marker::Model;
 
@@ -81,11 +83,12 @@ pub struct List {
 }
 
 impl Model for List {
-    ghost use Rattle.cordyceps_c_lists.specs.Lists.{Listed, Sound, listed};
+    ghost use Rattle.cordyceps_c_base.specs.Tickets.{ticketed};
+    ghost use Rattle.cordyceps_c_lists.specs.Lists.{Listed, Sound};
 
     ghost Value = { Listed };
 
-    ghost view = { λ l. listed l.tickets l.list };
+    ghost view = { λ l. ticketed l.tickets l.list };
 
     ghost invariant = { λ l. Sound l.tickets l.list };
 }

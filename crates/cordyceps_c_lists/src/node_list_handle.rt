@@ -1,12 +1,12 @@
 //! The handle of a list of C's own nodes that C has.
 ghost use Rattle.std.specs.Prelude.{◌≡◌, Option, Some, None};
-ghost use Rattle.cordyceps.specs.Elements.Nodes.{Nodes};
+ghost use Rattle.cordyceps_base.specs.Nodes.{Nodes};
 ghost use Rattle.cordyceps_c_base.specs.declared.carried.Carried.{Carried};
 
-use cordyceps::StableList;
 use cordyceps_base::boxes::homes::Home;
 use cordyceps_c_base::carried::Carried;
 use cordyceps_c_base::raw::RawBox;
+use cordyceps_stable::stable_list::StableList;
 use std::marker::Model;
 use std::{mem, ptr};
 

@@ -1,12 +1,13 @@
 -- What calls do to the handle of an inbox, which is i before and j after.
 use Rattle.std.specs.Prelude.{◌≡◌, ℕ, [], Bool, true, Option, None, MatchOption, ◌⊎◌, Result, Ok, Err}
 use Rattle.std.specs.Arc.{arc_value}
-use Rattle.cordyceps.specs.Elements.Element.{Element}
-use Rattle.cordyceps.specs.Parties.Shares.{whole}
-use Rattle.cordyceps.specs.Parties.Standings.{new_party, keeping, giving, Absorbs}
-use Rattle.cordyceps.specs.QueueCores.{TryDequeueError, FindsEmpty, FindsInconsistent, FindsBusy}
-use Rattle.cordyceps.specs.Queues.Calls.{Legal, capacity, EnqueuesRefilled, FindsFull, HasAllRooms}
-use Rattle.cordyceps.specs.Queues.Moves.{Moves}
+use Rattle.cordyceps_base.specs.Element.{Element}
+use Rattle.cordyceps_shared.specs.Shares.{whole}
+use Rattle.cordyceps_shared.specs.Standings.{new_party, keeping, giving, Absorbs}
+use Rattle.cordyceps_queue.specs.declared.cores.steps.TryDequeueError.{TryDequeueError}
+use Rattle.cordyceps_queue.specs.declared.cores.steps.TryDequeueError.TheVariants.{Empty as FindsEmpty, Inconsistent as FindsInconsistent, Busy as FindsBusy}
+use Rattle.cordyceps_queue.specs.Shared.Calls.{Legal, capacity, EnqueuesRefilled, FindsFull, HasAllRooms}
+use Rattle.cordyceps_queue.specs.Shared.Moves.{Moves}
 use Rattle.cordyceps_c_shared.specs.declared.answers.TheConstants.{DONE, EMPTY, UNLINKED, BUSY, FULL, NO_MEMORY}
 use Rattle.cordyceps_c_shared.specs.declared.inbox.Inbox.{Inbox}
 use Rattle.cordyceps_base.specs.declared.node.Block.{Block}

@@ -1,13 +1,13 @@
 -- What calls do to the handle of a pile, which is i before and j after.
 use Rattle.std.specs.Prelude.{◌≡◌, ◌≢◌, ℕ, List, [], ◌∷◌, Bool, true, Option, Some, None, MatchOption, Result, MatchResult, ◌⊎◌}
 use Rattle.std.specs.Arc.{arc_value}
-use Rattle.cordyceps.specs.Elements.Element.{Element}
-use Rattle.cordyceps.specs.Parties.Shares.{whole}
-use Rattle.cordyceps.specs.Parties.Standings.{new_party, keeping, giving, Absorbs}
-use Rattle.cordyceps.specs.Transfers.History.{Legal}
-use Rattle.cordyceps.specs.Transfers.Calls.{Takes, PushesRefilled, FindsFull, MissesRefilled, HasAllRooms, GivesAllBack}
-use Rattle.cordyceps.specs.Transfers.Calls.{FailsToPush, IsCertainlyFull}
-use Rattle.cordyceps.specs.Transfers.TryPushError.{TryPushError}
+use Rattle.cordyceps_base.specs.Element.{Element}
+use Rattle.cordyceps_shared.specs.Shares.{whole}
+use Rattle.cordyceps_shared.specs.Standings.{new_party, keeping, giving, Absorbs}
+use Rattle.cordyceps_stack.specs.History.{Legal}
+use Rattle.cordyceps_stack.specs.Shared.Calls.{Takes, PushesRefilled, FindsFull, MissesRefilled, HasAllRooms, GivesAllBack}
+use Rattle.cordyceps_stack.specs.Shared.Calls.{FailsToPush, IsCertainlyFull}
+use Rattle.cordyceps_stack.specs.declared.shared.push_error.TryPushError.{TryPushError}
 use Rattle.cordyceps_c_shared.specs.declared.answers.TheConstants.{DONE, BUSY, FULL, NO_MEMORY}
 use Rattle.cordyceps_base.specs.declared.node.Block.{Block}
 use Rattle.cordyceps_c_base.specs.declared.carried.Carried.{Carried}

@@ -5,7 +5,7 @@ ghost use Rattle.cordyceps_c_shared.specs.Piles.{number_of_pushed};
 
 use crate::inbox::Sent;
 use crate::pile::Pushed;
-use cordyceps::mpsc_queue::TryDequeueError;
+use cordyceps_queue::mpsc_queue::TryDequeueError;
 
 /// The message was sent, pushed or received.
 pub const DONE: u32 = 0;

@@ -2,9 +2,8 @@
 ghost use Rattle.std.specs.Arc.{arc_value};
 ghost use Rattle.std.specs.Prelude.{◌≡◌};
 
-use cordyceps::MpscQueue;
-use cordyceps::mpsc_queue::Party;
 use cordyceps_c_base::carried::Carried;
+use cordyceps_queue::mpsc_queue::{MpscQueue, Party};
 use std::alloc::Global;
 use std::sync::Arc;
 

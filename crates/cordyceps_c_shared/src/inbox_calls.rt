@@ -1,14 +1,14 @@
 //! The calls of an inbox: many threads send, and one at a time receives.
 ghost use Rattle.std.specs.Prelude.{◌≡◌, ◌≤◌, IfSome, MatchResult};
-ghost use Rattle.cordyceps.specs.Queues.Calls.{Dequeues, IsCertain};
-ghost use Rattle.cordyceps.specs.Parties.Shares.{whole};
+ghost use Rattle.cordyceps_queue.specs.Shared.Calls.{Dequeues, IsCertain};
+ghost use Rattle.cordyceps_shared.specs.Shares.{whole};
 ghost use Rattle.cordyceps_c_shared.specs.Inboxes.{GivesRooms, IsNew, TriesToSend, TriesToSplit, TakesOver, letter_of};
 ghost use Rattle.cordyceps_c_shared.specs.declared.inbox.Sent.TheVariants.{Done, Full};
 
 use crate::inbox::{Inbox, Sent};
-use cordyceps::mpsc_queue::{MAX_ROOMS, TryDequeueError};
-use cordyceps::{MpscQueue, Node};
+use cordyceps_base::node::Node;
 use cordyceps_c_base::carried::{Carried, Letter};
+use cordyceps_queue::mpsc_queue::{MAX_ROOMS, MpscQueue, TryDequeueError};
 use std::alloc::Global;
 use std::sync::Arc;
 

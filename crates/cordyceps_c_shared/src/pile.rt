@@ -2,9 +2,8 @@
 ghost use Rattle.std.specs.Arc.{arc_value};
 ghost use Rattle.std.specs.Prelude.{◌≡◌};
 
-use cordyceps::stack::Party;
-use cordyceps::{Stack, TransferStack};
 use cordyceps_c_base::carried::Carried;
+use cordyceps_stack::stack::{Party, Stack, TransferStack};
 use std::alloc::Global;
 use std::sync::Arc;
 

@@ -5,9 +5,9 @@ ghost use Rattle.cordyceps_c_shared.specs.Piles.{TriesToPush, TriesToSplit};
 ghost use Rattle.cordyceps_c_shared.specs.Inboxes.{letter_of};
 
 use crate::pile::{Pile, Pushed};
-use cordyceps::stack::{MAX_ROOMS, TryPushError};
-use cordyceps::{Node, Stack, TransferStack};
+use cordyceps_base::node::Node;
 use cordyceps_c_base::carried::{Carried, Sheet};
+use cordyceps_stack::stack::{MAX_ROOMS, Stack, TransferStack, TryPushError};
 use std::alloc::Global;
 use std::sync::Arc;
 

@@ -6,18 +6,18 @@ use Rattle.std.proofs.lemmas.List.Sorted.{All-permutation, IsPermutation-append_
 use Rattle.std.specs.List.{AllByRecursion}
 use Rattle.std.specs.declared.cmp.Ordering.{Ordering}
 use denote.RawPtr.{Ptr}
-use Rattle.cordyceps.specs.Elements.Element.{Element}
-use Rattle.cordyceps.specs.Elements.Nodes.{Nodes}
-use Rattle.cordyceps.specs.Orders.Arrangement.{IsEarliestLeast}
-use Rattle.cordyceps.specs.Spots.Arranged.{precedes, Arranges}
-use Rattle.cordyceps.specs.Spots.BySpot.{IsTaken}
-use Rattle.cordyceps.specs.Spots.Clock.{Holds}
-use Rattle.cordyceps.specs.Spots.DoubleLines.{flat}
-use Rattle.cordyceps.specs.Spots.Heap as heap
-use Rattle.cordyceps.proofs.Orders.Preorder.{by_test}
-use Rattle.cordyceps.proofs.Spots.Arranged.{arranges_itself, arranges_taken, same_nodes}
-use Rattle.cordyceps.proofs.Spots.Arrivals.{Stands, all_same, first_less, one_less, one_more, stands_for}
-use Rattle.cordyceps.proofs.Spots.Standing.{heap_stands}
+use Rattle.cordyceps_base.specs.Element.{Element}
+use Rattle.cordyceps_base.specs.Nodes.{Nodes}
+use Rattle.cordyceps_single.specs.Arrangement.{IsEarliestLeast}
+use Rattle.cordyceps_stable.specs.Arranged.{precedes, Arranges}
+use Rattle.cordyceps_base.specs.BySpot.{IsTaken}
+use Rattle.cordyceps_clock.specs.Clock.{Holds}
+use Rattle.cordyceps_base.specs.DoubleLines.{flat}
+use Rattle.cordyceps_heap.specs.Heap as heap
+use Rattle.cordyceps_single.proofs.Preorder.{by_test}
+use Rattle.cordyceps_stable.proofs.Arranged.{arranges_itself, arranges_taken, same_nodes}
+use Rattle.cordyceps_stable.proofs.Arrivals.{Stands, all_same, first_less, one_less, one_more, stands_for}
+use Rattle.cordyceps_heap.proofs.Standing.{heap_stands}
 use Rattle.cordyceps_c_timers.specs.Arranged.{InOrder, arranged, placed, placed_all}
 use Rattle.cordyceps_c_timers.proofs.Placing.{by_number, keeps_order, lawful, stands, places}
 
@@ -82,7 +82,7 @@ module _ {X : Type 0} (number : X → ℕ) where
         )
 
   -- ---- the same nodes
-  placed_taken : (q : Ptr) (e : Element X) (s : Nodes X) → IsTaken (placed number q e s) q e s
+  pub placed_taken : (q : Ptr) (e : Element X) (s : Nodes X) → IsTaken (placed number q e s) q e s
   placed_taken q e [] = ([], [], refl, refl)
   placed_taken q e (x ∷ s) =
       let put : Bool → Nodes X = λ b. cond b ((q, e) ∷ x ∷ s) (x ∷ placed number q e s) in

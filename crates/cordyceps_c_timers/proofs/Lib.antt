@@ -5,6 +5,7 @@ mod Placing
 mod QueueHandles
 mod QueueSent
 mod QueuesSaid
+mod Ticketing
 mod TimersHandles
 mod TimersSaid
 mod TimersSent

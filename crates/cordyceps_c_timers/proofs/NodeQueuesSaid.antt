@@ -2,15 +2,15 @@
 use Rattle.std.proofs.Common.{◌≡◌, [], ◌∷◌, ◌++◌, List, Option, Some, None, MatchOption, refl, ap, sym, ◌∙◌, subst, IsPermutation}
 use Rattle.std.specs.declared.cmp.Ordering.{Ordering}
 use denote.RawPtr.{Ptr}
-use Rattle.cordyceps.specs.Elements.Element.{Element}
-use Rattle.cordyceps.specs.Elements.Nodes.{Nodes}
-use Rattle.cordyceps.specs.Orders.Arrangement.{IsEarliestLeast}
-use Rattle.cordyceps.specs.Spots.Arranged.{precedes}
-use Rattle.cordyceps.specs.Spots.BySpot.{HasSpot, IsTaken}
-use Rattle.cordyceps.specs.Spots.DoubleLines.{flat}
-use Rattle.cordyceps.specs.Spots.Heap.{Heaped, Holds, nodes_in}
-use Rattle.cordyceps.proofs.Spots.Arrivals.{Stands, first_of}
-use Rattle.cordyceps.proofs.Spots.Valid.{permuted_keeps}
+use Rattle.cordyceps_base.specs.Element.{Element}
+use Rattle.cordyceps_base.specs.Nodes.{Nodes}
+use Rattle.cordyceps_single.specs.Arrangement.{IsEarliestLeast}
+use Rattle.cordyceps_stable.specs.Arranged.{precedes}
+use Rattle.cordyceps_base.specs.BySpot.{HasSpot, IsTaken}
+use Rattle.cordyceps_base.specs.DoubleLines.{flat}
+use Rattle.cordyceps_heap.specs.Heap.{Heaped, Holds, nodes_in}
+use Rattle.cordyceps_stable.proofs.Arrivals.{Stands, first_of}
+use Rattle.cordyceps_stable.proofs.Valid.{permuted_keeps}
 use Rattle.cordyceps_c_base.specs.declared.carried.Carried.{Carried}
 use Rattle.cordyceps_c_timers.specs.Arranged.{arranged, placed}
 use Rattle.cordyceps_c_timers.specs.declared.node_queue.ByValue.{ByValue}

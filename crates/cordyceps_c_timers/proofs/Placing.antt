@@ -4,16 +4,16 @@ use Rattle.std.proofs.lemmas.Bool.{lt-ltb, ltb-true}
 use Rattle.std.specs.declared.cmp.Ordering.{Ordering}
 use Rattle.std.specs.Ordering.{is_lt, nat_cmp}
 use denote.RawPtr.{Ptr}
-use Rattle.cordyceps.specs.Elements.Element.{Element}
-use Rattle.cordyceps.specs.Elements.Nodes.{Nodes}
-use Rattle.cordyceps.specs.Orders.ByKey.{by_key}
-use Rattle.cordyceps.specs.Orders.Preorder.{IsPreorder, by_number_lawful}
-use Rattle.cordyceps.specs.Spots.Arranged.{precedes, Arranges, AllGreater, LastNotGreater}
-use Rattle.cordyceps.proofs.Orders.Arrangement.{Ascends, ascends_from_sorted, sorted_from_ascends}
-use Rattle.cordyceps.proofs.Orders.Keys.{lt_is, not_less, at_most}
-use Rattle.cordyceps.proofs.Orders.Preorder.{by_test, ranks}
-use Rattle.cordyceps.proofs.Spots.Arranged.{arranges_itself, arranges_put}
-use Rattle.cordyceps.proofs.Spots.Classes.{all_weaker}
+use Rattle.cordyceps_base.specs.Element.{Element}
+use Rattle.cordyceps_base.specs.Nodes.{Nodes}
+use Rattle.cordyceps_single.specs.ByKey.{by_key}
+use Rattle.cordyceps_single.specs.Preorder.{IsPreorder, by_number_lawful}
+use Rattle.cordyceps_stable.specs.Arranged.{precedes, Arranges, AllGreater, LastNotGreater}
+use Rattle.cordyceps_single.proofs.Arrangement.{Ascends, ascends_from_sorted, sorted_from_ascends}
+use Rattle.cordyceps_single.proofs.Keys.{lt_is, not_less, at_most}
+use Rattle.cordyceps_single.proofs.Preorder.{by_test, ranks}
+use Rattle.cordyceps_stable.proofs.Arranged.{arranges_itself, arranges_put}
+use Rattle.cordyceps_stable.proofs.Classes.{all_weaker}
 use Rattle.cordyceps_c_timers.specs.Arranged.{InOrder, placed}
 
 less : (a b : ℕ) → a < b → is_lt (nat_cmp a b) ≡ true

@@ -4,19 +4,19 @@ use Rattle.std.proofs.lemmas.List.Sorted.{IsPermutation-sym}
 use Rattle.std.specs.List.{AllByRecursion}
 use Rattle.std.specs.Prelude.{IfSome}
 use denote.RawPtr.{Ptr}
-use Rattle.cordyceps.specs.Elements.Element.{Element}
-use Rattle.cordyceps.specs.Elements.Nodes.{Nodes, spots}
-use Rattle.cordyceps.specs.Orders.Arrangement.{IsEarliestLeast}
-use Rattle.cordyceps.specs.Spots.Agreeing.{HasElementAt}
-use Rattle.cordyceps.specs.Spots.Arranged.{precedes}
-use Rattle.cordyceps.specs.Spots.BySpot.{HasSpot, IsTaken}
-use Rattle.cordyceps.specs.Spots.Clock.{Holds, rounded}
-use Rattle.cordyceps.specs.Spots.Spots.{AreDistinct}
-use Rattle.cordyceps.proofs.Spots.Classes.{all_back}
-use Rattle.cordyceps.proofs.Spots.Valid.{permuted_is_at, permuted_keeps}
+use Rattle.cordyceps_base.specs.Element.{Element}
+use Rattle.cordyceps_base.specs.Nodes.{Nodes, spots}
+use Rattle.cordyceps_single.specs.Arrangement.{IsEarliestLeast}
+use Rattle.cordyceps_stable.specs.Agreeing.{HasElementAt}
+use Rattle.cordyceps_stable.specs.Arranged.{precedes}
+use Rattle.cordyceps_base.specs.BySpot.{HasSpot, IsTaken}
+use Rattle.cordyceps_clock.specs.Clock.{Holds, rounded}
+use Rattle.cordyceps_base.specs.Spots.{AreDistinct}
+use Rattle.cordyceps_stable.proofs.Classes.{all_back}
+use Rattle.cordyceps_stable.proofs.Valid.{permuted_is_at, permuted_keeps}
 use Rattle.cordyceps_c_base.specs.declared.tickets.Ticket.{Ticket}
 use Rattle.cordyceps_c_base.specs.declared.tickets.Tickets.{Tickets}
-use Rattle.cordyceps_c_base.specs.Tickets.{Fit, Leads, NoneBears, no_ticket}
+use Rattle.cordyceps_c_base.specs.Tickets.{Fit, IsEnded, Leads, NoneBears, no_ticket}
 use Rattle.cordyceps_c_base.proofs.Fitting.{bears_at, none_bears}
 use Rattle.cordyceps_c_timers.specs.Arranged.{InOrder, arranged, placed}
 use Rattle.cordyceps_c_timers.specs.declared.timers.Fired.{Fired}
@@ -24,6 +24,8 @@ use Rattle.cordyceps_c_timers.specs.declared.timers.Timer.{Timer}
 use Rattle.cordyceps_c_timers.specs.Timers.{due_of, fired_of, new_timer, slot_of, with_deadline, Bounds, Fires, IsBound, NoneFires, Restarts, RestartsAt, Running, Starts, StartsAt, Stops, StopsAt}
 use Rattle.cordyceps_c_timers.proofs.Arranging.{all_of, changed, comes, in_order, kept, popped, pushed, removed, stayed}
 use Rattle.cordyceps_c_timers.proofs.Placing.{by_number}
+use Rattle.cordyceps_c_timers.proofs.Ticketing.{comes_again, comes_in, comes_in_without, comes_out}
+use Rattle.cordyceps_stable.proofs.Holding.{first_taken}
 
 -- the timers of a queue
 abbrev pub seen : Nodes Timer → ℕ → Tickets → Running
@@ -43,51 +45,62 @@ module _ (c d : Nodes Timer) (now later : ℕ) (s t : Tickets) where
       → ((a : Nodes Timer) → Held c a → Held d (a ++ (p, e) ∷ []))
       → Starts deadline payload (Some k) (seen c now s) (seen d later t)
   starts p e k deadline payload is of number same coll given h =
-      let put = pushed due_of c d (Held c) (Held d) (comes due_of c) (comes due_of d) p e h ∙ ap (λ x. placed due_of p x (arranged due_of c)) is in
-      ((of, number), (p, λ i. record { nodes = put i; clock = same i; collection = coll i; given = given i }))
+      let new = pushed due_of c d (Held c) (Held d) (comes due_of c) (comes due_of d) p e h in let put = new ∙ ap (λ x. placed due_of p x (arranged due_of c)) is in (
+        comes_in due_of slot_of s t c d p e k (of, number) (ap (λ (x : Element Timer). x.id) is) new coll given,
+        (p, λ i. record { nodes = put i; clock = same i; collection = coll i; given = given i }),
+      )
 
   pub stops : (p : Ptr) (e : Element Timer) (k : Ticket) (f : Fired) → Fit slot_of s c → AreDistinct (spots c) → Leads s k p → IsTaken c p e d
-      → f ≡ fired_of e → later ≡ now → t.collection ≡ s.collection → t.given ≡ s.given
+      → f ≡ fired_of e → later ≡ now → IsEnded e.id (slot_of e.value) s t
       → ((a : Nodes Timer) → Held c a → (rest : Nodes Timer) × (IsTaken a p e rest × Held d rest))
       → Stops k (Some f) (seen c now s) (seen d later t)
-  stops p e k f fit distinct leads taken is same coll given h = record {
-    spot = p;
-    timer = e;
-    bears = bears_at slot_of s c d k p e fit distinct taken leads;
-    taken = removed due_of c d (Held c) (Held d) (comes due_of c) (comes due_of d) p e h;
-    is = is;
-    kept = λ i. record { nodes = arranged due_of d; clock = same i; collection = coll i; given = given i };
-  }
+  stops p e k f fit distinct leads taken is same ended h =
+      let out = removed due_of c d (Held c) (Held d) (comes due_of c) (comes due_of d) p e h in record {
+        spot = p;
+        timer = e;
+        bears = bears_at slot_of s c d k p e fit distinct taken leads;
+        taken = out;
+        is = is;
+        kept = λ i. record { nodes = arranged due_of d; clock = same i; collection = ended.collection i; given = ended.given i };
+        ended = comes_out due_of slot_of s t c d p e fit distinct out ended;
+      }
 
   pub starts_at : (p : Ptr) (e : Element Timer) (deadline payload : ℕ) → e ≡ new_timer now deadline payload no_ticket → later ≡ now
       → ((a : Nodes Timer) → Held c a → Held d (a ++ (p, e) ∷ []))
       → StartsAt deadline payload (Some p) (seen c now s) (seen d later s)
   starts_at p e deadline payload is same h =
-      let put = pushed due_of c d (Held c) (Held d) (comes due_of c) (comes due_of d) p e h ∙ ap (λ x. placed due_of p x (arranged due_of c)) is in
-      λ i. record { nodes = put i; clock = same i; collection = s.collection; given = s.given }
+      let new = pushed due_of c d (Held c) (Held d) (comes due_of c) (comes due_of d) p e h in let put = new ∙ ap (λ x. placed due_of p x (arranged due_of c)) is in (
+        (λ i. record { nodes = put i; clock = same i; collection = s.collection; given = s.given }),
+        comes_in_without due_of slot_of s s c d p e (ap (λ (x : Element Timer). x.id) is) new,
+      )
 
-  pub stops_at : (p : Ptr) (e : Element Timer) (f : Fired) → f ≡ fired_of e → later ≡ now → t.collection ≡ s.collection → t.given ≡ s.given
+  pub stops_at : (p : Ptr) (e : Element Timer) (f : Fired) → Fit slot_of s c → AreDistinct (spots c) → f ≡ fired_of e → later ≡ now → IsEnded e.id (slot_of e.value) s t
       → ((a : Nodes Timer) → Held c a → (rest : Nodes Timer) × (IsTaken a p e rest × Held d rest))
       → StopsAt p f (seen c now s) (seen d later t)
-  stops_at p e f is same coll given h = (
-    e,
-    removed due_of c d (Held c) (Held d) (comes due_of c) (comes due_of d) p e h,
-    is,
-    λ i. record { nodes = arranged due_of d; clock = same i; collection = coll i; given = given i },
-  )
+  stops_at p e f fit distinct is same ended h =
+      let out = removed due_of c d (Held c) (Held d) (comes due_of c) (comes due_of d) p e h in (
+        e,
+        out,
+        is,
+        (λ i. record { nodes = arranged due_of d; clock = same i; collection = ended.collection i; given = ended.given i }),
+        comes_out due_of slot_of s t c d p e fit distinct out ended,
+      )
 
-  pub fires : (until : ℕ) (p : Ptr) (e : Element Timer) (f : Fired) → f ≡ fired_of e → later ≡ e.value.due → e.value.due ≤ until
-      → t.collection ≡ s.collection → t.given ≡ s.given
+  pub fires : (until : ℕ) (p : Ptr) (e : Element Timer) (f : Fired) → Fit slot_of s c → AreDistinct (spots c) → f ≡ fired_of e → later ≡ e.value.due → e.value.due ≤ until
+      → IsEnded e.id (slot_of e.value) s t
       → ((a : Nodes Timer) → Held c a → (rest : Nodes Timer) × (IsEarliestLeast (precedes (by_number due_of)) a (p, e) rest × Held d rest))
       → Fires until f (seen c now s) (seen d later t)
-  fires until p e f is clock early coll given h = record {
-    spot = p;
-    timer = e;
-    first = popped due_of c d (Held c) (Held d) (comes due_of c) (comes due_of d) p e h;
-    is = is;
-    due = early;
-    kept = λ i. record { nodes = arranged due_of d; clock = clock i; collection = coll i; given = given i };
-  }
+  fires until p e f fit distinct is clock early ended h =
+      let a = arranged due_of c in let b = arranged due_of d in
+      let first = popped due_of c d (Held c) (Held d) (comes due_of c) (comes due_of d) p e h in record {
+        spot = p;
+        timer = e;
+        first = first;
+        is = is;
+        due = early;
+        kept = λ i. record { nodes = b; clock = clock i; collection = ended.collection i; given = ended.given i };
+        ended = comes_out due_of slot_of s t c d p e fit distinct (first_taken a b p e first) ended;
+      }
 
   pub none_fires : (until : ℕ) → later ≡ max now until → AllByRecursion (λ n. until < due_of n.1.value) d
       → ((a : Nodes Timer) → Held c a → Held d a) → NoneFires until (seen c now s) (seen d later s)
@@ -111,6 +124,7 @@ restarts c d now later s p e w rest k deadline fit distinct leads taken is same 
       bears = bears_at slot_of s c rest k p e fit distinct taken leads;
       taken = was;
       put = λ i. record { nodes = all i; clock = same i; collection = s.collection; given = s.given };
+      stale = comes_again due_of slot_of s s c d p e w others was put (ap (λ (x : Element Timer). x.id) is) (ap (λ (x : Element Timer). slot_of x.value) is);
     }
 
 pub restarts_at : (c d : Nodes Timer) (now later : ℕ) (s : Tickets) (p : Ptr) (e w : Element Timer) (deadline : ℕ)
@@ -119,7 +133,13 @@ pub restarts_at : (c d : Nodes Timer) (now later : ℕ) (s : Tickets) (p : Ptr) 
     → RestartsAt p deadline (seen c now s) (seen d later s)
 restarts_at c d now later s p e w deadline is same h =
     let (others, was, put) = changed due_of c d (Held c) (Held d) (comes due_of c) (comes due_of d) p e w h in
-    let all = put ∙ ap (λ x. placed due_of p x others) is in (e, others, was, λ i. record { nodes = all i; clock = same i; collection = s.collection; given = s.given })
+    let all = put ∙ ap (λ x. placed due_of p x others) is in (
+      e,
+      others,
+      was,
+      (λ i. record { nodes = all i; clock = same i; collection = s.collection; given = s.given }),
+      comes_again due_of slot_of s s c d p e w others was put (ap (λ (x : Element Timer). x.id) is) (ap (λ (x : Element Timer). slot_of x.value) is),
+    )
 
 -- a timer that is seen is in the queue
 pub runs_at : (c : Nodes Timer) (p : Ptr) → HasSpot (arranged due_of c) p → HasSpot c p

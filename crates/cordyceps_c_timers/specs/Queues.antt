@@ -2,24 +2,22 @@
 use Rattle.std.specs.Prelude.{◌≡◌, ℕ, [], ◌∷◌, List, Bool, MatchBool, Option, None, Some, MatchOption}
 use Rattle.std.specs.Ordering.{nat_cmp}
 use denote.RawPtr.{Ptr}
-use Rattle.cordyceps.specs.Elements.Element.{Element}
-use Rattle.cordyceps.specs.Elements.Nodes.{Nodes}
-use Rattle.cordyceps.specs.Orders.ByKey.{by_key}
-use Rattle.cordyceps.specs.Spots.BySpot.{IsTaken}
-use Rattle.cordyceps.specs.Spots.DoubleLines.{flat}
-use Rattle.cordyceps.specs.Spots.Heap.{Holds}
+use Rattle.cordyceps_base.specs.Element.{Element}
+use Rattle.cordyceps_base.specs.Nodes.{Nodes}
+use Rattle.cordyceps_single.specs.ByKey.{by_key}
+use Rattle.cordyceps_base.specs.BySpot.{IsTaken}
+use Rattle.cordyceps_base.specs.DoubleLines.{flat}
+use Rattle.cordyceps_heap.specs.Heap.{Holds}
 use Rattle.cordyceps_c_base.specs.declared.tickets.Ticket.{Ticket}
 use Rattle.cordyceps_c_base.specs.declared.tickets.Tickets.{Tickets}
-use Rattle.cordyceps_c_base.specs.Tickets.{Bears, Fit, IsGiven, NoneBears, no_ticket}
+use Rattle.cordyceps_c_base.specs.Tickets.{Bears, Ends, Fit, Gives, GivesNone, NoneBears, Ticketed, no_ticket}
 use Rattle.cordyceps_c_timers.specs.Arranged.{placed}
 use Rattle.cordyceps_c_timers.specs.declared.queue.Item.{Item}
 use Rattle.cordyceps_c_timers.specs.declared.queue.Ranked.{Ranked}
 
--- what a contract sees of a queue: its items in order, the number that its maker chose, and how many tickets were given
-pub record Queued : Type 0 where
-  pub nodes : Nodes Ranked
-  pub collection : ℕ
-  pub given : ℕ
+-- what a contract sees of a queue, its items in the order in which they come out
+abbrev pub Queued : Type 0
+Queued = Ticketed Ranked
 
 abbrev pub key_of : Ranked → ℕ
 key_of r = r.key
@@ -48,7 +46,7 @@ pub record AreKept (s : Tickets) (lines : List (Nodes Ranked)) : Type 0 where
 abbrev pub Pushes : (key payload : ℕ) → Option Ticket → Queued → Queued → Type 0
 Pushes key p None t u = u ≡ t
 Pushes key p (Some k) t u =
-    IsGiven t.collection t.given k
+    Gives slot_of k t u
     × ((spot : Ptr) × (u ≡ record t { nodes = placed key_of spot (new_item key p k) t.nodes; given = k.number }))
 
 -- the first item, or none
@@ -57,14 +55,14 @@ IsFirst first t = MatchOption first (t.nodes ≡ [])
     (λ item. (spot : Ptr) × (e : Element Ranked) × (others : Nodes Ranked)
     × (t.nodes ≡ (spot, e) ∷ others) × (item ≡ item_of e))
 
--- the first item came out, or none is there, and all is as it was
+-- the first item came out, and its ticket is stale, or none is there, and all is as it was
 abbrev pub Pops : Option Item → Queued → Queued → Type 0
 Pops None t u = (t.nodes ≡ []) × (u ≡ t)
 Pops (Some item) t u =
     (spot : Ptr) × (e : Element Ranked) × (t.nodes ≡ (spot, e) ∷ u.nodes) × (item ≡ item_of e)
-    × (u ≡ record t { nodes = u.nodes })
+    × (u ≡ record t { nodes = u.nodes }) × Ends slot_of e t u
 
--- the item that has the ticket came out
+-- the item that has the ticket came out, and the ticket is stale
 pub record IsRemoved (k : Ticket) (item : Item) (t u : Queued) : Type 0 where
   pub spot : Ptr
   pub ranked : Element Ranked
@@ -72,6 +70,7 @@ pub record IsRemoved (k : Ticket) (item : Item) (t u : Queued) : Type 0 where
   pub taken : IsTaken t.nodes spot ranked u.nodes
   pub is : item ≡ item_of ranked
   pub kept : u ≡ record t { nodes = u.nodes }
+  pub ended : Ends slot_of ranked t u
 
 -- it came out, or no item has the ticket, and all is as it was
 abbrev pub Removes : Ticket → Option Item → Queued → Queued → Type 0
@@ -86,6 +85,7 @@ pub record IsChanged (k : Ticket) (key : ℕ) (t u : Queued) : Type 0 where
   pub bears : Bears slot_of t.collection k ranked
   pub taken : IsTaken t.nodes spot ranked others
   pub put : u ≡ record t { nodes = placed key_of spot (with_key key ranked) others }
+  pub stale : GivesNone slot_of t u
 
 abbrev pub Changes : Ticket → (key : ℕ) → Bool → Queued → Queued → Type 0
 Changes k key is_changed t u =
@@ -97,16 +97,16 @@ Changes k key is_changed t u =
 abbrev pub PushesAt : (key payload : ℕ) → Option Ptr → Queued → Queued → Type 0
 PushesAt key p None t u = u ≡ t
 PushesAt key p (Some spot) t u =
-    u ≡ record t { nodes = placed key_of spot (new_item key p no_ticket) t.nodes }
+    (u ≡ record t { nodes = placed key_of spot (new_item key p no_ticket) t.nodes }) × GivesNone slot_of t u
 
--- the item at the spot came out
+-- the item at the spot came out, and its ticket is stale, if it had one
 abbrev pub RemovesAt : Ptr → Item → Queued → Queued → Type 0
 RemovesAt spot item t u =
     (ranked : Element Ranked) × IsTaken t.nodes spot ranked u.nodes × (item ≡ item_of ranked)
-    × (u ≡ record t { nodes = u.nodes })
+    × (u ≡ record t { nodes = u.nodes }) × Ends slot_of ranked t u
 
 -- the item at the spot got another key, as if it were pushed now
 abbrev pub ChangesAt : Ptr → (key : ℕ) → Queued → Queued → Type 0
 ChangesAt spot key t u =
     (ranked : Element Ranked) × (others : Nodes Ranked) × IsTaken t.nodes spot ranked others
-    × (u ≡ record t { nodes = placed key_of spot (with_key key ranked) others })
+    × (u ≡ record t { nodes = placed key_of spot (with_key key ranked) others }) × GivesNone slot_of t u

@@ -2,12 +2,12 @@
 use Rattle.std.specs.Prelude.{◌≡◌, ◌⊎◌, ℕ, ◌≤◌, ◌<◌, max, [], ◌∷◌, Bool, MatchBool, Option, None, Some, MatchOption}
 use Rattle.std.specs.List.{AllByRecursion}
 use denote.RawPtr.{Ptr}
-use Rattle.cordyceps.specs.Elements.Element.{Element}
-use Rattle.cordyceps.specs.Elements.Nodes.{Nodes}
-use Rattle.cordyceps.specs.Spots.BySpot.{IsTaken}
-use Rattle.cordyceps.specs.Spots.Clock.{rounded}
+use Rattle.cordyceps_base.specs.Element.{Element}
+use Rattle.cordyceps_base.specs.Nodes.{Nodes}
+use Rattle.cordyceps_base.specs.BySpot.{IsTaken}
+use Rattle.cordyceps_clock.specs.Clock.{rounded}
 use Rattle.cordyceps_c_base.specs.declared.tickets.Ticket.{Ticket}
-use Rattle.cordyceps_c_base.specs.Tickets.{Bears, IsGiven, NoneBears, no_ticket}
+use Rattle.cordyceps_c_base.specs.Tickets.{Bears, Ends, Gives, GivesNone, NoneBears, Ticketed, no_ticket}
 use Rattle.cordyceps_c_timers.specs.Arranged.{placed}
 use Rattle.cordyceps_c_timers.specs.declared.timers.Fired.{Fired}
 use Rattle.cordyceps_c_timers.specs.declared.timers.Timer.{Timer}
@@ -19,6 +19,10 @@ pub record Running : Type 0 where
   pub clock : ℕ
   pub collection : ℕ
   pub given : ℕ
+
+-- the timers with their tickets, without the clock
+abbrev pub timers_of : Running → Ticketed Timer
+timers_of t = record { nodes = t.nodes; collection = t.collection; given = t.given }
 
 -- the time at which a timer fires
 abbrev pub due_of : Timer → ℕ
@@ -48,10 +52,10 @@ with_deadline clock d e = record {
 abbrev pub Starts : (deadline payload : ℕ) → Option Ticket → Running → Running → Type 0
 Starts d p None t u = u ≡ t
 Starts d p (Some k) t u =
-    IsGiven t.collection t.given k
+    Gives slot_of k (timers_of t) (timers_of u)
     × ((spot : Ptr) × (u ≡ record t { nodes = placed due_of spot (new_timer t.clock d p k) t.nodes; given = k.number }))
 
--- the timer that has the ticket was taken out
+-- the timer that has the ticket was taken out, and the ticket is stale
 pub record IsStopped (k : Ticket) (f : Fired) (t u : Running) : Type 0 where
   pub spot : Ptr
   pub timer : Element Timer
@@ -59,6 +63,7 @@ pub record IsStopped (k : Ticket) (f : Fired) (t u : Running) : Type 0 where
   pub taken : IsTaken t.nodes spot timer u.nodes
   pub is : f ≡ fired_of timer
   pub kept : u ≡ record t { nodes = u.nodes }
+  pub ended : Ends slot_of timer (timers_of t) (timers_of u)
 
 -- it was taken out, or no timer has the ticket, and all is as it was
 abbrev pub Stops : Ticket → Option Fired → Running → Running → Type 0
@@ -73,6 +78,7 @@ pub record IsRestarted (k : Ticket) (d : ℕ) (t u : Running) : Type 0 where
   pub bears : Bears slot_of t.collection k timer
   pub taken : IsTaken t.nodes spot timer others
   pub put : u ≡ record t { nodes = placed due_of spot (with_deadline t.clock d timer) others }
+  pub stale : GivesNone slot_of (timers_of t) (timers_of u)
 
 abbrev pub Restarts : Ticket → (deadline : ℕ) → Bool → Running → Running → Type 0
 Restarts k d is_restarted t u =
@@ -84,21 +90,23 @@ Restarts k d is_restarted t u =
 abbrev pub StartsAt : (deadline payload : ℕ) → Option Ptr → Running → Running → Type 0
 StartsAt d p None t u = u ≡ t
 StartsAt d p (Some spot) t u =
-    u ≡ record t { nodes = placed due_of spot (new_timer t.clock d p no_ticket) t.nodes }
+    (u ≡ record t { nodes = placed due_of spot (new_timer t.clock d p no_ticket) t.nodes })
+    × GivesNone slot_of (timers_of t) (timers_of u)
 
--- the timer at the spot was taken out
+-- the timer at the spot was taken out, and its ticket is stale, if it had one
 abbrev pub StopsAt : Ptr → Fired → Running → Running → Type 0
 StopsAt spot f t u =
     (timer : Element Timer) × IsTaken t.nodes spot timer u.nodes × (f ≡ fired_of timer)
-    × (u ≡ record t { nodes = u.nodes })
+    × (u ≡ record t { nodes = u.nodes }) × Ends slot_of timer (timers_of t) (timers_of u)
 
 -- the timer at the spot got another deadline, as if it were started now
 abbrev pub RestartsAt : Ptr → (deadline : ℕ) → Running → Running → Type 0
 RestartsAt spot d t u =
     (timer : Element Timer) × (others : Nodes Timer) × IsTaken t.nodes spot timer others
     × (u ≡ record t { nodes = placed due_of spot (with_deadline t.clock d timer) others })
+    × GivesNone slot_of (timers_of t) (timers_of u)
 
--- the first timer fired, at the time `now` or before, and came out; its time is the clock
+-- the first timer fired, at the time `now` or before, and came out; its time is the clock, and its ticket is stale
 pub record Fires (now : ℕ) (f : Fired) (t u : Running) : Type 0 where
   pub spot : Ptr
   pub timer : Element Timer
@@ -106,6 +114,7 @@ pub record Fires (now : ℕ) (f : Fired) (t u : Running) : Type 0 where
   pub is : f ≡ fired_of timer
   pub due : timer.value.due ≤ now
   pub kept : u ≡ record t { nodes = u.nodes; clock = timer.value.due }
+  pub ended : Ends slot_of timer (timers_of t) (timers_of u)
 
 -- no timer fires at the time `now` or before; all stay, and the clock is not before `now`
 abbrev pub NoneFires : (now : ℕ) → Running → Running → Type 0

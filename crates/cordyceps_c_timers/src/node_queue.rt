@@ -3,15 +3,16 @@ ghost use Rattle.std.specs.Prelude.{◌≡◌, ◌≤◌, ◌<◌, [], ◌∷◌
 ghost use Rattle.std.proofs.Common.{subst, sym};
 ghost use Rattle.std.specs.Ordering.{nat_cmp};
 ghost use denote.RawPtr.{Ptr};
-ghost use Rattle.cordyceps.specs.Orders.ByKey.{by_key};
-ghost use Rattle.cordyceps.specs.Orders.Preorder.{IsPreorder, by_number_lawful};
-ghost use Rattle.cordyceps.specs.Spots.BySpot.{HasSpot, IsTaken};
+ghost use Rattle.cordyceps_single.specs.ByKey.{by_key};
+ghost use Rattle.cordyceps_single.specs.Preorder.{IsPreorder, by_number_lawful};
+ghost use Rattle.cordyceps_base.specs.BySpot.{HasSpot, IsTaken};
 ghost use Rattle.cordyceps_c_timers.specs.Arranged.{placed};
 ghost use Rattle.cordyceps_c_timers.specs.NodeQueues.{Begins, ChangesValue, value_of};
 
-use cordyceps::sorted_list::Order;
-use cordyceps::{Spot, StableHeap};
 use cordyceps_c_base::carried::{Carried, Listed};
+use cordyceps_heap::stable_heap::StableHeap;
+use cordyceps_single::sorted_list::Order;
+use cordyceps_stable::stable_list::Spot;
 use std::cmp::Ordering;
 use std::marker::Model;
 
@@ -43,8 +44,8 @@ pub struct NodeQueue {
 }
 
 impl Model for NodeQueue {
-    ghost use Rattle.cordyceps.specs.Elements.Nodes.{Nodes};
-    ghost use Rattle.cordyceps.specs.Spots.Heap.{nodes_in};
+    ghost use Rattle.cordyceps_base.specs.Nodes.{Nodes};
+    ghost use Rattle.cordyceps_heap.specs.Heap.{nodes_in};
     ghost use Rattle.cordyceps_c_base.specs.declared.carried.Carried.{Carried};
     ghost use Rattle.cordyceps_c_timers.specs.Arranged.{arranged};
     ghost use Rattle.cordyceps_c_timers.specs.NodeQueues.{HasArrivals, value_of};

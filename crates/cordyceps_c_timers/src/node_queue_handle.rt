@@ -1,6 +1,6 @@
 //! The handle of a priority queue of C's own nodes that C has.
 ghost use Rattle.std.specs.Prelude.{◌≡◌, Option, Some, None};
-ghost use Rattle.cordyceps.specs.Elements.Nodes.{Nodes};
+ghost use Rattle.cordyceps_base.specs.Nodes.{Nodes};
 ghost use Rattle.cordyceps_c_base.specs.declared.carried.Carried.{Carried};
 
 use crate::node_queue::NodeQueue;

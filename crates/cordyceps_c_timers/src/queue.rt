@@ -2,16 +2,18 @@
 ghost use Rattle.std.specs.Prelude.{◌≡◌, [], length, refl, ⊤};
 ghost use Rattle.std.proofs.Common.{subst, sym};
 ghost use Rattle.std.specs.Ordering.{nat_cmp};
-ghost use Rattle.cordyceps.specs.Orders.ByKey.{by_key};
-ghost use Rattle.cordyceps.specs.Orders.Preorder.{IsPreorder, by_number_lawful};
+ghost use Rattle.cordyceps_single.specs.ByKey.{by_key};
+ghost use Rattle.cordyceps_single.specs.Preorder.{IsPreorder, by_number_lawful};
 ghost use Rattle.cordyceps_c_base.specs.Tickets.{IsEnded};
 ghost use Rattle.cordyceps_c_timers.specs.Queues.{Changes, IsFirst, Pops, Pushes, Removes};
 ghost use Rattle.cordyceps_c_timers.specs.Queues.{item_of, key_of};
 
-use cordyceps::list::Links;
-use cordyceps::sorted_list::Order;
-use cordyceps::{Linked, Node, StableHeap};
+use cordyceps_base::linked::Linked;
+use cordyceps_base::list::Links;
+use cordyceps_base::node::Node;
 use cordyceps_c_base::tickets::{Ticket, Tickets};
+use cordyceps_heap::stable_heap::StableHeap;
+use cordyceps_single::sorted_list::Order;
 use std::alloc::Global;
 use std::cmp::Ordering;
 use std::marker::Model;
@@ -95,7 +97,7 @@ pub struct Queue {
 }
 
 impl Model for Queue {
-    ghost use Rattle.cordyceps.specs.Spots.Heap.{nodes_in};
+    ghost use Rattle.cordyceps_heap.specs.Heap.{nodes_in};
     ghost use Rattle.cordyceps_c_timers.specs.Arranged.{arranged};
     ghost use Rattle.cordyceps_c_timers.specs.Queues.{AreKept, Queued, key_of};
 

@@ -1,11 +1,12 @@
 //! The calls of a priority queue by spots, which nothing checks.
 ghost use Rattle.std.specs.Prelude.{◌≡◌};
-ghost use Rattle.cordyceps.specs.Spots.BySpot.{HasSpot};
+ghost use Rattle.cordyceps_base.specs.BySpot.{HasSpot};
 ghost use Rattle.cordyceps_c_timers.specs.Queues.{ChangesAt, PushesAt, RemovesAt};
 
 use crate::queue::{Item, Queue, Ranked, into_item};
-use cordyceps::{Node, Spot};
+use cordyceps_base::node::Node;
 use cordyceps_c_base::tickets::Ticket;
+use cordyceps_stable::stable_list::Spot;
 use std::alloc::Global;
 
 impl Queue {

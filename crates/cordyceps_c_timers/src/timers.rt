@@ -4,10 +4,12 @@ ghost use Rattle.cordyceps_c_base.specs.Tickets.{IsEnded};
 ghost use Rattle.cordyceps_c_timers.specs.Timers.{Bounds, Starts, Stops, Restarts};
 ghost use Rattle.cordyceps_c_timers.specs.Timers.{Fires, NoneFires, fired_of};
 
-use cordyceps::clock_queue::Times;
-use cordyceps::list::Links;
-use cordyceps::{ClockQueue, Linked, Node};
+use cordyceps_base::linked::Linked;
+use cordyceps_base::list::Links;
+use cordyceps_base::node::Node;
 use cordyceps_c_base::tickets::{Ticket, Tickets};
+use cordyceps_clock::clock_queue::ClockQueue;
+use cordyceps_clock::times::Times;
 use std::alloc::Global;
 use std::marker::Model;
 

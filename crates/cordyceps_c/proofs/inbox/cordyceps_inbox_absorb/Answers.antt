@@ -1,7 +1,6 @@
 use Rattle.std.proofs.Common.{refl, subst}
 use Rattle.cordyceps_c_shared.specs.Inboxes.{TakesOver}
 use Rattle.cordyceps_c_shared.specs.declared.inbox.Inbox.{Inbox}
-use Rattle.cordyceps_c_base.proofs.Answering.{on_some}
 use Rattle.cordyceps_c.proofs.inbox.cordyceps_inbox_absorb.Goals as goal
 
 pub returns : goal.returns
@@ -9,5 +8,5 @@ returns c =
     let new = c.absorb.new.self in
     let over = subst (λ (i : Inbox). TakesOver i c.in-Some-take.absorbed.value new) c.deref_mut.ensures.value
     (subst (λ (k : Inbox). TakesOver c.deref_mut.result.now k new) c.into_inner.ensures c.absorb.ensures) in
-    on_some _ _ c.in-Some.held.value c.in-Some.ensures.taken
-    (on_some _ _ c.in-Some-take.absorbed.value c.in-Some-take.ensures.taken (new, refl, c.put-2.ensures, c.take-2.ensures.none, over))
+    rw c.in-Some.ensures.taken
+    (rw c.in-Some-take.ensures.taken (new, refl, c.put-2.ensures, c.take-2.ensures.none, over))

@@ -1,16 +1,15 @@
 use Rattle.std.proofs.Common.{◌≡◌, Ok, Err, refl, ap, subst}
-use Rattle.cordyceps.specs.Elements.Element.{Element}
-use Rattle.cordyceps.specs.Parties.Shares.{whole}
-use Rattle.cordyceps.specs.Queues.Calls.{Dequeues, IsCertain}
+use Rattle.cordyceps_base.specs.Element.{Element}
+use Rattle.cordyceps_shared.specs.Shares.{whole}
+use Rattle.cordyceps_queue.specs.Shared.Calls.{Dequeues, IsCertain}
 use Rattle.cordyceps_c_shared.specs.declared.inbox.Inbox.{Inbox}
 use Rattle.cordyceps_c_base.specs.declared.carried.Carried.{Carried}
-use Rattle.cordyceps_c_base.proofs.Answering.{on_some}
 use Rattle.cordyceps_c.proofs.inbox.cordyceps_inbox_receive_node.Goals as goal
 
 pub returns-in-Ok : goal.returns-in-Ok
 returns-in-Ok c =
     let new = c.receive-tried.new.self in let is = c.deref_mut.ensures.value in let told = c.in-Ok.ensures in
-    on_some _ _ c.in-Some.held.value c.in-Some.ensures.taken (
+    rw c.in-Some.ensures.taken (
       new,
       Ok c.in-Ok.letter,
       c.put.ensures,
@@ -24,7 +23,7 @@ returns-in-Ok c =
 pub returns-in-Err : goal.returns-in-Err
 returns-in-Err c =
     let new = c.receive-tried.new.self in let is = c.deref_mut.ensures.value in let told = c.in-Err.ensures in
-    on_some _ _ c.in-Some.held.value c.in-Some.ensures.taken (
+    rw c.in-Some.ensures.taken (
       new,
       Err c.in-Err.why,
       c.put.ensures,

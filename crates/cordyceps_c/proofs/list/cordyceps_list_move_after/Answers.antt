@@ -1,7 +1,6 @@
 use Rattle.std.proofs.Common.{Some, sym, ◌∙◌}
-use Rattle.cordyceps_c_base.proofs.Answering.{on_some}
 use Rattle.cordyceps_c.proofs.list.cordyceps_list_move_after.Goals as goal
 
 pub returns : goal.returns
 returns c =
-    on_some _ _ c.deref_mut.result.now (c.in-Some.ensures.taken ∙ (λ i. Some (sym c.deref_mut.ensures.value i))) (c.move_after-is_moved.new.self, c.put.ensures, c.move_after-is_moved.ensures)
+    rw (c.in-Some.ensures.taken ∙ (λ i. Some (sym c.deref_mut.ensures.value i))) (c.move_after-is_moved.new.self, c.put.ensures, c.move_after-is_moved.ensures)

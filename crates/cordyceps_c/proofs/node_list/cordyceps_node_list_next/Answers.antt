@@ -1,8 +1,8 @@
 use Rattle.std.proofs.Common.{◌≡◌, ◌<◌, [], ◌∷◌, ◌++◌, length, refl, ap, sym, ◌∙◌, subst, MatchOption}
 use denote.RawPtr.{Ptr}
-use Rattle.cordyceps.specs.Elements.Element.{Element}
-use Rattle.cordyceps.specs.Elements.Nodes.{Nodes}
-use Rattle.cordyceps.specs.Spots.BySpot.{AreNext, HasSpot, IsLast}
+use Rattle.cordyceps_base.specs.Element.{Element}
+use Rattle.cordyceps_base.specs.Nodes.{Nodes}
+use Rattle.cordyceps_base.specs.BySpot.{AreNext, HasSpot, IsLast}
 use Rattle.cordyceps_c_base.specs.declared.carried.Carried.{Carried}
 use Rattle.cordyceps_c_base.proofs.Answering.{found}
 use Rattle.cordyceps_c.proofs.node_list.cordyceps_node_list_next.Goals as goal

@@ -1,5 +1,5 @@
 use Rattle.std.proofs.Common.{◌≡◌, ◌<◌, [], ◌∷◌, ◌++◌, length, refl, ap, sym, ◌∙◌, subst, Some}
-use Rattle.cordyceps.specs.Elements.Nodes.{Nodes}
+use Rattle.cordyceps_base.specs.Nodes.{Nodes}
 use Rattle.cordyceps_c_base.specs.declared.carried.Carried.{Carried}
 use Rattle.cordyceps_c_timers.specs.Arranged.{placed}
 use Rattle.cordyceps_c_timers.specs.NodeQueues.{value_of}

@@ -2,7 +2,6 @@ use Rattle.std.proofs.Common.{◌≡◌, [], ◌∷◌, length, refl, ap, ◌∙
 use Rattle.std.proofs.lemmas.List.{nil_from_length}
 use Rattle.cordyceps_c_shared.specs.Piles.{TakesOver}
 use Rattle.cordyceps_c_shared.specs.declared.pile.Pile.{Pile}
-use Rattle.cordyceps_c_base.proofs.Answering.{on_some}
 use Rattle.cordyceps_c.proofs.pile.cordyceps_pile_absorb.Goals as goal
 
 pub returns : goal.returns
@@ -11,6 +10,6 @@ returns c =
     let none = nil_from_length c.deref.result.now.taken (grind arith) in
     let over = subst (λ (i : Pile). TakesOver i c.in-Some-take.absorbed.value new) c.deref_mut.ensures.value
     (subst (λ (k : Pile). TakesOver c.deref_mut.result.now k new) c.into_inner.ensures c.absorb.ensures) in
-    on_some _ _ c.in-Some.held.value c.in-Some.ensures.taken
-    (on_some _ _ c.in-Some-take.absorbed.value c.in-Some-take.ensures.taken
+    rw c.in-Some.ensures.taken
+    (rw c.in-Some-take.ensures.taken
     (new, subst (λ (k : Pile). k.taken ≡ []) c.deref.ensures none, c.put-2.ensures, c.take-2.ensures.none, over))

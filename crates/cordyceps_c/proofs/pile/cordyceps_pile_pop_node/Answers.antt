@@ -1,9 +1,8 @@
 use Rattle.std.proofs.Common.{◌≡◌, Bool, true, false, Option, Some, None, MatchOption, is_some, subst}
-use Rattle.cordyceps.specs.Elements.Element.{Element}
+use Rattle.cordyceps_base.specs.Element.{Element}
 use Rattle.cordyceps_base.specs.declared.node.Block.{Block}
 use Rattle.cordyceps_c_base.specs.declared.carried.Carried.{Carried}
 use Rattle.cordyceps_c_base.specs.Elements.{HoldsElement}
-use Rattle.cordyceps_c_base.proofs.Answering.{on_some}
 use Rattle.cordyceps_c_shared.specs.declared.pile.Pile.{Pile}
 use Rattle.cordyceps_c_shared.specs.Piles.{HoldsPopped, Pops}
 use Rattle.cordyceps_c.proofs.pile.cordyceps_pile_pop_node.Goals as goal
@@ -17,5 +16,5 @@ holds (Some e) answer held told = told
 pub returns : goal.returns
 returns c =
     let new = c.pop-popped.new.self in let popped = c.pop-popped.result in let out = holds popped c.put_found.result c.put_found.new.self.held c.put_found.ensures in
-    on_some _ _ c.in-Some.held.value c.in-Some.ensures.taken
+    rw c.in-Some.ensures.taken
     (new, popped, c.put.ensures, out.0, out.1, subst (λ (i : Pile). Pops popped i new) c.deref_mut.ensures.value c.pop-popped.ensures)

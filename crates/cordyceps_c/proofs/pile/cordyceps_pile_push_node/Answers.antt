@@ -1,9 +1,8 @@
 use Rattle.std.proofs.Common.{Err, refl, subst}
-use Rattle.cordyceps.specs.Elements.Element.{Element}
-use Rattle.cordyceps.specs.Transfers.TryPushError.{TryPushError}
+use Rattle.cordyceps_base.specs.Element.{Element}
+use Rattle.cordyceps_stack.specs.declared.shared.push_error.TryPushError.{TryPushError}
 use Rattle.cordyceps_c_base.specs.declared.carried.Carried.{Carried}
 use Rattle.cordyceps_c_base.specs.Elements.{HoldsElement}
-use Rattle.cordyceps_c_base.proofs.Answering.{on_some}
 use Rattle.cordyceps_c_shared.specs.declared.pile.Pile.{Pile}
 use Rattle.cordyceps_c_shared.specs.declared.pile.Pushed.TheVariants.{Done, Full, Busy}
 use Rattle.cordyceps_c_shared.specs.Piles.{PushesNode, TriesToPush}
@@ -12,17 +11,17 @@ use Rattle.cordyceps_c.proofs.pile.cordyceps_pile_push_node.Goals as goal
 pub returns-in-Ok : goal.returns-in-Ok
 returns-in-Ok c =
     let new = c.push_node-pushed.new.self in let e = c.take_node.result in let (stack, taken, pushes) = c.in-Ok.ensures in
-    on_some _ _ c.in-Some.held.value c.in-Some.ensures.taken
+    rw c.in-Some.ensures.taken
     (new, e, Done, (λ w. cc), c.put.ensures, c.take_node.ensures.0, refl, c.take_node.ensures.1, subst (λ (i : Pile). TriesToPush e Done i new) c.deref_mut.ensures.value (stack, taken, (_, pushes)))
 
 pub returns-in-Err-Full : goal.returns-in-Err-Full
 returns-in-Err-Full c =
     let new = c.push_node-pushed.new.self in let e = c.take_node.result in let (stack, taken, told) = subst (λ (why : TryPushError (Element Carried)). PushesNode e (Err why) c.deref_mut.result.now new) c.in-Err-Full.field-0-is c.in-Err-Full.ensures in let (back, full) = told.0 in
-    on_some _ _ c.in-Some.held.value c.in-Some.ensures.taken
+    rw c.in-Some.ensures.taken
     (new, e, Full, (λ w. cc), c.put.ensures, c.take_node.ensures.0, refl, subst (HoldsElement c.put_node.new.self.held) back c.put_node.ensures, subst (λ (i : Pile). TriesToPush e Full i new) c.deref_mut.ensures.value (stack, taken, (full, told.1)))
 
 pub returns-in-Err-Contended : goal.returns-in-Err-Contended
 returns-in-Err-Contended c =
     let new = c.push_node-pushed.new.self in let e = c.take_node.result in let (stack, taken, told) = subst (λ (why : TryPushError (Element Carried)). PushesNode e (Err why) c.deref_mut.result.now new) c.in-Err-Contended.field-0-is c.in-Err-Contended.ensures in let (back, misses) = told.0 in
-    on_some _ _ c.in-Some.held.value c.in-Some.ensures.taken
+    rw c.in-Some.ensures.taken
     (new, e, Busy, (λ w. cc), c.put.ensures, c.take_node.ensures.0, refl, subst (HoldsElement c.put_node-in-Err-Contended.new.self.held) back c.put_node-in-Err-Contended.ensures, subst (λ (i : Pile). TriesToPush e Busy i new) c.deref_mut.ensures.value (stack, taken, (misses, told.1)))

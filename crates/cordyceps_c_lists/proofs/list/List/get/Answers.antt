@@ -1,5 +1,5 @@
 use Rattle.std.proofs.Common.{sym, subst}
-use Rattle.cordyceps.specs.Spots.BySpot.{HasSpot, HoldsAt}
+use Rattle.cordyceps_base.specs.BySpot.{HasSpot, HoldsAt}
 use Rattle.cordyceps_c_lists.specs.Lists.{Listed}
 use Rattle.cordyceps_c_lists.proofs.Naming.{has_spot, held_named}
 use Rattle.cordyceps_c_lists.proofs.list.List.get.Goals as goal

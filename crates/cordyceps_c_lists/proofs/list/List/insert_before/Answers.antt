@@ -1,8 +1,8 @@
 use Rattle.std.proofs.Common.{sym, subst}
-use Rattle.cordyceps.specs.Elements.Element.{Element}
-use Rattle.cordyceps.specs.Elements.Nodes.{Nodes}
-use Rattle.cordyceps.specs.Spots.BySpot.{HasSpot, IsPutBefore}
-use Rattle.cordyceps.proofs.Spots.Holding.{before_taken}
+use Rattle.cordyceps_base.specs.Element.{Element}
+use Rattle.cordyceps_base.specs.Nodes.{Nodes}
+use Rattle.cordyceps_base.specs.BySpot.{HasSpot, IsPutBefore}
+use Rattle.cordyceps_stable.proofs.Holding.{before_taken}
 use Rattle.cordyceps_c_lists.specs.declared.list.Item.{Item}
 use Rattle.cordyceps_c_lists.specs.Lists.{Listed}
 use Rattle.cordyceps_c_lists.proofs.Keeping.{gives, put_sound, same_sound}

@@ -1,6 +1,6 @@
 use Rattle.std.proofs.Common.{inr, refl, sym, subst}
-use Rattle.cordyceps.specs.Spots.BySpot.{HasSpot, IsMovedAfter}
-use Rattle.cordyceps.proofs.Spots.Holding.{after_taken}
+use Rattle.cordyceps_base.specs.BySpot.{HasSpot, IsMovedAfter}
+use Rattle.cordyceps_stable.proofs.Holding.{after_taken}
 use Rattle.cordyceps_c_lists.specs.Lists.{IsAt, Listed}
 use Rattle.cordyceps_c_lists.proofs.Keeping.{moved_sound, moves}
 use Rattle.cordyceps_c_lists.proofs.Naming.{has_spot, other_spot, same_ticket}

@@ -1,6 +1,6 @@
 use Rattle.std.proofs.Common.{sym, subst}
-use Rattle.cordyceps.specs.Spots.BySpot.{HasSpot, IsMovedFront}
-use Rattle.cordyceps.proofs.Spots.Holding.{first_taken}
+use Rattle.cordyceps_base.specs.BySpot.{HasSpot, IsMovedFront}
+use Rattle.cordyceps_stable.proofs.Holding.{first_taken}
 use Rattle.cordyceps_c_lists.specs.Lists.{Listed}
 use Rattle.cordyceps_c_lists.proofs.Keeping.{moved_sound, moves}
 use Rattle.cordyceps_c_lists.proofs.Naming.{has_spot}

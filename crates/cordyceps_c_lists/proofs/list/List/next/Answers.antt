@@ -1,5 +1,5 @@
 use Rattle.std.proofs.Common.{sym, subst}
-use Rattle.cordyceps.specs.Spots.BySpot.{HasSpot}
+use Rattle.cordyceps_base.specs.BySpot.{HasSpot}
 use Rattle.cordyceps_c_lists.specs.Lists.{Listed}
 use Rattle.cordyceps_c_lists.proofs.Naming.{has_spot}
 use Rattle.cordyceps_c_lists.proofs.list.List.next.Goals as goal

@@ -1,5 +1,5 @@
 use Rattle.std.proofs.Common.{sym, ap, ◌∙◌, subst}
-use Rattle.cordyceps.proofs.Spots.Holding.{first_taken}
+use Rattle.cordyceps_stable.proofs.Holding.{first_taken}
 use Rattle.cordyceps_c_lists.specs.Lists.{Listed, Sound}
 use Rattle.cordyceps_c_lists.proofs.Keeping.{ends, taken_sound}
 use Rattle.cordyceps_c_lists.proofs.list.List.pop_front.Goals as goal

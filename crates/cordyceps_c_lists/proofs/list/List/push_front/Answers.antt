@@ -1,5 +1,5 @@
 use Rattle.std.proofs.Common.{◌∷◌, ◌∙◌}
-use Rattle.cordyceps.proofs.Spots.Holding.{first_taken}
+use Rattle.cordyceps_stable.proofs.Holding.{first_taken}
 use Rattle.cordyceps_c_lists.proofs.Keeping.{gives, put_sound, same_sound}
 use Rattle.cordyceps_c_lists.proofs.list.List.push_front.Goals as goal
 

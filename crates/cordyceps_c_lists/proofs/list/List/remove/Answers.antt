@@ -1,7 +1,7 @@
 use Rattle.std.proofs.Common.{sym, subst}
-use Rattle.cordyceps.specs.Elements.Nodes.{spots}
-use Rattle.cordyceps.specs.Spots.BySpot.{HasSpot, IsTaken}
-use Rattle.cordyceps.specs.Spots.Spots.{AreDistinct}
+use Rattle.cordyceps_base.specs.Nodes.{spots}
+use Rattle.cordyceps_base.specs.BySpot.{HasSpot, IsTaken}
+use Rattle.cordyceps_base.specs.Spots.{AreDistinct}
 use Rattle.cordyceps_c_lists.specs.Lists.{Listed}
 use Rattle.cordyceps_c_lists.proofs.Keeping.{ends, taken_sound}
 use Rattle.cordyceps_c_lists.proofs.Naming.{has_spot, taken_named}

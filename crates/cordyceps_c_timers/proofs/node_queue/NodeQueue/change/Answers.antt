@@ -1,7 +1,7 @@
 use Rattle.std.proofs.Common.{◌≡◌, ◌∷◌, ◌++◌, [], refl, ap, sym, ◌∙◌, subst}
-use Rattle.cordyceps.specs.Elements.Element.{Element}
-use Rattle.cordyceps.specs.Elements.Nodes.{Nodes}
-use Rattle.cordyceps.specs.Spots.BySpot.{HasSpot}
+use Rattle.cordyceps_base.specs.Element.{Element}
+use Rattle.cordyceps_base.specs.Nodes.{Nodes}
+use Rattle.cordyceps_base.specs.BySpot.{HasSpot}
 use Rattle.cordyceps_c_base.specs.declared.carried.Carried.{Carried}
 use Rattle.cordyceps_c_timers.specs.Arranged.{placed}
 use Rattle.cordyceps_c_timers.specs.NodeQueues.{ChangesValue, value_of, with_value}
@@ -20,7 +20,8 @@ pub returns : goal.returns
 returns c =
     let new = c.update.new.self in let p = c.args.at in let (e, w, rest, returns, taken, same, tells) = c.update.ensures.changed in
     let n : Element Carried = record { id = e.id; value = w } in
-    let is : n ≡ with_value c.args.value e = λ i. record { id = e.id; value = record { value = (ap value_of (sym returns.leaves) ∙ returns.met) i } } in
+    let value : value_of w ≡ c.args.value = ap value_of (sym returns.leaves) ∙ returns.met in
+    let is : n ≡ with_value c.args.value e = λ i. record { id = e.id; value = record { value = value i } } in
     let (others, out, put) = changes c.self.inside.heap.lines new.lines c.self.invariant p e n (λ a h. tells _ a refl h) in
     subst (λ (q : Nodes Carried). ChangesValue p c.args.value q (seen new.lines)) c.self.view_is
     (e, others, out, subst (λ (x : Element Carried). seen new.lines ≡ placed value_of p x others) is put)

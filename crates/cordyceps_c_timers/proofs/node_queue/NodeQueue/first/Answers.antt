@@ -1,11 +1,11 @@
-use Rattle.std.proofs.Common.{◌≡◌, ◌∷◌, ◌++◌, Some, None, refl, ap, sym, ◌∙◌, subst}
-use Rattle.cordyceps.specs.Elements.Element.{Element}
-use Rattle.cordyceps.specs.Elements.Nodes.{Nodes, spots}
-use Rattle.cordyceps.specs.Spots.Spots.{AreDistinct}
-use Rattle.cordyceps.proofs.Spots.Holding.{unique}
+use Rattle.std.proofs.Common.{refl, ap, sym, ◌∙◌, subst}
+use Rattle.cordyceps_base.specs.Element.{Element}
+use Rattle.cordyceps_base.specs.Nodes.{spots}
+use Rattle.cordyceps_base.specs.Spots.{AreDistinct}
+use Rattle.cordyceps_stable.proofs.Holding.{unique}
 use Rattle.cordyceps_c_base.specs.declared.carried.Carried.{Carried}
-use Rattle.cordyceps_c_timers.specs.NodeQueues.{Begins, value_of}
-use Rattle.cordyceps_c_timers.proofs.NodeQueuesSaid.{first, seen, stays}
+use Rattle.cordyceps_c_timers.specs.NodeQueues.{value_of}
+use Rattle.cordyceps_c_timers.proofs.NodeQueuesSaid.{first, stays}
 use Rattle.cordyceps_c_timers.proofs.node_queue.NodeQueue.first.Goals as goal
 
 pub invariant_of-self-2 : goal.invariant_of-self-2

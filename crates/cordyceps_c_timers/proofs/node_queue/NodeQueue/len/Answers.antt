@@ -1,5 +1,5 @@
 use Rattle.std.proofs.Common.{length, ap, sym, ◌∙◌}
-use Rattle.cordyceps.specs.Spots.Heap.{nodes_in}
+use Rattle.cordyceps_heap.specs.Heap.{nodes_in}
 use Rattle.cordyceps_c_timers.specs.NodeQueues.{value_of}
 use Rattle.cordyceps_c_timers.proofs.Arranging.{as_long}
 use Rattle.cordyceps_c_timers.proofs.node_queue.NodeQueue.len.Goals as goal

@@ -1,5 +1,5 @@
 use Rattle.std.proofs.Common.{◌∷◌, ◌++◌, [], length, refl, ap, ◌∙◌, arith}
-use Rattle.cordyceps.specs.Spots.Heap.{nodes_in}
+use Rattle.cordyceps_heap.specs.Heap.{nodes_in}
 use Rattle.cordyceps_c_timers.specs.Arranged.{placed}
 use Rattle.cordyceps_c_timers.specs.NodeQueues.{value_of}
 use Rattle.cordyceps_c_timers.proofs.Arranging.{as_long}

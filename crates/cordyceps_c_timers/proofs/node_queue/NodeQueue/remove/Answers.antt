@@ -1,6 +1,6 @@
 use Rattle.std.proofs.Common.{refl, sym, subst}
-use Rattle.cordyceps.specs.Elements.Nodes.{Nodes}
-use Rattle.cordyceps.specs.Spots.BySpot.{HasSpot, IsTaken}
+use Rattle.cordyceps_base.specs.Nodes.{Nodes}
+use Rattle.cordyceps_base.specs.BySpot.{HasSpot, IsTaken}
 use Rattle.cordyceps_c_base.specs.declared.carried.Carried.{Carried}
 use Rattle.cordyceps_c_timers.proofs.NodeQueuesSaid.{removes, seen, waits_at}
 use Rattle.cordyceps_c_timers.proofs.node_queue.NodeQueue.remove.Goals as goal

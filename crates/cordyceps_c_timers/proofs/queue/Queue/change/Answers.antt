@@ -1,7 +1,7 @@
 use Rattle.std.proofs.Common.{◌≡◌, ◌∷◌, ◌++◌, [], true, false, refl, ap, sym, ◌∙◌, subst}
-use Rattle.cordyceps.specs.Elements.Element.{Element}
-use Rattle.cordyceps.specs.Spots.Heap.{nodes_in}
-use Rattle.cordyceps.proofs.Spots.Holding.{last_taken}
+use Rattle.cordyceps_base.specs.Element.{Element}
+use Rattle.cordyceps_heap.specs.Heap.{nodes_in}
+use Rattle.cordyceps_stable.proofs.Holding.{last_taken}
 use Rattle.cordyceps_c_base.proofs.Fitting.{changed_fits, permuted_fits, there_is}
 use Rattle.cordyceps_c_timers.specs.declared.queue.Ranked.{Ranked}
 use Rattle.cordyceps_c_timers.specs.Queues.{Changes, Queued, key_of, slot_of, with_key}
@@ -33,13 +33,14 @@ pub returns : goal.returns
 returns c =
     let was = c.self.inside in let new = c.update.new.self in let kept = c.self.invariant in let p = c.in-Some.spot in
     let (e, w, rest, returns, taken, same, tells) = c.update.ensures.changed in let (key, (payload, slot)) = returns.met in let left = sym returns.leaves in
+    let new_key : key_of w ≡ c.args.key = ap key_of left ∙ key in
     let n : Element Ranked = record { id = e.id; value = w } in
     let (others, (_, held)) = tells _ kept.arrivals refl kept.held in
     let is : n ≡ with_key c.args.key e =
     λ i. record {
       id = e.id;
       value = record {
-        key = (ap key_of left ∙ key) i;
+        key = new_key i;
         payload = (ap (λ (r : Ranked). r.payload) left ∙ payload ∙ ap (λ (r : Ranked). r.payload) returns.shows) i;
         slot = (ap slot_of left ∙ slot ∙ ap slot_of returns.shows) i;
       };

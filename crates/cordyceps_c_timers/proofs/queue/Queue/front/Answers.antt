@@ -1,10 +1,9 @@
-use Rattle.std.proofs.Common.{◌≡◌, ◌∷◌, ◌++◌, Some, None, refl, ap, sym, ◌∙◌, subst}
-use Rattle.cordyceps.specs.Spots.Heap.{nodes_in}
-use Rattle.cordyceps.specs.Spots.Spots.{AreDistinct}
-use Rattle.cordyceps.specs.Elements.Nodes.{spots}
-use Rattle.cordyceps.proofs.Spots.Holding.{unique}
+use Rattle.std.proofs.Common.{Some, refl, sym, ◌∙◌, subst}
+use Rattle.cordyceps_heap.specs.Heap.{nodes_in}
+use Rattle.cordyceps_base.specs.Spots.{AreDistinct}
+use Rattle.cordyceps_base.specs.Nodes.{spots}
+use Rattle.cordyceps_stable.proofs.Holding.{unique}
 use Rattle.cordyceps_c_base.proofs.Fitting.{permuted_fits}
-use Rattle.cordyceps_c_timers.specs.declared.queue.Ranked.{Ranked}
 use Rattle.cordyceps_c_timers.specs.Queues.{IsFirst, Queued, slot_of}
 use Rattle.cordyceps_c_timers.proofs.QueuesSaid.{first, same_items}
 use Rattle.cordyceps_c_timers.proofs.queue.Queue.front.Goals as goal

@@ -1,4 +1,4 @@
-use Rattle.std.proofs.Common.{[], refl, sym, subst}
+use Rattle.std.proofs.Common.{[], sym, subst}
 use Rattle.cordyceps_c_base.specs.Tickets.{Fit}
 use Rattle.cordyceps_c_base.proofs.Fitting.{new_fits}
 use Rattle.cordyceps_c_timers.specs.Queues.{slot_of}

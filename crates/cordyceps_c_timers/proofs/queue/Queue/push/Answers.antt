@@ -1,6 +1,6 @@
-use Rattle.std.proofs.Common.{◌≡◌, ◌+◌, ◌∷◌, ◌++◌, [], Some, refl, ap, ◌∙◌, subst}
-use Rattle.cordyceps.specs.Spots.Heap.{nodes_in}
-use Rattle.cordyceps.proofs.Spots.Holding.{last_taken}
+use Rattle.std.proofs.Common.{◌+◌, ◌∷◌, ◌++◌, [], Some, refl, ap, ◌∙◌, subst}
+use Rattle.cordyceps_heap.specs.Heap.{nodes_in}
+use Rattle.cordyceps_stable.proofs.Holding.{last_taken}
 use Rattle.cordyceps_c_base.proofs.Fitting.{permuted_fits, put_fits, same_fits}
 use Rattle.cordyceps_c_timers.specs.Queues.{Pushes, Queued, slot_of}
 use Rattle.cordyceps_c_timers.proofs.QueuesSaid.{pushes, seen}

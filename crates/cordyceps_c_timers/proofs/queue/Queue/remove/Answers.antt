@@ -1,5 +1,5 @@
-use Rattle.std.proofs.Common.{◌≡◌, Some, None, refl, subst}
-use Rattle.cordyceps.specs.Spots.Heap.{nodes_in}
+use Rattle.std.proofs.Common.{Some, None, refl, subst}
+use Rattle.cordyceps_heap.specs.Heap.{nodes_in}
 use Rattle.cordyceps_c_base.proofs.Fitting.{ended_fits, there_is}
 use Rattle.cordyceps_c_timers.specs.Queues.{Queued, Removes, slot_of}
 use Rattle.cordyceps_c_timers.proofs.QueuesSaid.{none_has, removes, seen}
@@ -25,8 +25,8 @@ invariant_of-self c =
 
 pub returns : goal.returns
 returns c =
-    let was = c.self.inside in let new = c.remove-item.new.self in let kept = c.self.invariant in let told = c.remove-item.ensures in let ended = c.into_item.ensures.ended in
+    let was = c.self.inside in let new = c.remove-item.new.self in let kept = c.self.invariant in let told = c.remove-item.ensures in
     let (rest, (_, left)) = told.arrivals _ kept.arrivals refl kept.held in
     subst (λ (q : Queued). Removes c.args.ticket (Some c.into_item.result) q (seen new.lines c.into_item.new.tickets)) c.self.view_is
     (removes was.heap.lines new.lines was.tickets c.into_item.new.tickets kept.arrivals rest kept.held left c.in_ok-spot.spot c.remove-item.result c.args.ticket c.into_item.result kept.fit c.spots_are_distinct.ensures c.in_ok-spot.ensures
-    told.taken c.into_item.ensures.item ended.collection ended.given (λ a h. told.arrivals _ a refl h))
+    told.taken c.into_item.ensures.item c.into_item.ensures.ended (λ a h. told.arrivals _ a refl h))

@@ -2,10 +2,10 @@ use Rattle.std.proofs.Common.{◌≡◌, ◌⊎◌, ℕ, ◌<◌, ◌≤◌, [],
 use Rattle.std.specs.List.{AllByRecursion}
 use Rattle.std.specs.Prelude.{IfSome}
 use denote.RawPtr.{Ptr}
-use Rattle.cordyceps.specs.Elements.Element.{Element}
-use Rattle.cordyceps.specs.Elements.Nodes.{Nodes}
-use Rattle.cordyceps.specs.Spots.Agreeing.{HasElementAt}
-use Rattle.cordyceps.specs.Spots.Clock.{rounded}
+use Rattle.cordyceps_base.specs.Element.{Element}
+use Rattle.cordyceps_base.specs.Nodes.{Nodes}
+use Rattle.cordyceps_stable.specs.Agreeing.{HasElementAt}
+use Rattle.cordyceps_clock.specs.Clock.{rounded}
 use Rattle.cordyceps_c_timers.specs.declared.timers.Timer.{Timer}
 use Rattle.cordyceps_c_timers.specs.Timers.{Bounds, Running, due_of}
 use Rattle.cordyceps_c_timers.proofs.TimersSaid.{IsNear, bounds}

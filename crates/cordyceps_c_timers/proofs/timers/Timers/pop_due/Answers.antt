@@ -1,7 +1,8 @@
-use Rattle.std.proofs.Common.{◌≡◌, ◌<◌, ◌≤◌, ◌∷◌, [], refl, ap, sym, ◌∙◌, subst}
+use Rattle.std.proofs.Common.{◌∷◌, refl, subst}
 use Rattle.std.proofs.lemmas.List.Sorted.{IsPermutation-sym}
-use Rattle.cordyceps_c_base.proofs.Fitting.{permuted_fits, popped_fits}
+use Rattle.cordyceps_c_base.proofs.Fitting.{permuted_fits}
 use Rattle.cordyceps_c_timers.specs.Timers.{Fires, NoneFires, Running, due_of, slot_of}
+use Rattle.cordyceps_c_timers.proofs.Ticketing.{popped_fits}
 use Rattle.cordyceps_c_timers.proofs.TimersSaid.{fires, none_fires, seen}
 use Rattle.cordyceps_c_timers.proofs.timers.Timers.pop_due.Goals as goal
 
@@ -24,6 +25,6 @@ invariant_of-self-2 c =
 pub returns : goal.returns
 returns c =
     let was = c.self.inside in let new = c.pop_due.new.self in let (spot, tells, _) = c.in_ok-timer.ensures.due in let (clock, early, holds) = tells due_of refl in
-    let ended = c.into_fired.ensures.ended in
     subst (λ (t : Running). Fires c.args.now c.into_fired.result t (seen new.nodes new.clock c.into_fired.new.tickets)) c.self.view_is
-    (fires was.queue.nodes new.nodes was.queue.clock new.clock was.tickets c.into_fired.new.tickets c.args.now spot c.in_ok-timer.timer c.into_fired.result c.into_fired.ensures.fired clock early ended.collection ended.given holds)
+    (fires was.queue.nodes new.nodes was.queue.clock new.clock was.tickets c.into_fired.new.tickets c.args.now spot c.in_ok-timer.timer c.into_fired.result c.self.invariant c.spots_are_distinct.ensures
+    c.into_fired.ensures.fired clock early c.into_fired.ensures.ended holds)

@@ -1,5 +1,5 @@
 use Rattle.std.proofs.Common.{◌≡◌, max, refl, ap, sym, ◌∙◌, subst}
-use Rattle.cordyceps.specs.Spots.BySpot.{HasSpot}
+use Rattle.cordyceps_base.specs.BySpot.{HasSpot}
 use Rattle.cordyceps_c_base.proofs.Fitting.{changed_fits}
 use Rattle.cordyceps_c_timers.specs.declared.timers.Timer.{Timer}
 use Rattle.cordyceps_c_timers.specs.Timers.{RestartsAt, Running, due_of, slot_of, with_deadline}
@@ -19,12 +19,14 @@ pub returns : goal.returns
 returns c =
     let was = c.self.inside in let new = c.update.new.self in let (e, w, rest, returns, taken, _, arrivals) = c.update.ensures.changed in
     let (due, (deadline, (payload, slot))) = returns.met in let left = sym returns.leaves in
+    let new_due : due_of w ≡ max c.args.deadline was.queue.clock = ap due_of left ∙ due ∙ c.max-due.ensures ∙ ap (max c.args.deadline) c.now.ensures in
+    let new_deadline : w.deadline ≡ c.args.deadline = ap (λ (t : Timer). t.deadline) left ∙ deadline in
     let is : record { id = e.id; value = w } ≡ with_deadline was.queue.clock c.args.deadline e =
     λ i. record {
       id = e.id;
       value = record {
-        due = (ap due_of left ∙ due ∙ c.max-due.ensures ∙ ap (max c.args.deadline) c.now.ensures) i;
-        deadline = (ap (λ (t : Timer). t.deadline) left ∙ deadline) i;
+        due = new_due i;
+        deadline = new_deadline i;
         payload = (ap (λ (t : Timer). t.payload) left ∙ payload ∙ ap (λ (t : Timer). t.payload) returns.shows) i;
         slot = (ap slot_of left ∙ slot ∙ ap slot_of returns.shows) i;
       };

@@ -1,6 +1,5 @@
-use Rattle.std.proofs.Common.{◌≡◌, ◌+◌, max, Some, refl, ap, sym, ◌∙◌, subst}
+use Rattle.std.proofs.Common.{◌+◌, max, Some, refl, ap, ◌∙◌, subst}
 use Rattle.cordyceps_c_base.proofs.Fitting.{put_fits, same_fits}
-use Rattle.cordyceps_c_timers.specs.declared.timers.Timer.{Timer}
 use Rattle.cordyceps_c_timers.specs.Timers.{Running, Starts, new_timer, due_of, slot_of}
 use Rattle.cordyceps_c_timers.proofs.TimersSaid.{seen, starts}
 use Rattle.cordyceps_c_timers.proofs.timers.Timers.start.Goals as goal

@@ -1,4 +1,4 @@
-use Rattle.std.proofs.Common.{◌≡◌, Some, None, refl, ap, sym, ◌∙◌, subst}
+use Rattle.std.proofs.Common.{Some, None, refl, subst}
 use Rattle.cordyceps_c_base.proofs.Fitting.{ended_fits, there_is}
 use Rattle.cordyceps_c_timers.specs.Timers.{Running, Stops, due_of, slot_of}
 use Rattle.cordyceps_c_timers.proofs.TimersSaid.{none_has, seen, stops}
@@ -20,7 +20,7 @@ invariant_of-self c =
 
 pub returns : goal.returns
 returns c =
-    let was = c.self.inside in let new = c.remove-timer.new.self in let ended = c.into_fired.ensures.ended in
+    let was = c.self.inside in let new = c.remove-timer.new.self in
     subst (λ (t : Running). Stops c.args.ticket (Some c.into_fired.result) t (seen new.nodes new.clock c.into_fired.new.tickets)) c.self.view_is
     (stops was.queue.nodes new.nodes was.queue.clock new.clock was.tickets c.into_fired.new.tickets c.in_ok-spot.spot c.remove-timer.result c.args.ticket c.into_fired.result c.self.invariant c.spots_are_distinct.ensures c.in_ok-spot.ensures
-    c.remove-timer.ensures.taken c.into_fired.ensures.fired c.remove-timer.ensures.now ended.collection ended.given (λ a h. c.remove-timer.ensures.arrivals due_of a refl h))
+    c.remove-timer.ensures.taken c.into_fired.ensures.fired c.remove-timer.ensures.now c.into_fired.ensures.ended (λ a h. c.remove-timer.ensures.arrivals due_of a refl h))

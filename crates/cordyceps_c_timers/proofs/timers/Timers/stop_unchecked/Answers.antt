@@ -1,5 +1,5 @@
 use Rattle.std.proofs.Common.{refl, sym, subst}
-use Rattle.cordyceps.specs.Spots.BySpot.{HasSpot}
+use Rattle.cordyceps_base.specs.BySpot.{HasSpot}
 use Rattle.cordyceps_c_base.proofs.Fitting.{ended_fits}
 use Rattle.cordyceps_c_timers.specs.Timers.{Running, StopsAt, due_of, slot_of}
 use Rattle.cordyceps_c_timers.proofs.TimersSaid.{runs_at, seen, stops_at}
@@ -15,7 +15,8 @@ invariant_of-self c =
 
 pub returns : goal.returns
 returns c =
-    let was = c.self.inside in let new = c.remove-timer.new.self in let ended = c.into_fired.ensures.ended in
+    let was = c.self.inside in let new = c.remove-timer.new.self in
     subst (λ (t : Running). StopsAt c.args.at c.into_fired.result t (seen new.nodes new.clock c.into_fired.new.tickets)) c.self.view_is
-    (stops_at was.queue.nodes new.nodes was.queue.clock new.clock was.tickets c.into_fired.new.tickets c.args.at c.remove-timer.result c.into_fired.result c.into_fired.ensures.fired c.remove-timer.ensures.now ended.collection ended.given
+    (stops_at was.queue.nodes new.nodes was.queue.clock new.clock was.tickets c.into_fired.new.tickets c.args.at c.remove-timer.result c.into_fired.result c.self.invariant c.spots_are_distinct.ensures
+    c.into_fired.ensures.fired c.remove-timer.ensures.now c.into_fired.ensures.ended
     (λ a h. c.remove-timer.ensures.arrivals due_of a refl h))
