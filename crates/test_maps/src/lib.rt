@@ -1,5 +1,4 @@
-//! Tests of maps whose nodes keep their places: each call by tables, drops, refused memory, many calls beside vectors,
-//! and how nodes are spread over buckets.
+//! Tests of maps whose nodes keep their places: each call by tables, drops, refused memory, many calls beside vectors.
 #![tactic(auto)]
 
 #[cfg(test)]
@@ -14,5 +13,3 @@ mod maps;
 mod memory;
 #[cfg(test)]
 mod plain;
-#[cfg(test)]
-mod spread;
