@@ -1,5 +1,5 @@
 -- Records that threads note by handles, and one writes to a sink.
-use Rattle.std.specs.Prelude.{◌≡◌, ℕ, ◌+◌, ◌-◌, ◌^◌, min, List, ◌++◌, length, map, false}
+use Rattle.std.specs.Prelude.{◌≡◌, ℕ, suc, ◌+◌, ◌-◌, ◌^◌, min, List, [], ◌∷◌, ◌++◌, length, map, Bool, true, false}
 use Rattle.cordyceps.specs.Channels.Channels.{Sends, SendsNothing, Receives, IsOver}
 use Rattle.cordyceps.specs.Elements.Element.{Element}
 use Rattle.cordyceps.specs.Parties.Interleaving.{Interleaves}
@@ -35,14 +35,57 @@ pub record Writes (records before after : List Record) (u w : Report) : Type 0 w
   pub counts_written : w.written ≡ counted u.written (length kept)
   pub counts_dropped : w.dropped ≡ counted u.dropped (length refused)
 
+-- what a sink was asked, and whether it did it
+pub data Asked : Type 0 where
+  Write : Record → Bool → Asked
+  Flush : Bool → Asked
+
+-- the records that it was asked to write, and how many of these it refused
+abbrev pub to_write : List Asked → List Record
+to_write [] = []
+to_write (Write r is_done ∷ more) = r ∷ to_write more
+to_write (Flush is_done ∷ more) = to_write more
+
+abbrev pub refusals : List Asked → ℕ
+refusals [] = 0
+refusals (Write r true ∷ more) = refusals more
+refusals (Write r false ∷ more) = suc (refusals more)
+refusals (Flush is_done ∷ more) = refusals more
+
+-- what being asked makes of a sink in memory, which has these records before and those after
+abbrev pub InMemory : Asked → List Record → List Record → Type 0
+InMemory (Write r true) before after = after ≡ before ++ r ∷ []
+InMemory (Write r false) before after = after ≡ before
+InMemory (Flush is_done) before after = (after ≡ before) × (is_done ≡ true)
+
+-- answers: what being asked makes of a sink
+module _ {S : Type 0} (answers : Asked → S → S → Type 0) where
+  -- from s to t the sink was asked these, one after the other, and nothing else
+  abbrev pub IsAsked : List Asked → S → S → Type 0
+  IsAsked [] s t = t ≡ s
+  IsAsked (a ∷ more) s t = (m : S) × answers a s m × IsAsked more m t
+
+  -- From s to t the sink was asked to write each of these records, once and in this order. The report counts those that
+  -- it refused, besides those before.
+  pub record Asks (records : List Record) (s t : S) (u w : Report) : Type 0 where
+    pub asked : List Asked
+    pub answered : IsAsked asked s t
+    pub all : to_write asked ≡ records
+    pub counts_refused : w.dropped ≡ counted u.dropped (refusals asked)
+
 -- a report before the first record
 abbrev pub empty_report : Report
 empty_report = record { written = 0; dropped = 0; is_flushed = false }
 
 -- From u to w the writer received elements until all handles had ended, and so each that was ever sent. It had their
--- records written.
-pub record Runs (before after : List Record) (report : Report) (u w : PartyOf (Element Record)) : Type 0 where
+-- records written, and at last asked the sink to flush. Between s and t the sink was asked that and nothing else, and
+-- the report says whether the last flush succeeded.
+pub record Runs {S : Type 0} (written : S → List Record) (answers : Asked → S → S → Type 0) (s t : S) (report : Report)
+    (u w : PartyOf (Element Record)) : Type 0 where
   pub elements : List (Element Record)
   pub receives : Receives elements u w
   pub over : IsOver w
-  pub writes : Writes (map record_of elements) before after empty_report report
+  pub writes : Writes (map record_of elements) (written s) (written t) empty_report report
+  pub last : S
+  pub asks : Asks answers (map record_of elements) s last empty_report report
+  pub flushes : answers (Flush report.is_flushed) last t

@@ -4,7 +4,8 @@
 //! whose rooms bound how many records wait to be written. A handle that may not wait drops a record for which no room
 //! is free, and counts it. The writer flushes the sink before it waits, so that what was noted becomes lasting while
 //! nobody notes more.
-ghost use Rattle.std.specs.Prelude.{◌≡◌, ◌≤◌, ◌++◌, ◌∷◌, [], List, map, true, false, IfOk, OnErr, OnOk, MatchResult};
+ghost use Rattle.std.specs.Prelude.{◌≡◌, ◌≤◌, ◌++◌, ◌∷◌, [], List, map, Bool, true, false, is_ok};
+ghost use Rattle.std.specs.Prelude.{IfOk, OnErr, OnOk, MatchResult};
 ghost use Rattle.cordyceps.specs.Channels.Channels.{
   AreAmong,
   IsChannel,
@@ -16,6 +17,7 @@ ghost use Rattle.cordyceps.specs.Channels.Channels.{
 };
 ghost use Rattle.cordyceps.specs.Parties.Histories.{plain};
 ghost use Rattle.cordyceps.specs.Parties.Knowing.{IsPrefixOf};
+ghost use Rattle.cordyceps_shared_uses.specs.Journal.{Asked, Write, Flush, InMemory, IsAsked, Asks};
 ghost use Rattle.cordyceps_shared_uses.specs.Journal.{Drops, Notes, Runs, Writes, counted};
 ghost use Rattle.cordyceps_shared_uses.specs.Logger.{record_of};
 ghost use Rattle.cordyceps_shared_uses.specs.declared.logger.Record.{Record};
@@ -39,13 +41,18 @@ pub trait Sink {
 
     ghost lasting: { Self → List Record };
 
+    // What being asked makes of the sink. By the clauses below, what it was asked is known where `write` or `flush` was
+    // called, and nowhere else.
+    ghost answers: { Asked → Self → Self → Type 0 };
+
     /// Writes a record after those that were written.
     ///
     /// # Errors
     /// If the record was not written, it returns `SinkError`. The next one may be written again.
     fn write(&mut self, event: Record) -> Result<(), SinkError>
         ensures ok { OnOk result (written self.new ≡ written self.old ++ event ∷ []) }
-        ensures err { OnErr result (written self.new ≡ written self.old) };
+        ensures err { OnErr result (written self.new ≡ written self.old) }
+        ensures asked { answers (Write event (is_ok result)) self.old self.new };
 
     /// Makes lasting what was written.
     ///
@@ -53,10 +60,11 @@ pub trait Sink {
     /// If it could not, it returns `SinkError`. A later flush may succeed.
     fn flush(&mut self) -> Result<(), SinkError>
         ensures same { written self.new ≡ written self.old }
-        ensures ok { OnOk result (lasting self.new ≡ written self.new) };
+        ensures ok { OnOk result (lasting self.new ≡ written self.new) }
+        ensures asked { answers (Flush (is_ok result)) self.old self.new };
 }
 
-/// A sink in memory, which refuses a record if memory is refused.
+/// A sink in memory, which refuses a record if memory is refused. Its flush always succeeds.
 #[derive(Drop)]
 pub struct Memory {
     /// The records, in the order in which they were written.
@@ -67,6 +75,8 @@ impl Sink for Memory {
     ghost written = { λ m. m.records.items };
 
     ghost lasting = { λ m. m.records.items };
+
+    ghost answers = { λ a m after. InMemory a m.records.items after.records.items };
 
     fn write(&mut self, event: Record) -> Result<(), SinkError> {
         match self.records.push(event) {
@@ -288,7 +298,8 @@ impl Model for Writer {
 
 /// Writes a record, and adds it to a report.
 fn write_one<S: Sink>(sink: &mut S, event: Record, report: Report) -> Report
-    ensures { Writes (event ∷ []) (S.written sink.old) (S.written sink.new) report result }
+    ensures writes { Writes (event ∷ []) (S.written sink.old) (S.written sink.new) report result }
+    ensures asks { Asks S.answers (event ∷ []) sink.old sink.new report result }
 {
     let mut report = report;
     match sink.write(event) {
@@ -300,7 +311,8 @@ fn write_one<S: Sink>(sink: &mut S, event: Record, report: Report) -> Report
 
 /// Writes the records of a batch, and adds them to a report.
 fn write_batch<S: Sink>(sink: &mut S, batch: Batch<Record>, report: Report) -> Report
-    ensures { Writes (map record_of batch) (S.written sink.old) (S.written sink.new) report result }
+    ensures writes { Writes (map record_of batch) (S.written sink.old) (S.written sink.new) report result }
+    ensures asks { Asks S.answers (map record_of batch) sink.old sink.new report result }
 {
     let mut report = report;
     for entry in batch {
@@ -321,6 +333,7 @@ impl Writer {
         ensures received { MatchResult result (λ batch. ReceivesBatch (λ e. e) max batch self.old self.new)
             (λ _. Receives [] self.old self.new × IsOver self.new) }
         ensures written { S.written sink.new ≡ S.written sink.old }
+        ensures flushes { (flushed : List Bool) × IsAsked S.answers (map Flush flushed) sink.old sink.new }
     {
         match self.receiver.try_recv_batch(max) {
             Ok(batch) => Ok(batch),
@@ -345,7 +358,7 @@ impl Writer {
     /// Until all handles have ended.
     pub fn run<S: Sink, R: Wait>(&mut self, rt: &R, sink: &mut S, max: usize) -> Report
         requires { 1 ≤ max }
-        ensures runs { Runs (S.written sink.old) (S.written sink.new) result self.old self.new }
+        ensures runs { Runs S.written S.answers sink.old sink.new result self.old self.new }
         ensures flushed { result.is_flushed ≡ true → S.lasting sink.new ≡ S.written sink.new }
     {
         let mut report = Report {
@@ -400,7 +413,7 @@ pub fn close_and_write<S: Sink, R: Wait>(
 ) -> Report
     requires table { journal.party.table ≡ writer.old.table }
     requires some { 1 ≤ max }
-    ensures runs { Runs (S.written sink.old) (S.written sink.new) result writer.old writer.new }
+    ensures runs { Runs S.written S.answers sink.old sink.new result writer.old writer.new }
     ensures order { AreAmong (sent journal.party) (received writer.new) }
     ensures written { received writer.old ≡ [] → result.dropped ≡ 0
         → AreAmong (map record_of (sent journal.party)) (S.written sink.new) }

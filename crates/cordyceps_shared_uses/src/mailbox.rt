@@ -1,8 +1,9 @@
 //! A mailbox: many threads send messages, and one thread receives them.
-ghost use Rattle.std.specs.Prelude.{◌≡◌, ◌≤◌, [], ◌∷◌, ◌++◌, map, None, IfOk, IfSome};
+ghost use Rattle.std.specs.Prelude.{◌≡◌, ◌≤◌, ◌⊎◌, [], ◌∷◌, ◌++◌, map, Bool, true, false, None, IfOk, IfSome};
 ghost use Rattle.std.specs.Thread.{IsSync};
 ghost use Rattle.cordyceps.specs.Parties.Sending.{Delivers};
 ghost use Rattle.cordyceps.specs.Parties.Shares.{IsShare};
+ghost use Rattle.cordyceps.specs.Queues.Bell.{ClearsBell, Sleeps};
 ghost use Rattle.cordyceps.specs.Queues.Moves.{Moves};
 ghost use Rattle.cordyceps.specs.Queues.Sending.{Sends};
 ghost use Rattle.cordyceps_shared_uses.specs.Mailbox.{contents, value_of};
@@ -225,7 +226,7 @@ fn receive<R: Wait>(
 }
 
 /// Clears the bell, or, if it was cleared before the last try, sleeps until a sender rings it. Yields to other threads
-/// instead if that try did not find the queue empty.
+/// instead if that try did not find the queue empty. It never clears the bell between a try and the sleep.
 fn pause<R: Wait>(
     rt: &R,
     queue: &MpscQueue<Message>,
@@ -234,7 +235,10 @@ fn pause<R: Wait>(
     why: TryDequeueError,
 )
     requires { party.old.table ≡ queue.now.table }
-    ensures { Moves value_of [] [] party.old party.new }
+    ensures moves { Moves value_of [] [] party.old party.new }
+    ensures clears { is_cleared ≡ false → ClearsBell party.old party.new }
+    ensures sleeps { is_cleared ≡ true
+        → (party.new ≡ party.old) ⊎ ((slept : Bool) × Sleeps slept party.old party.new) }
 {
     if !is_cleared {
         queue.clear_bell(party);

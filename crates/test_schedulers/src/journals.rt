@@ -12,12 +12,16 @@ use cordyceps_shared_uses::logger::Record;
 use std::alloc::Global;
 use std::process::Abort;
 use std::sync::Wait;
-use std::sync::atomic::{AtomicU64, Ordering};
+use std::sync::atomic::{AtomicBool, AtomicU64, Ordering};
 use std::thread;
 use std::thread::Threads;
+use test_support::flags::is_set_in_time;
 
 /// How many records each thread notes.
 const EACH: u64 = 20;
+
+/// How many records a sink that has a handle notes at once.
+const BATCH: usize = 4;
 
 /// How often the threads run with one number of rooms, batches of one size and one way to note.
 const ROUNDS: u64 = 30;
@@ -36,6 +40,8 @@ impl Sink for Picky {
 
     ghost lasting = { λ p. p.memory.records.items };
 
+    ghost answers = { λ _ _ _. Unit {0} };
+
     fn write(&mut self, event: Record) -> Result<(), SinkError> {
         self.offered = self.offered.wrapping_add(1);
         if self.offered % 3 == 0 {
@@ -50,18 +56,20 @@ impl Sink for Picky {
     }
 }
 
-/// A sink whose first flush ends a handle. So a writer that did not flush before it waits would wait for good.
+/// A sink that counts its flushes, and tells of them.
 #[derive(Drop)]
-struct Ending {
+struct Telling<'a> {
     memory: Memory,
-    handle: Option<Journal>,
+    is_flushed: &'a AtomicBool,
     flushed: u64,
 }
 
-impl Sink for Ending {
-    ghost written = { λ e. e.memory.records.items };
+impl<'a> Sink for Telling<'a> {
+    ghost written = { λ t. t.memory.records.items };
 
-    ghost lasting = { λ e. e.memory.records.items };
+    ghost lasting = { λ t. t.memory.records.items };
+
+    ghost answers = { λ _ _ _. Unit {0} };
 
     fn write(&mut self, event: Record) -> Result<(), SinkError> {
         self.memory.write(event)
@@ -69,9 +77,55 @@ impl Sink for Ending {
 
     fn flush(&mut self) -> Result<(), SinkError> {
         self.flushed = self.flushed.wrapping_add(1);
-        drop(self.handle.take());
+        self.is_flushed.store(true, Ordering::SeqCst);
         Ok(())
     }
+}
+
+/// A sink that has a handle of the journal. Its first flush notes `BATCH` records, if these are not noted yet. Its first
+/// write tries to note as many once more, counts how many of these found a room, and ends the handle.
+#[derive(Drop)]
+struct Refilling {
+    memory: Memory,
+    handle: Option<Journal>,
+    is_filled: bool,
+    refilled: usize,
+}
+
+impl Sink for Refilling {
+    ghost written = { λ r. r.memory.records.items };
+
+    ghost lasting = { λ r. r.memory.records.items };
+
+    ghost answers = { λ _ _ _. Unit {0} };
+
+    fn write(&mut self, event: Record) -> Result<(), SinkError> {
+        if let Some(mut handle) = self.handle.take() {
+            self.refilled = noted(&mut handle);
+        }
+        self.memory.write(event)
+    }
+
+    fn flush(&mut self) -> Result<(), SinkError> {
+        match &mut self.handle {
+            Some(handle) if !self.is_filled => {
+                self.is_filled = noted(handle) == BATCH;
+                Ok(())
+            }
+            _ => Ok(()),
+        }
+    }
+}
+
+/// Tries to note `BATCH` records, and returns how many found a room.
+fn noted(handle: &mut Journal) -> usize {
+    let mut count = 0usize;
+    for time in 0..BATCH as u64 {
+        if handle.try_note(Record { time, code: 9 }) {
+            count = count.wrapping_add(1);
+        }
+    }
+    count
 }
 
 /// Returns a sink in memory with no record.
@@ -152,17 +206,79 @@ fn a_sink_that_refuses_records_has_the_others(rt: HostRuntime) {
     same(&rt, times.as_slice(), [0, 1, 3, 4, 6, 7].as_slice());
 }
 
-#[test]
-fn a_writer_flushes_before_it_waits(rt: HostRuntime) {
-    let (mut handle, mut writer) = journal_of(&rt, rt.alloc(), 4);
-    same(&rt, handle.try_note(Record { time: 5, code: 1 }), true);
-    let mut sink = Ending {
-        memory: empty_memory(rt.alloc()),
-        handle: Some(handle),
+/// Ends the handle as soon as the sink was flushed, or after a limit of looks, and returns whether it was flushed.
+fn end_after_a_flush(handle: Journal, is_flushed: &AtomicBool) -> bool {
+    let is_in_time = is_set_in_time(is_flushed);
+    drop(handle);
+    is_in_time
+}
+
+/// Writes one record, whose handle ends after a flush. Returns whether that came in time, how often the sink was
+/// flushed, and how many records it has.
+fn write_until_flushed<R: Abort + Threads + Wait + Sync>(
+    rt: &R,
+    alloc: Global,
+    is_flushed: &AtomicBool,
+) -> (bool, u64, usize) {
+    let (first, writer) = journal_of(rt, alloc, 4);
+    let mut handle = first;
+    let mut writer = writer;
+    same(rt, handle.try_note(Record { time: 5, code: 1 }), true);
+    let mut sink = Telling {
+        memory: empty_memory(alloc),
+        is_flushed,
         flushed: 0,
     };
-    same(&rt, writer.run(&rt, &mut sink, 1), reported(1, 0));
-    same(&rt, (sink.flushed, sink.memory.records.len()), (2, 1));
+    thread::scope(
+        thread::scope_env(),
+        rt,
+        move |scope| -> (bool, u64, usize) {
+            let ending = made(
+                rt,
+                scope.spawn(move || end_after_a_flush(handle, is_flushed)),
+            );
+            same(rt, writer.run(rt, &mut sink, 1), reported(1, 0));
+            (ending.join(rt), sink.flushed, sink.memory.records.len())
+        },
+    )
+}
+
+#[test]
+fn a_writer_flushes_before_it_waits(rt: HostRuntime) {
+    let is_flushed = AtomicBool::new(false);
+    let came = write_until_flushed(&rt, rt.alloc(), &is_flushed);
+    same(&rt, came, (true, 2, 1));
+}
+
+/// Writes `BATCH` records to a sink that notes as many once more where the first one is written, and returns how many
+/// of these found a room. Those before are noted at the first flush, or before the writer begins.
+fn refilled<R: Abort + Wait>(rt: &R, alloc: Global, max: usize, at_flush: bool) -> usize
+    requires { 1 ≤ max }
+{
+    let (first, writer) = journal_of(rt, alloc, BATCH);
+    let mut handle = first;
+    let mut writer = writer;
+    if !at_flush {
+        same(rt, noted(&mut handle), BATCH);
+    }
+    let mut sink = Refilling {
+        memory: empty_memory(alloc),
+        handle: Some(handle),
+        is_filled: !at_flush,
+        refilled: 0,
+    };
+    let report = writer.run(rt, &mut sink, max);
+    let all = BATCH.wrapping_add(sink.refilled) as u64;
+    same(rt, report, reported(all, 0));
+    sink.refilled
+}
+
+#[test]
+fn the_rooms_of_a_batch_are_free_when_it_is_written(rt: HostRuntime) {
+    for max in 1..=BATCH {
+        same(&rt, refilled(&rt, rt.alloc(), max, false), max);
+        same(&rt, refilled(&rt, rt.alloc(), max, true), max);
+    }
 }
 
 #[test]

@@ -1,6 +1,8 @@
 //! The work of the scheduler's four threads: one sends tasks and wakes them, one dispatches them, and two run them.
 ghost use Rattle.std.specs.Prelude.{
   ◌≡◌,
+  ◌⊎◌,
+  ℕ,
   ◌<◌,
   [],
   ◌∷◌,
@@ -17,7 +19,7 @@ ghost use Rattle.cordyceps.specs.Elements.Element.{Element};
 ghost use Rattle.cordyceps.specs.Queues.Calls.{Dequeues};
 ghost use Rattle.cordyceps_shared_uses.specs.Accounts.{IsOpen, after_getting};
 ghost use Rattle.cordyceps_shared_uses.specs.Names.{names, name_of, one_more};
-ghost use Rattle.cordyceps_shared_uses.specs.Scheduler.{all_done, Ran};
+ghost use Rattle.cordyceps_shared_uses.specs.Scheduler.{all_done, paused, Ran};
 ghost use Rattle.cordyceps_shared_uses.specs.Ways.{Sent, Came, RanOneEach, Settles, Woken};
 ghost use Rattle.cordyceps_shared_uses.specs.declared.scheduler.name.Name.{Name};
 ghost use Rattle.cordyceps_shared_uses.specs.declared.scheduler.work.Work.{Work};
@@ -327,7 +329,7 @@ fn keep<L: Run>(shared: &Shared<L>, kept: &mut Stack<Task>, task: Node<Task, lis
 }
 
 /// Retires a task that is done, and puts another one to sleep, which wakes the submitter. If `usize::MAX` tasks sleep,
-/// it keeps the task.
+/// it keeps the task, with the deadline until which it would have slept.
 fn settle<L: Run, R: Wait>(
     rt: &R,
     shared: &Shared<L>,
@@ -342,6 +344,7 @@ fn settle<L: Run, R: Wait>(
     ensures retired { task.value.payload.ran ≡ task.value.payload.rounds
         → (mine.new ≡ mine.old) × (done.new ≡ task ∷ done.old) × (kept.new ≡ kept.old) }
     ensures not_done { task.value.payload.ran < task.value.payload.rounds → done.new ≡ done.old }
+    ensures kept { (kept.new ≡ kept.old) ⊎ ((time : ℕ) × (kept.new ≡ paused time task ∷ kept.old)) }
     ensures finished { all_done done.old ≡ true → all_done done.new ≡ true }
 {
     if task.get().payload.is_done() {

@@ -47,7 +47,7 @@ pub loop-preserved : goal.loop-preserved
 loop-preserved g c =
     let (got, moves, is) = c.loop.invariant in
     let missed = then_nothing value_of c.try_dequeue.new.party moves (moves_dequeue value_of (Err c.in-Err.why) c.loop.party c.try_dequeue.new.party c.in-Err.ensures.answer) in
-    (got, then_nothing value_of c.pause.new.party missed c.pause.ensures, is)
+    (got, then_nothing value_of c.pause.new.party missed c.pause.ensures.moves, is)
 
 pub pause-requires : goal.pause-requires
 pause-requires g c =
