@@ -2,6 +2,8 @@
 a wrong body has and the right body has not."""
 
 import re
+from dataclasses import dataclass, field
+from enum import Enum
 
 from . import at_hand
 
@@ -17,10 +19,14 @@ STEERS = re.compile(r"=>|==|!=|<=|>=|&&|\|\||[<>!?|;{}]|if|else|match|while|for|
 ASKS = re.compile(r"-(requires|init|preserved|smaller)(?:-|$)")
 # What a goal is asked of alone, and the import of what it names.
 SEARCH = "search rules"
-COMMON = "std.proofs.Common"
-IMPORTS = {"rules": COMMON, "arith": COMMON, "common_steps": "std.proofs.lemmas.Grind"}
+IMPORTS = {"rules": "std.proofs.Common", "arith": "std.proofs.Common", "common_steps": "std.proofs.lemmas.Grind"}
 # What a goal is asked of there that the right body's proof has no answer to.
 LONGER = f"{at_hand.FIRST} ({SEARCH}, {SEARCH} depth 7 fits 3000, grind (arith, common_steps))"
+# How many checks are asked for at most before terms that do not fit are given up, and what is at hand then.
+MOST_TRIES = 5
+NOTHING = ["nothing"]
+# The words with which an answer is refused that names what is not there.
+NO_NAME = "has no field"
 # The words with which a `search` in an answer says that it tried all that it could, or that what it asked last did.
 EVERY_WAY = "Every way was tried"
 ENDED = re.compile(r"`grind` found no proof|the goal does not follow")
@@ -28,9 +34,20 @@ ENDED = re.compile(r"`grind` found no proof|the goal does not follow")
 # calls.
 SEARCHED = "`search` did not prove"
 CALLS = re.compile(r"\bit calls `|\ba call of `.* which has no proof\b")
-# A line that names a goal, with the words by which antt tells that it found values at which the goal is false, and that
-# it checked them.
-FALSE = re.compile(r"(?:\(|error: )`([^`]+)`.*\ballow values at which this goal is false")
+# Why a body that is not proved is not refused either.
+LITTLE = "a proof names what the edit took away, and no goal refuses it: change a value, and keep the names"
+SAFETY = "is not judged: only goals of safety are open, which an empty contract would have too: change the result"
+AT_HAND = "NOT REFUSED: `search` proves its goals where it has the right body's answers at hand"
+UNFIT = "is not judged: terms of the right body's answer do not fit: keep the names, and change another value"
+LIMIT = "is not judged: `search` stopped at a limit, so the goal may hold: give it a form in which it does not"
+
+
+class Verdict(Enum):
+    """What is known of a wrong body, or of a function of it."""
+
+    REFUSED = "a goal about the result refuses it"
+    NOT_REFUSED = "its contract lets it through, or it cannot be judged"
+    OPEN = "another check has to be asked"
 
 
 def answers_of(text):
@@ -206,11 +223,14 @@ def asked_of(goal, answers, binders=""):
     >>> asked_of("k", {}, " c").startswith("pub k : goal.k\\nk c =\\n        Prim.first_of (search rules, search rules depth")
     True
     """
-    written = term_of(goal, answers)
-    question = at_hand.beside(written[1]) if written else at_hand.LINE + LONGER
-    question = question if question.startswith("\n") else f" {question}"
+    answer = answers.get(goal, "")
+    begins = re.search(rf"^{re.escape(goal)}(?: \w+)* =", answer, re.M)
+    question = at_hand.LINE + LONGER
+    if begins:
+        question = at_hand.beside(answer[begins.end() : len(answer) - len(behind(goal, answer))])
+        question = question if question.startswith("\n") else f" {question}"
     # (a line above an answer may open definitions)
-    opened = "".join(re.findall(r"^unfolding .*\n", answers.get(goal, ""), re.M))
+    opened = "".join(re.findall(r"^unfolding .*\n", answer, re.M))
     return f"pub {goal} : goal.{goal}\n{opened}{goal}{binders_of(goal, answers, binders)} ={question}\n"
 
 
@@ -245,7 +265,7 @@ def importing(head, names):
     'use Rattle.std.proofs.Common.{rules}\\nuse Rattle.std.proofs.Common.{arith}\\n'
     """
     new = [it for it in names if not re.search(rf"(?<![\w-]){it}(?![\w-])", head)]
-    return "".join(f"use Rattle.{IMPORTS.get(it, COMMON)}.{{{it}}}\n" for it in new) + head
+    return "".join(f"use Rattle.{IMPORTS[it]}.{{{it}}}\n" for it in new) + head
 
 
 def behind(name, answer):
@@ -319,38 +339,6 @@ def is_of_contract(goal):
     """
     name, asks = kind_of(goal)
     return asks in ("preserved", "init") or not asks and name in ("returns", "invariant_of")
-
-
-def is_weak(goal):
-    """Whether a goal is about an invariant, which a proof may choose in another way, or which a type has beside what a
-    function ensures.
-
-    >>> [is_weak(it) for it in ("returns-then-x", "invariant_of-self-2", "loop-at-preserved", "get-requires")]
-    [False, True, True, False]
-    """
-    return is_of_contract(goal) and kind_of(goal)[0] != "returns"
-
-
-def term_of(goal, answers):
-    """The variables of the written answer to a goal, and its term; None if there is none.
-
-    >>> term_of("f", {"f": "pub f : goal.f\\nf g c = h c\\n\\nk : b\\n"}), term_of("f", {})
-    ((' g c', ' h c\\n\\n'), None)
-    """
-    answer = answers.get(goal, "")
-    begins = re.search(rf"^{re.escape(goal)}((?: \w+)*) =", answer, re.M)
-    if not begins:
-        return None
-    return begins[1], answer[begins.end() : len(answer) - len(behind(goal, answer))]
-
-
-def false_in(lines):
-    """The goals that these lines of a check tell to be false at some values, each with its line.
-
-    >>> false_in(["note: src/a.rt:3:5: it is not proved that a (`f`); the facts known there allow values at which this goal is false"])
-    {'f': 'note: src/a.rt:3:5: it is not proved that a (`f`); the facts known there allow values at which this goal is false'}
-    """
-    return {it[1]: line for line in lines for it in [FALSE.search(line)] if it}
 
 
 def searched_in(lines, text):
@@ -472,6 +460,251 @@ def is_for_callees(verdict):
     False
     """
     return SEARCHED not in verdict and bool(CALLS.search(verdict))
+
+
+@dataclass(eq=False)
+class Suspect:
+    """A function with a wrong body that a check did not prove, and what is tried before that counts as a refusal. Where
+    a written answer does not fit, its goal is asked of a `search` that has the answer's terms at hand. Answers that do
+    not fit are then taken away, so that other goals are tried, and the right body's answers are tried at goals that it
+    may not have.
+
+    A goal refuses the body if it is about the result, if the `search` did not prove it, and if that proves the right
+    body's. So it does where the right body's answer is at hand. Where the right body needs no answer, the goal is one
+    of the right body's, or none of the right body's answers holds under its name; and if `search` stopped at a limit, a
+    longer one did not prove it either."""
+
+    # The folder of the function's proof, the text of its answers, whether the edit leaves the paths as they are, the
+    # functions that it calls in place of others, as pairs, whether it leaves calls out, and the variables of each
+    # answer.
+    folder: str
+    text: str
+    keeps: bool
+    calls: list
+    drops: bool
+    binders: str
+    # The goal and the terms that the edit names, and whether what it names is trusted to prove the right body's.
+    named: str = None
+    named_terms: tuple = ()
+    is_trusted: bool = True
+    # The answers that are taken away, those of these whose goals are not there, the ways that were found to hold, the
+    # goals at which none did, the one goal that is looked at, with the ways to answer it that are left, and how many
+    # checks were asked for.
+    gone: set = field(default_factory=set)
+    absent: set = field(default_factory=set)
+    held: list = field(default_factory=list)
+    tried: set = field(default_factory=set)
+    goal: str = None
+    ways: list = field(default_factory=list)
+    tries: int = 0
+    # The goals that are asked for with the right body's answers at hand, the texts of the questions that are not the
+    # first, and of these goals those that were proved, and those at which the right body's terms do not fit.
+    beside: list = field(default_factory=list)
+    questions: dict = field(default_factory=dict)
+    proved: set = field(default_factory=set)
+    unfit: set = field(default_factory=set)
+    # For each goal the terms of its answer that do not fit, and are at hand where they stand.
+    terms: dict = field(default_factory=dict)
+    # Whether the answers have other functions' names.
+    is_renamed: bool = False
+    # The goals that are open, each with the line that says so, and the paths of the right body's, once these are known.
+    open: dict = field(default_factory=dict)
+    right: set = None
+    # The line that shows that the body is refused, once there is one, and the goal of it that was asked for; and before
+    # that the goal, the line and the question of which it is not known yet whether it proves the right body's goal.
+    refused: str = None
+    by: str = None
+    asserted: tuple = None
+
+    def __post_init__(self):
+        # Whether the goal is asked for that the edit names, how the answers were before they got other functions'
+        # names, and these names the other way round.
+        self.is_named, self.written, self.back = bool(self.named), self.text, [(new, old) for old, new in self.calls]
+        if not self.named:
+            return
+        self.beside = [self.named]
+        self.terms = {self.named: [*self.named_terms]} if self.named_terms else {}
+        if self.calls:
+            self.text = with_calls(self.text, self.calls)
+        if self.named_terms == NOTHING:
+            self.questions = {self.named: self.bare(self.named)}
+        elif self.named_terms:
+            question = asked_of(self.named, answers_of(self.text)[1], self.binders)
+            self.questions = {self.named: with_terms(question, self.named_terms)}
+
+    def is_of_right(self, goal):
+        """Whether one of the goals is known to be one of the right body's."""
+        path = parts_of(goal)[0]
+        known = {parts_of(it)[0] for it in answers_of(self.text)[1]} | (self.right or set())
+        return path in known or self.keeps and kind_of(goal) == ("returns", None)
+
+    def takes(self, lines):
+        """Takes what a check said of the function, and judges it."""
+        if self.goal and not self.has_way(lines):
+            return self.goes_on()
+        if self.beside:
+            return self.has_beside(lines)
+        found = {**open_in(lines), **searched_in(lines, self.text)}
+        self.open = {goal: line for goal, line in found.items() if goal not in self.proved}
+        if self.refuses():
+            return Verdict.REFUSED
+        fail, gone = failing_in(lines, self.text)
+        new = (fail | gone) - self.gone
+        if new and self.calls:
+            self.text, self.calls, self.is_renamed = with_calls(self.text, self.calls), (), True
+            return self.asks()
+        self.gone, self.absent = self.gone | new, self.absent | gone
+        asked = {it for it in new & fail if is_of_contract(it)} or {*self.at_limit()}
+        self.beside = sorted(it for it in asked - self.proved - self.unfit if self.is_of_right(it))
+        # (to take answers away whose goals are not there opens no goal, so the next way can be tried in the same check)
+        return self.asks() if self.beside or new & fail or new and not self.open else self.chooses()
+
+    def has_beside(self, lines):
+        """Takes what a check said of the goals that were asked for with the right body's answers at hand: one that is
+        open refuses the body, even where `search` stopped at a limit. Where none is, all is checked without the answers
+        that do not fit; and as if the edit named no goal, if it did."""
+        asked, text = self.beside, self.answers()
+        found = at_hand.left_open(lines, text)
+        about = {goal: line for line in lines for goal in named_in(line) or asked if " error: " in line}
+        for goal in asked:
+            if goal in found and (self.terms.get(goal) != NOTHING or has_ended(found[goal])):
+                question = answers_of(text)[1][goal]
+                self.asserted = goal, found[goal], with_calls(question, self.back) if self.is_renamed else question
+                # (that the question proves the right body's goal was shown when the edit got the goal's name)
+                is_shown = self.is_named and self.is_trusted or self.terms.get(goal) == NOTHING
+                return self.confirms(True) if is_shown else self.asks()
+        self.proved |= {goal for goal in asked if goal not in about}
+        left = [it for it in asked if it in about]
+        self.questions = {it: question for it in left for question in [self.finer(it, text, about[it])] if question}
+        self.unfit |= {*left} - self.questions.keys()
+        self.beside = [*self.questions]
+        if self.is_named and not self.beside:
+            self.text = self.written
+        # (it is not known yet whether another question proves the right body's goal)
+        self.is_named = False
+        self.open = {goal: line for goal, line in self.open.items() if goal not in self.proved}
+        return self.asks()
+
+    def finer(self, goal, text, line):
+        """The next question for a goal, after one in a text in which a line refuses a term: with this term at hand
+        where it stands, or else with none; and None after that."""
+        place = at_hand.refused_in(text, line) if self.tries < MOST_TRIES else None
+        # (what has another name is no evidence, but what the edit left out is)
+        if self.terms.get(goal) == NOTHING or not place and NO_NAME in line and not self.drops:
+            return None
+        if not place:
+            self.terms[goal] = NOTHING
+            return self.bare(goal)
+        self.terms[goal] = [*self.terms.get(goal, ()), text.split("\n")[place[0]][place[1] : place[2]]]
+        return answers_of(at_hand.finer(text, place))[1][goal]
+
+    def bare(self, goal):
+        """A question for a goal with nothing at hand."""
+        return asked_of(goal, {goal: f"{goal}{binders_of(goal, answers_of(self.text)[1], self.binders)} = {SEARCH}\n"})
+
+    def confirms(self, is_proved):
+        """Takes whether the question that the body leaves open proves the right body's goal. If so, it refuses the
+        body, and else nothing is at hand in the next check."""
+        goal, line, _ = self.asserted
+        self.asserted, self.beside = None, []
+        if is_proved:
+            self.refused, self.by = line, goal
+            return Verdict.REFUSED
+        self.terms[goal], self.questions, self.beside = NOTHING, {goal: self.bare(goal)}, [goal]
+        self.is_named = False
+        return self.asks()
+
+    def at_limit(self):
+        """The open goals about the result at which `search` stopped at a limit, and that are not asked for yet."""
+        known = self.proved | self.unfit
+        return [it for it in self.open if is_of_contract(it) and is_at_limit(self.open[it]) and it not in known]
+
+    def has_way(self, lines):
+        """Whether the way that was tried holds, as a check said."""
+        path, clause = parts_of(self.goal)
+        if any(of == self.goal or not clause and parts_of(of)[0] == path for it in lines for of in named_in(it)):
+            del self.ways[0]
+            return False
+        self.held.append(self.ways[0])
+        self.goal, self.ways = None, []
+        return True
+
+    def goes_on(self):
+        """Goes on with the goal that is looked at, or another one."""
+        if self.ways:
+            return self.asks()
+        self.tried.add(self.goal)
+        return self.chooses()
+
+    def chooses(self):
+        """Chooses the goal that is looked at, if there is one, and judges the function if there is none."""
+        self.goal, self.ways = None, []
+        if self.refuses():
+            return Verdict.REFUSED
+        left = {it: self.ways_to(it) for it in self.open if it not in self.tried and not self.is_of_right(it)}
+        # (those first that can refuse the body, and of these the one that takes fewest checks)
+        order = sorted((it for it in left if left[it]), key=lambda it: (not self.counts(it), len(left[it])))
+        if order:
+            self.goal, self.ways = order[0], left[order[0]]
+            return self.asks()
+        return self.asks_beside()
+
+    def asks_beside(self):
+        """Asks for the goals of the right body at which `search` stopped at a limit, with the right body's answers at
+        hand: if there are none, nothing is left to try."""
+        at_limit = self.at_limit()
+        unknown = [it for it in at_limit if not self.is_of_right(it)]
+        if unknown and self.right is None:
+            # (which goals the right body has is asked for all such functions of the crate together)
+            self.goal = unknown[0]
+            return self.asks()
+        self.beside = [it for it in at_limit if it not in unknown]
+        return self.asks() if self.beside else Verdict.NOT_REFUSED
+
+    def asks(self):
+        """Asks for another check."""
+        self.tries += 1
+        return Verdict.OPEN
+
+    def ways_to(self, goal):
+        """The ways to answer a goal that the right body may not have by the right body's answers."""
+        names = [*answers_of(self.text)[1]]
+        return put_under(goal, [it for it in names if it in self.gone]) or put_under(goal, names)
+
+    def counts(self, goal):
+        """Whether an open goal can refuse the body."""
+        return is_of_contract(goal) and not is_at_limit(self.open[goal]) and goal not in self.unfit
+
+    def refuses(self):
+        """Whether an open goal refuses the body, as far as is known."""
+        for goal, line in self.open.items():
+            is_known = goal in self.tried or self.is_of_right(goal) or not self.ways_to(goal)
+            if self.counts(goal) and is_known:
+                self.refused = line
+                return True
+        return False
+
+    def waits(self):
+        """Whether it has to be known which goals the right body has, or what proves one, before the next way is
+        tried."""
+        return bool(self.asserted) or self.goal is not None and self.right is None
+
+    def answers(self):
+        """The text of the answers with the next way, or None where none is left."""
+        if self.beside:
+            return asked_beside(self.text, self.beside, self.absent, self.binders, self.questions)
+        ways = [*self.held, *self.ways[:1]]
+        is_left = ways or not self.gone >= answers_of(self.text)[1].keys()
+        return with_answers(self.text, ways, self.gone) if is_left else None
+
+    def fault(self):
+        """Why a body that is not proved is not refused."""
+        at_limit, unfit = self.at_limit(), sorted(it for it in self.unfit if it in self.open or it in self.gone)
+        if at_limit or unfit:
+            return f"{LIMIT} (`{at_limit[0]}`)" if at_limit else f"{UNFIT} (`{unfit[0]}`)"
+        if self.proved:
+            return f"{AT_HAND} (`{min(self.proved)}`)"
+        return f"{SAFETY} (`{[*self.open][0]}`)" if self.open else LITTLE
 
 
 def named_in(line):

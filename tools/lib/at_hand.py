@@ -125,27 +125,6 @@ def beside(term, bound=frozenset()):
     return leaf(term, bound)
 
 
-def parts_in(term):
-    """The parts of a term that prove something by themselves, each with what is bound in front of it: those of a tuple
-    and of a record, but for calls of tactics.
-
-    >>> [*parts_in("let a = b in (f a, omega arith, record { x = g a; })")]
-    ['let a = b in f a', 'let a = b in g a']
-    """
-    term = " ".join(term.split())
-    in_front = let_of(term) or binders_of(term)
-    if in_front:
-        yield from (f"{in_front[0]} {it}" for it in parts_in(in_front[1]))
-    elif term.startswith("(") and is_closed(term, 0):
-        for it in split_at(term[1:-1], ","):
-            yield from parts_in(it)
-    elif re.match(r"record *\{", term) and is_closed(term, term.index("{")):
-        for it in split_at(term[term.index("{") + 1 : -1], ";"):
-            yield from parts_in(it.partition("=")[2])
-    elif not TACTIC.match(term) and not AS_IT_IS.match(term):
-        yield term
-
-
 def in_branches(term, bound):
     """A term by cases with the term of each case at hand of a `search`.
 

@@ -64,39 +64,14 @@ def told(crate, function, said):
     return {}
 
 
-def is_closure_of(name, function):
-    """Whether a name that a check tells is that of a closure which stands in a function of another name.
-
-    >>> is_closure_of("a::timers::fn::Timers::restart::update", "a::timers::Timers::restart")
-    True
-    >>> is_closure_of("a::timers::fn::Timers::restart::update", "a::timers::Timers::start")
-    False
-    >>> is_closure_of("a::timers::Timers::restart", "a::timers::Timers::restart")
-    False
-    """
-    outer, is_one, inner = name.partition("::fn::")
-    return bool(is_one) and f"{outer}::{inner}::".startswith(f"{function}::")
-
-
-def is_of_closure(crate, edit, path, line, column):
-    """Whether a closure begins at a place in a source that has an edit. What one ensures is part of the body."""
-    rows = text_of(f"{crate.folder}/{path}").split("\n")
-    row = edit.lines.get((path, line)) or "".join(rows[line - 1 : line])
-    return bool(re.match(r"(?:move )?\|", row[column - 1 :]))
-
-
-def shows(crate, edit, function, name, said):
-    """The lines that show that a function fails by itself, and not for what it calls, or what a closure in it
-    ensures."""
-    verdict = said.verdicts[name]
+def shows(function, name, verdict, said):
+    """The lines that show that a function fails by itself, and not for what it calls."""
     folder = "/".join(name.split("::")[1:])
     own = [it for it in said.lines if re.match(rf"(\./)?proofs/{re.escape(folder)}/\w+\.antt:\d+:\d+: error", it)]
     for it in said.lines:
-        at = re.match(r"(?:note: )?(?:\./)?(\S+?):(\d+):(\d+):", it)
+        at = re.match(r"(?:note: )?(?:\./)?(\S+?):(\d+):\d+:", it)
         if at and at[1] == function.path and function.first <= int(at[2]) <= function.last and "not proved that" in it:
-            is_promise = any(answers.is_of_contract(goal) for goal in answers.goals_in([it]))
-            if not is_promise or not is_of_closure(crate, edit, at[1], int(at[2]), int(at[3])):
-                own.append(it)
+            own.append(it)
     if answers.SEARCHED in verdict:
         own.append(verdict[verdict.index(answers.SEARCHED) :])
     return own
@@ -110,7 +85,7 @@ def findings(crate, edit, said):
             if PROVED.match(verdict):
                 found.append(Finding(name, Outcome.PROVED, []))
                 continue
-            lines = shows(crate, edit, function, name, said)
+            lines = shows(function, name, verdict, said)
             is_for_callees = not lines and answers.is_for_callees(verdict)
             found.append(Finding(name, Outcome.CALLEES if is_for_callees else Outcome.FAILS, lines))
     return found

@@ -16,8 +16,7 @@ GOAL = re.compile(r"^# (?:goal|at hand): .*\n", re.M)
 @dataclass(frozen=True)
 class Edit:
     """A wrong body: its name, the lines that it changes, by file and number, the functions that these lie in, whether
-    it is tried alone, the goal that it names, and the terms of the right body's answer that are at hand there; where the
-    goal is an invariant, also the case in which it is false, and the terms that say why."""
+    it is tried alone, the goal that it names, and the terms of the right body's answer that are at hand there."""
 
     name: str
     lines: dict
@@ -25,8 +24,6 @@ class Edit:
     is_alone: bool
     goal: str = None
     terms: tuple = ()
-    fact: str = None
-    reasons: tuple = ()
 
 
 def faults_in(lines):
@@ -65,8 +62,7 @@ def has_fault(edit, twin, faults):
 
 def read_edit(crate, name):
     """A wrong body as its file says, or why it cannot be applied."""
-    path, old, named, texts, was = None, None, None, {}, {}
-    notes = {"# goal": [], "# at hand": [], "# where": [], "# because": []}
+    path, old, named, goal, terms, texts, was = None, None, None, None, [], {}, {}
     for line in text_of(f"{crate.folder}/wrong_bodies/{name}").split("\n"):
         word, _, said = line.partition(": ") if not line.startswith("new:") else ("new", "", line[4:].removeprefix(" "))
         if word == "file":
@@ -75,8 +71,10 @@ def read_edit(crate, name):
             texts.setdefault(path, was[path])
         elif word == "fn":
             named = said
-        elif word in notes:
-            notes[word].append(said)
+        elif word == "# goal":
+            goal = said
+        elif word == "# at hand":
+            terms.append(said)
         elif word == "old" and path:
             old = said
         elif word == "new" and old:
@@ -95,7 +93,4 @@ def read_edit(crate, name):
         functions = [it for it in known if any(it.path == at and it.first <= n <= it.last for at, n in lines)]
     if not lines or not functions:
         return None, "it changes nothing, or changes no function and names none"
-    goal, terms, fact, reasons = notes.values()
-    last = [it[-1] if it else None for it in (goal, fact)]
-    name = name.removesuffix(".edit")
-    return Edit(name, lines, frozenset(functions), bool(named), last[0], terms, last[1], reasons), None
+    return Edit(name.removesuffix(".edit"), lines, frozenset(functions), bool(named), goal, terms), None

@@ -5,12 +5,12 @@ import re
 from collections import Counter
 from dataclasses import dataclass
 
-from . import answers, rattle_source, suspects
-from .checking import PROVED, Checks, Outcome, findings, is_closure_of, named_before, told
+from . import answers, rattle_source
+from .answers import Verdict
+from .checking import PROVED, Checks, Outcome, findings, named_before, told
 from .common import text_of
 from .edits import faults_in, parts_by
 from .laying_out import as_they_are, lay_out, numbers_of, proofs_of, twin_of
-from .suspects import Verdict
 
 SURVIVES = "NOT REFUSED: the function is proved with this body"
 RENAMED = "NOT REFUSED: the right body's answers prove its goals, which have other names"
@@ -72,7 +72,7 @@ class Judge:
     def judge(self, edit, twin, said):
         """Judges an edit by what a check said."""
         found, fails = findings(self.crate, edit, said), Verdict.NOT_REFUSED
-        asks = any(it.beside or it.denying for it in self.suspects.get(edit.name, {}).values())
+        asks = any(it.beside for it in self.suspects.get(edit.name, {}).values())
         if len(found) > len(edit.functions):
             return self.note(edit.name, fails, "its function cannot be told from others of the same name")
         if not said.verdicts:
@@ -86,35 +86,35 @@ class Judge:
 
     def surviving(self, edit):
         """How a body was proved."""
-        every = self.suspects.get(edit.name, {}).values()
-        if any(it.held or it.goal for it in every):
+        suspects = self.suspects.get(edit.name, {}).values()
+        if any(it.held or it.goal for it in suspects):
             return RENAMED
-        gone = [f"`{goal}`" for it in every for goal in sorted(it.gone)]
-        is_renamed = any(it.is_renamed for it in every)
-        return f"{suspects.AT_HAND} ({', '.join(gone)})" if gone else RENAMED if is_renamed else SURVIVES
+        gone = [f"`{goal}`" for it in suspects for goal in sorted(it.gone)]
+        is_renamed = any(it.is_renamed for it in suspects)
+        return f"{answers.AT_HAND} ({', '.join(gone)})" if gone else RENAMED if is_renamed else SURVIVES
 
     def ask_more(self, edit, twin, errors):
         """Takes what a check said of the functions of an edit that it did not prove, and judges the edit."""
-        every, verdicts = self.suspects.setdefault(edit.name, {}), []
+        suspects, verdicts = self.suspects.setdefault(edit.name, {}), []
         for name, lines in errors.items():
             # (the name of a twin may differ from check to check)
             key = name if len(edit.functions) > 1 else None
-            if key not in every:
+            if key not in suspects:
                 # (a twin has the name of its function, with a number)
-                every[key] = self.suspect(edit, twin.original if twin else "/".join(name.split("::")[1:]))
-            verdicts.append(every[key].takes(lines))
+                suspects[key] = self.suspect(edit, twin.original if twin else "/".join(name.split("::")[1:]))
+            verdicts.append(suspects[key].takes(lines))
         return self.settle(edit, verdicts)
 
     def settle(self, edit, verdicts):
         """Judges an edit by the verdicts on its functions: it is refused if a goal of one refuses it, and left open if
         one of them asks for another check."""
-        every = self.suspects[edit.name].values()
-        refused = [it.refused for it in every if it.refused]
+        suspects = self.suspects[edit.name].values()
+        refused = [it.refused for it in suspects if it.refused]
         if refused:
             return self.note(edit.name, Verdict.REFUSED, refused[0])
         if Verdict.OPEN in verdicts:
             return Verdict.OPEN
-        return self.note(edit.name, Verdict.NOT_REFUSED, next(it.fault() for it in every))
+        return self.note(edit.name, Verdict.NOT_REFUSED, next(it.fault() for it in suspects))
 
     def suspect(self, edit, folder, named=None, terms=()):
         """A function as a suspect, by the folder of its proof, and the goal and the terms that the edit names."""
@@ -124,7 +124,7 @@ class Judge:
         is_there = folder and os.path.isfile(file)
         function = min(edit.functions)
         is_generic = rattle_source.is_generic(function, text_of(f"{self.crate.folder}/{function.path}"))
-        return suspects.Suspect(
+        return answers.Suspect(
             folder=folder,
             text=text_of(file) if is_there else answers.begun(self.crate.name, folder) if folder else "",
             keeps=all(answers.keeps_paths(*it) for it in lines),
@@ -134,8 +134,6 @@ class Judge:
             named=named,
             named_terms=terms,
             is_trusted=self.trusts,
-            fact=edit.fact,
-            reasons=edit.reasons,
         )
 
     def waiting(self, name):
@@ -176,12 +174,10 @@ class Judge:
         return [f"{it}_{number}" if number > 1 else it for it, number in pairs]
 
     def look_at_others(self, edits, said):
-        """Fails where a function that no edit touched is refused for a reason of its own. A closure is part of the
-        body that it stands in."""
+        """Fails where a function that no edit touched is refused for a reason of its own."""
         touched = {name for edit in edits for name in self.told_of(edit, said)}
         for name, verdict in said.verdicts.items():
-            is_touched = name in touched or any(is_closure_of(name, it) for it in touched)
-            if not is_touched and not PROVED.match(verdict) and not answers.is_for_callees(verdict):
+            if name not in touched and not PROVED.match(verdict) and not answers.is_for_callees(verdict):
                 self.note(name, Verdict.NOT_REFUSED, f"has its right body, and is refused: {verdict}")
 
     def told_of(self, edit, said):
@@ -242,7 +238,7 @@ class Judge:
             return open_ones
         alone = self.round(edits[:1]) if len(edits) > 1 else edits
         if alone and tries == self.tries():
-            why = "is not judged: its function is refused for what it calls alone, or for what its own closure ensures"
+            why = "is not judged: its function is refused for what it calls alone"
             self.note(edits[0].name, Verdict.NOT_REFUSED, why)
             alone = []
         return alone + edits[1:]
