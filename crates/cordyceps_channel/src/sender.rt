@@ -181,8 +181,8 @@ impl<T: Linked<Links<T>>, W: Wake + Drop> Sender<T, W> {
         unreachable!()
     }
 
-    /// Returns a receipt, which tells the receiver what this sender has seen: its own elements, and others'. This history
-    /// is legal.
+    /// Returns a receipt, which tells the receiver what this sender has seen: its own elements, and others'. That
+    /// history is legal.
     ///
     /// # Complexity
     /// O(1): one load.

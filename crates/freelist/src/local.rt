@@ -73,8 +73,7 @@ impl<'a, T: Linked<Links<T>>> Local<'a, T> {
     }
 
     /// Removes a block and returns it: of the local blocks the one that was put back last. If there is none, it first
-    /// takes all shared blocks, of which the one that was put back last is first. Returns `None` if there is no block at
-    /// all.
+    /// takes all shared blocks, of which the one that was put back last is first. Returns `None` if there is no block.
     ///
     /// # Complexity
     /// O(1) if there is a local block, without an atomic step. Otherwise O(n), for n shared blocks: one swap of the
