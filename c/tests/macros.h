@@ -1,8 +1,9 @@
-/* Uses each macro of the header and each inline function, so that each compiler reads them, as C and as C++. */
+/* Uses each macro of the headers and each inline function, so that each compiler reads them, as C and as C++. */
 #ifndef MACROS_H
 #define MACROS_H
 
 #include "cordyceps.h"
+#include "cordyceps_heap.h"
 #include "cordyceps_waker.h"
 
 static inline bool is_armed_once(cordyceps_waker *waker) {

@@ -1,34 +1,28 @@
-/* What the tests of nodes share: jobs whose links lie between two words that nobody else writes, and a count of what is
- * asked of malloc and given to free. A test that includes it is linked with --wrap for malloc, realloc and free. */
+/* What the tests of nodes share: jobs whose links lie between two words that nobody else writes, and a count of what the
+ * library asks for and frees. */
 #ifndef NODES_H
 #define NODES_H
 
 #include <string.h>
 
 #include "checked.h"
-
-void *__real_malloc(size_t size);
-void *__real_realloc(void *block, size_t size);
-void __real_free(void *block);
-void *__wrap_malloc(size_t size);
-void *__wrap_realloc(void *block, size_t size);
-void __wrap_free(void *block);
+#include "cordyceps_heap.h"
 
 static size_t requests, frees;
 
-void *__wrap_malloc(size_t size) {
+void *cordyceps_malloc(size_t bytes) {
   requests++;
-  return __real_malloc(size);
+  return malloc(bytes);
 }
 
-void *__wrap_realloc(void *block, size_t size) {
+void *cordyceps_realloc(void *block, size_t bytes) {
   requests++;
-  return __real_realloc(block, size);
+  return realloc(block, bytes);
 }
 
-void __wrap_free(void *block) {
+void cordyceps_free(void *block) {
   frees++;
-  __real_free(block);
+  free(block);
 }
 
 struct job {

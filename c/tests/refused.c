@@ -1,20 +1,24 @@
 /* Memory is refused at each request in turn: each call answers so, and nothing is lost. */
 #include "checked.h"
-
-void *__real_malloc(size_t size);
-void *__wrap_malloc(size_t size);
+#include "cordyceps_heap.h"
 
 /* How many requests are granted before one is refused; a negative number is for all. */
 static long granted = -1;
 
-void *__wrap_malloc(size_t size) {
+static bool is_refused(void) {
   if (granted == 0) {
     granted = -1;
-    return NULL;
+    return true;
   }
   granted -= granted > 0;
-  return __real_malloc(size);
+  return false;
 }
+
+void *cordyceps_malloc(size_t bytes) { return is_refused() ? NULL : malloc(bytes); }
+
+void *cordyceps_realloc(void *block, size_t bytes) { return is_refused() ? NULL : realloc(block, bytes); }
+
+void cordyceps_free(void *block) { free(block); }
 
 /* Refuses the n-th request of what follows, and grants the others. */
 static void refuse(long n) { granted = n; }

@@ -2,7 +2,7 @@
 //! call whose name ends in `_unchecked`, and none on nodes.
 #![allow(dead_code, non_camel_case_types)]
 
-use std::os::raw::c_void;
+use core::ffi::c_void;
 
 pub const CORDYCEPS_DONE: u32 = 0;
 pub const CORDYCEPS_EMPTY: u32 = 1;

@@ -1,6 +1,6 @@
 //! Handles of the library, and how they keep the conditions of its header.
 
-use std::cell::UnsafeCell;
+use core::cell::UnsafeCell;
 
 /// A handle as the library has it, which is of a collection, or of nothing.
 pub(crate) trait Raw {
@@ -39,22 +39,22 @@ pub(crate) trait Raw {
 ///
 /// ```compile_fail,E0277
 /// fn is_sync<T: Sync>() {}
-/// is_sync::<cordyceps_proved::Timers<u8>>();
+/// is_sync::<cordyceps_c::Timers<u8>>();
 /// ```
 ///
 /// ```compile_fail,E0277
 /// fn is_sync<T: Sync>() {}
-/// is_sync::<cordyceps_proved::Inbox<u8>>();
+/// is_sync::<cordyceps_c::Inbox<u8>>();
 /// ```
 ///
 /// ```compile_fail,E0277
 /// fn is_send<T: Send>() {}
-/// is_send::<cordyceps_proved::Timers<std::rc::Rc<u8>>>();
+/// is_send::<cordyceps_c::Timers<std::rc::Rc<u8>>>();
 /// ```
 ///
 /// ```compile_fail,E0277
 /// fn is_send<T: Send>() {}
-/// is_send::<cordyceps_proved::Inbox<std::rc::Rc<u8>>>();
+/// is_send::<cordyceps_c::Inbox<std::rc::Rc<u8>>>();
 /// ```
 pub(crate) struct Handle<H: Raw>(UnsafeCell<H>);
 
@@ -81,7 +81,7 @@ impl<H: Raw> Handle<H> {
 
     /// Takes the handle, and leaves one of nothing.
     pub(crate) fn take(&mut self) -> Self {
-        std::mem::replace(self, Self(UnsafeCell::new(H::NOTHING)))
+        core::mem::replace(self, Self(UnsafeCell::new(H::NOTHING)))
     }
 }
 

@@ -1,15 +1,14 @@
 //! Inboxes: many threads send, and one at a time receives.
 
-use std::error::Error;
-use std::fmt;
-use std::marker::PhantomData;
-use std::ptr;
-use std::sync::{Arc, Mutex, PoisonError};
-use std::thread;
+use alloc::sync::Arc;
+use core::fmt;
+use core::marker::PhantomData;
+use core::ptr;
 
-use crate::error::NoMemory;
+use crate::error::{NoMemory, NotTaken};
 use crate::ffi;
 use crate::handle::{Handle, Raw};
+use crate::lock::{give_way, Lock};
 use crate::payload::{drop_each, from_payload, into_payload};
 
 /// The most rooms that an inbox can have.
@@ -18,7 +17,7 @@ pub const MAX_ROOMS: usize = 1 << 20;
 /// A handle of an inbox, to which many threads send, and from which one at a time receives.
 ///
 /// Each thread has a handle of its own, made by [`split`]. Sending and receiving never wait: where a thread is to sleep
-/// until a value is there, use means of your own, such as [`thread::park`]. The values of one handle come out in the
+/// until a value is there, use means of your own, such as `std::thread::park`. The values of one handle come out in the
 /// order in which it sent them.
 ///
 /// A room is a permit to send one value, so the rooms bound how many values are in the inbox. Sending takes a room of
@@ -34,7 +33,7 @@ pub const MAX_ROOMS: usize = 1 << 20;
 /// # Examples
 ///
 /// ```
-/// use cordyceps_proved::Inbox;
+/// use cordyceps_c::Inbox;
 /// use std::thread;
 ///
 /// let mut inbox = Inbox::new(64)?;
@@ -75,7 +74,7 @@ pub struct Inbox<T> {
 /// references could be taken for one to which shorter ones are sent:
 ///
 /// ```compile_fail
-/// # use cordyceps_proved::Inbox;
+/// # use cordyceps_c::Inbox;
 /// let mut inbox: Inbox<&'static str> = Inbox::new(1).unwrap();
 /// {
 ///     let short = String::from("short");
@@ -85,9 +84,9 @@ pub struct Inbox<T> {
 /// inbox.receive().unwrap();
 /// ```
 struct Shared<T> {
-    dropped: Mutex<Option<Handle<ffi::cordyceps_inbox>>>,
+    dropped: Lock<Option<Handle<ffi::cordyceps_inbox>>>,
     // (the handles pass values as a lock does, so they are `Send` and variant as it is)
-    values: PhantomData<Mutex<T>>,
+    values: PhantomData<Lock<T>>,
 }
 
 impl<T> Inbox<T> {
@@ -108,7 +107,7 @@ impl<T> Inbox<T> {
         assert!(rooms <= MAX_ROOMS, "an inbox has at most {MAX_ROOMS} rooms, and not {rooms}");
         let mut handle = Handle::new(rooms).ok_or(NoMemory)?;
         handle.give_back();
-        let shared = Shared { dropped: Mutex::new(None), values: PhantomData };
+        let shared = Shared { dropped: Lock::new(None), values: PhantomData };
         Ok(Self { handle, shared: Arc::new(shared) })
     }
 
@@ -173,9 +172,9 @@ impl<T> Inbox<T> {
     /// # Complexity
     ///
     /// O(1).
-    pub fn absorb(&mut self, mut other: Self) -> Result<(), Self> {
+    pub fn absorb(&mut self, mut other: Self) -> Result<(), NotTaken<Self>> {
         if !Arc::ptr_eq(&self.shared, &other.shared) {
-            return Err(other);
+            return Err(NotTaken(other));
         }
         // SAFETY: the two are of one inbox, since they share the same.
         unsafe { self.handle.absorb(&mut other.handle) };
@@ -206,20 +205,19 @@ impl<T> Drop for Inbox<T> {
             return;
         }
         while !self.handle.give_back() {
-            thread::yield_now();
+            give_way();
         }
-        let mut dropped = self.shared.dropped.lock().unwrap_or_else(PoisonError::into_inner);
-        match dropped.as_mut() {
+        self.shared.dropped.with(|dropped| match dropped {
             // SAFETY: the two are of one inbox, since both were dropped with a reference to the same `Shared`.
             Some(first) => unsafe { first.absorb(&mut self.handle) },
             None => *dropped = Some(self.handle.take()),
-        }
+        });
     }
 }
 
 impl<T> Drop for Shared<T> {
     fn drop(&mut self) {
-        let dropped = self.dropped.get_mut().unwrap_or_else(PoisonError::into_inner);
+        let dropped = self.dropped.get_mut();
         if let Some(last) = dropped.as_mut() {
             // SAFETY: as in `Inbox::receive`.
             drop_each(|| last.receive().map(|it| drop(unsafe { from_payload::<T>(it) })).is_ok());
@@ -322,7 +320,8 @@ impl<T> fmt::Display for SendError<T> {
     }
 }
 
-impl<T> Error for SendError<T> {}
+#[cfg(feature = "std")]
+impl<T> std::error::Error for SendError<T> {}
 
 /// The error of [`Inbox::receive`], which says why there is no value.
 #[derive(Clone, Copy, Debug, PartialEq, Eq)]
@@ -345,4 +344,5 @@ impl fmt::Display for ReceiveError {
     }
 }
 
-impl Error for ReceiveError {}
+#[cfg(feature = "std")]
+impl std::error::Error for ReceiveError {}

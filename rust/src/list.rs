@@ -1,11 +1,11 @@
 //! Lists whose elements are reached by their tickets.
 
-use std::fmt;
-use std::iter::FusedIterator;
-use std::marker::PhantomData;
-use std::ptr;
+use core::fmt;
+use core::iter::FusedIterator;
+use core::marker::PhantomData;
+use core::ptr;
 
-use crate::error::NoMemory;
+use crate::error::{NoMemory, NotTaken};
 use crate::ffi;
 use crate::handle::{Handle, Raw};
 use crate::payload::{drop_each, from_payload, into_payload, value_at, value_at_mut};
@@ -19,20 +19,20 @@ use crate::ticket::{next_collection, Ticket};
 /// # Examples
 ///
 /// ```
-/// use cordyceps_proved::List;
+/// use cordyceps_c::List;
 ///
 /// // The least recently used is first.
 /// let mut pages = List::new()?;
-/// let a = pages.push_back("a").unwrap();
-/// pages.push_back("b").unwrap();
-/// pages.push_back("c").unwrap();
+/// let a = pages.push_back("a")?;
+/// pages.push_back("b")?;
+/// pages.push_back("c")?;
 /// assert!(pages.move_to_back(a));
 /// assert_eq!(pages.pop_front(), Some("b"));
 /// assert_eq!(pages.iter().map(|(_, page)| *page).collect::<String>(), "ca");
 ///
 /// assert_eq!(pages.remove(a), Some("a"));
 /// assert_eq!(pages.get(a), None);
-/// # Ok::<(), cordyceps_proved::NoMemory>(())
+/// # Ok::<(), Box<dyn std::error::Error>>(())
 /// ```
 pub struct List<T> {
     /// Its payloads are those of `into_payload::<T>`, each once.
@@ -84,7 +84,7 @@ impl<T> List<T> {
     /// # Complexity
     ///
     /// O(1) amortized, with two allocations.
-    pub fn push_front(&mut self, value: T) -> Result<Ticket, T> {
+    pub fn push_front(&mut self, value: T) -> Result<Ticket, NotTaken<T>> {
         // SAFETY: the header's conditions hold, as `Handle` says.
         self.insert_by(value, |list, payload, out| unsafe { ffi::cordyceps_list_push_front(list, payload, out) })
     }
@@ -98,7 +98,7 @@ impl<T> List<T> {
     /// # Complexity
     ///
     /// O(1) amortized, with two allocations.
-    pub fn push_back(&mut self, value: T) -> Result<Ticket, T> {
+    pub fn push_back(&mut self, value: T) -> Result<Ticket, NotTaken<T>> {
         // SAFETY: the header's conditions hold, as `Handle` says.
         self.insert_by(value, |list, payload, out| unsafe { ffi::cordyceps_list_push_back(list, payload, out) })
     }
@@ -113,7 +113,7 @@ impl<T> List<T> {
     /// # Complexity
     ///
     /// O(1) amortized, with two allocations.
-    pub fn insert_before(&mut self, at: Ticket, value: T) -> Result<Ticket, T> {
+    pub fn insert_before(&mut self, at: Ticket, value: T) -> Result<Ticket, NotTaken<T>> {
         // SAFETY: the header's conditions hold, as `Handle` says.
         self.insert_by(value, |list, it, out| unsafe { ffi::cordyceps_list_insert_before(list, at.0, it, out) })
     }
@@ -128,7 +128,7 @@ impl<T> List<T> {
     /// # Complexity
     ///
     /// O(1) amortized, with two allocations.
-    pub fn insert_after(&mut self, at: Ticket, value: T) -> Result<Ticket, T> {
+    pub fn insert_after(&mut self, at: Ticket, value: T) -> Result<Ticket, NotTaken<T>> {
         // SAFETY: the header's conditions hold, as `Handle` says.
         self.insert_by(value, |list, it, out| unsafe { ffi::cordyceps_list_insert_after(list, at.0, it, out) })
     }
@@ -290,14 +290,14 @@ impl<T> List<T> {
         &mut self,
         value: T,
         call: impl FnOnce(*mut ffi::cordyceps_list, u64, *mut ffi::cordyceps_ticket) -> bool,
-    ) -> Result<Ticket, T> {
-        let payload = into_payload(value)?;
+    ) -> Result<Ticket, NotTaken<T>> {
+        let payload = into_payload(value).map_err(NotTaken)?;
         let mut ticket = ffi::cordyceps_ticket::default();
         if call(self.handle.raw(), payload, &mut ticket) {
             Ok(Ticket(ticket))
         } else {
             // SAFETY: the payload was made above, and the library has not taken it.
-            Err(unsafe { from_payload(payload) })
+            Err(NotTaken(unsafe { from_payload(payload) }))
         }
     }
 

@@ -1,7 +1,8 @@
 //! Values as payloads: the library has the address of a value's block, as a number that it never follows.
 
-use std::alloc::{alloc, Layout};
-use std::ptr::NonNull;
+use alloc::alloc::{alloc, Layout};
+use alloc::boxed::Box;
+use core::ptr::NonNull;
 
 /// Moves a value into a block of its own, and returns the payload that stands for it.
 ///

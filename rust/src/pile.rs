@@ -1,15 +1,14 @@
 //! Piles: many threads push, and each may take all at once.
 
-use std::error::Error;
-use std::fmt;
-use std::marker::PhantomData;
-use std::ptr;
-use std::sync::{Arc, Mutex, PoisonError};
-use std::thread;
+use alloc::sync::Arc;
+use core::fmt;
+use core::marker::PhantomData;
+use core::ptr;
 
-use crate::error::NoMemory;
+use crate::error::{NoMemory, NotTaken};
 use crate::ffi;
 use crate::handle::{Handle, Raw};
+use crate::lock::{give_way, Lock};
 use crate::payload::{drop_each, from_payload, into_payload};
 
 /// The most rooms that a pile can have.
@@ -34,7 +33,7 @@ pub const MAX_ROOMS: usize = 1 << 20;
 /// # Examples
 ///
 /// ```
-/// use cordyceps_proved::Pile;
+/// use cordyceps_c::Pile;
 /// use std::thread;
 ///
 /// let mut pile = Pile::new(64)?;
@@ -50,7 +49,7 @@ pub const MAX_ROOMS: usize = 1 << 20;
 /// }
 /// assert_eq!(pile.pop(), None);
 /// pile.give_back();
-/// # Ok::<(), cordyceps_proved::NoMemory>(())
+/// # Ok::<(), cordyceps_c::NoMemory>(())
 /// ```
 ///
 /// [`split`]: Pile::split
@@ -70,9 +69,9 @@ pub struct Pile<T> {
 ///
 /// It is invariant in `T`, since one handle may take what another has pushed.
 struct Shared<T> {
-    keeper: Mutex<Handle<ffi::cordyceps_pile>>,
+    keeper: Lock<Handle<ffi::cordyceps_pile>>,
     // (the handles pass values as a lock does, so they are `Send` and variant as it is)
-    values: PhantomData<Mutex<T>>,
+    values: PhantomData<Lock<T>>,
 }
 
 impl<T> Pile<T> {
@@ -94,7 +93,7 @@ impl<T> Pile<T> {
         let mut keeper = Handle::<ffi::cordyceps_pile>::new(rooms).ok_or(NoMemory)?;
         let handle = keeper.split().ok_or(NoMemory)?;
         keeper.give_back();
-        let shared = Shared { keeper: Mutex::new(keeper), values: PhantomData };
+        let shared = Shared { keeper: Lock::new(keeper), values: PhantomData };
         Ok(Self { handle, shared: Arc::new(shared) })
     }
 
@@ -154,12 +153,12 @@ impl<T> Pile<T> {
     /// # Complexity
     ///
     /// O(1).
-    pub fn absorb(&mut self, mut other: Self) -> Result<(), Self> {
+    pub fn absorb(&mut self, mut other: Self) -> Result<(), NotTaken<Self>> {
         // SAFETY: the two are of one pile, where they share the same.
         if Arc::ptr_eq(&self.shared, &other.shared) && unsafe { self.handle.absorb(&mut other.handle) } {
             Ok(())
         } else {
-            Err(other)
+            Err(NotTaken(other))
         }
     }
 
@@ -175,9 +174,8 @@ impl<T> Pile<T> {
 
     /// Has the keeper absorb this handle, if it took no value that it has not handed out yet.
     fn is_kept(&mut self) -> bool {
-        let mut keeper = self.shared.keeper.lock().unwrap_or_else(PoisonError::into_inner);
         // SAFETY: the two are of one pile, since this one was split off the keeper, or off another one that was.
-        unsafe { keeper.absorb(&mut self.handle) }
+        self.shared.keeper.with(|keeper| unsafe { keeper.absorb(&mut self.handle) })
     }
 }
 
@@ -195,7 +193,7 @@ impl<T> Drop for Pile<T> {
             return;
         }
         while !self.handle.give_back() {
-            thread::yield_now();
+            give_way();
         }
         // (a handle that is not absorbed has taken a value still, so it takes no further one; it is dropped without the
         // lock, since its drop may do anything)
@@ -205,7 +203,7 @@ impl<T> Drop for Pile<T> {
 
 impl<T> Drop for Shared<T> {
     fn drop(&mut self) {
-        let keeper = self.keeper.get_mut().unwrap_or_else(PoisonError::into_inner);
+        let keeper = self.keeper.get_mut();
         // SAFETY: as in `Pile::pop`.
         drop_each(|| keeper.pop().map(|it| drop(unsafe { from_payload::<T>(it) })).is_some());
     }
@@ -305,4 +303,5 @@ impl<T> fmt::Display for PushError<T> {
     }
 }
 
-impl<T> Error for PushError<T> {}
+#[cfg(feature = "std")]
+impl<T> std::error::Error for PushError<T> {}

@@ -1,10 +1,10 @@
 //! Priority queues, by keys.
 
-use std::fmt;
-use std::marker::PhantomData;
-use std::ptr;
+use core::fmt;
+use core::marker::PhantomData;
+use core::ptr;
 
-use crate::error::NoMemory;
+use crate::error::{NoMemory, NotTaken};
 use crate::ffi;
 use crate::handle::{Handle, Raw};
 use crate::payload::{drop_each, from_payload, into_payload, value_at};
@@ -19,19 +19,19 @@ use crate::ticket::{next_collection, Ticket};
 /// # Examples
 ///
 /// ```
-/// use cordyceps_proved::Queue;
+/// use cordyceps_c::Queue;
 ///
 /// let mut queue = Queue::new()?;
-/// queue.push(2, "second").unwrap();
-/// let third = queue.push(3, "third").unwrap();
-/// let first = queue.push(9, "first").unwrap();
+/// queue.push(2, "second")?;
+/// let third = queue.push(3, "third")?;
+/// let first = queue.push(9, "first")?;
 /// assert!(queue.change(first, 1));
 /// assert_eq!(queue.remove(third).unwrap().value, "third");
 ///
 /// assert_eq!(queue.pop().unwrap().value, "first");
 /// assert_eq!(queue.pop().unwrap().value, "second");
 /// assert!(queue.pop().is_none());
-/// # Ok::<(), cordyceps_proved::NoMemory>(())
+/// # Ok::<(), Box<dyn std::error::Error>>(())
 /// ```
 pub struct Queue<T> {
     /// Its payloads are those of `into_payload::<T>`, each once.
@@ -86,15 +86,15 @@ impl<T> Queue<T> {
     /// # Complexity
     ///
     /// O(1) amortized, with two allocations.
-    pub fn push(&mut self, key: u64, value: T) -> Result<Ticket, T> {
-        let payload = into_payload(value)?;
+    pub fn push(&mut self, key: u64, value: T) -> Result<Ticket, NotTaken<T>> {
+        let payload = into_payload(value).map_err(NotTaken)?;
         let mut ticket = ffi::cordyceps_ticket::default();
         // SAFETY: the header's conditions hold, as `Handle` says.
         if unsafe { ffi::cordyceps_queue_push(self.handle.raw(), key, payload, &mut ticket) } {
             Ok(Ticket(ticket))
         } else {
             // SAFETY: the payload was made above, and the library has not taken it.
-            Err(unsafe { from_payload(payload) })
+            Err(NotTaken(unsafe { from_payload(payload) }))
         }
     }
 

@@ -1,7 +1,7 @@
 //! Tickets, which name elements of collections.
 
-use std::fmt;
-use std::sync::atomic::{AtomicU32, Ordering};
+use core::fmt;
+use core::sync::atomic::{AtomicU32, Ordering};
 
 use crate::ffi;
 

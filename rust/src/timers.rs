@@ -1,10 +1,10 @@
 //! Timers, which fire by their deadlines.
 
-use std::fmt;
-use std::marker::PhantomData;
-use std::ptr;
+use core::fmt;
+use core::marker::PhantomData;
+use core::ptr;
 
-use crate::error::NoMemory;
+use crate::error::{NoMemory, NotTaken};
 use crate::ffi;
 use crate::handle::{Handle, Raw};
 use crate::payload::{drop_each, from_payload, into_payload};
@@ -21,12 +21,12 @@ use crate::ticket::{next_collection, Ticket};
 /// # Examples
 ///
 /// ```
-/// use cordyceps_proved::Timers;
+/// use cordyceps_c::Timers;
 ///
 /// let mut timers = Timers::new()?;
-/// timers.start(20, "close").unwrap();
-/// let poll = timers.start(10, "poll").unwrap();
-/// timers.start(10, "flush").unwrap();
+/// timers.start(20, "close")?;
+/// let poll = timers.start(10, "poll")?;
+/// timers.start(10, "flush")?;
 /// assert_eq!(timers.len(), 3);
 ///
 /// // A timer is stopped by its ticket, which is stale from then on.
@@ -35,7 +35,7 @@ use crate::ticket::{next_collection, Ticket};
 ///
 /// assert_eq!(timers.pop_due(15).unwrap().value, "flush");
 /// assert!(timers.pop_due(15).is_none());
-/// # Ok::<(), cordyceps_proved::NoMemory>(())
+/// # Ok::<(), Box<dyn std::error::Error>>(())
 /// ```
 ///
 /// [`pop_due`]: Timers::pop_due
@@ -93,15 +93,15 @@ impl<T> Timers<T> {
     /// # Complexity
     ///
     /// O(1) amortized, with two allocations.
-    pub fn start(&mut self, deadline: u64, value: T) -> Result<Ticket, T> {
-        let payload = into_payload(value)?;
+    pub fn start(&mut self, deadline: u64, value: T) -> Result<Ticket, NotTaken<T>> {
+        let payload = into_payload(value).map_err(NotTaken)?;
         let mut ticket = ffi::cordyceps_ticket::default();
         // SAFETY: the header's conditions hold, as `Handle` says.
         if unsafe { ffi::cordyceps_timers_start(self.handle.raw(), deadline, payload, &mut ticket) } {
             Ok(Ticket(ticket))
         } else {
             // SAFETY: the payload was made above, and the library has not taken it.
-            Err(unsafe { from_payload(payload) })
+            Err(NotTaken(unsafe { from_payload(payload) }))
         }
     }
 

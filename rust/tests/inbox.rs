@@ -8,8 +8,8 @@ use std::sync::{Arc, Barrier};
 use std::thread;
 
 use common::{Drops, Panics, Random};
-use cordyceps_proved::inbox::{ReceiveError, SendError, MAX_ROOMS};
-use cordyceps_proved::Inbox;
+use cordyceps_c::inbox::{ReceiveError, SendError, MAX_ROOMS};
+use cordyceps_c::Inbox;
 
 const SENDERS: usize = 4;
 const ROOMS: usize = 64;
@@ -112,10 +112,10 @@ fn a_handle_of_another_inbox_comes_back() {
     let mut ours = Inbox::new(1).unwrap();
     let mut other = Inbox::new(1).unwrap();
     other.send("kept").unwrap();
-    let mut other = ours.absorb(other).unwrap_err();
+    let mut other = ours.absorb(other).unwrap_err().into_inner();
     assert_eq!(other.receive(), Ok("kept"));
     let split = other.split().unwrap();
-    let split = ours.absorb(split).unwrap_err();
+    let split = ours.absorb(split).unwrap_err().into_inner();
     other.absorb(split).unwrap();
     assert_eq!(other.receive(), Err(ReceiveError::Empty));
 }

@@ -5,7 +5,7 @@ mod common;
 use std::panic::{catch_unwind, AssertUnwindSafe};
 
 use common::{Drops, Panics, Random};
-use cordyceps_proved::{List, Ticket};
+use cordyceps_c::{List, NotTaken, Ticket};
 
 /// Moves the row at a place of a model to another place, as they are before.
 fn moved<T>(rows: &mut Vec<T>, from: usize, to: usize) {
@@ -72,7 +72,7 @@ fn random_calls_agree_with_a_vec() {
             if !stale.is_empty() {
                 let ticket = stale[random.below(stale.len() as u64) as usize];
                 assert!(list.get(ticket).is_none() && list.remove(ticket).is_none() && list.next(ticket).is_none());
-                assert!(!list.move_to_front(ticket) && list.insert_after(ticket, 7) == Err(7));
+                assert!(!list.move_to_front(ticket) && list.insert_after(ticket, 7) == Err(NotTaken(7)));
             }
         }
         assert!(list.iter().map(|(ticket, value)| (ticket, *value)).eq(rows.iter().copied()));
@@ -89,7 +89,7 @@ fn tickets_of_another_list_are_refused() {
     let our = ours.push_back(String::from("ours")).unwrap();
     let other = others.push_back(String::from("other")).unwrap();
     assert!(our != other && ours.get(other).is_none() && others.get(our).is_none());
-    assert_eq!(ours.insert_before(other, String::from("new")), Err(String::from("new")));
+    assert_eq!(ours.insert_before(other, String::from("new")), Err(NotTaken(String::from("new"))));
     assert!(!ours.move_after(our, other) && ours.remove(other).is_none());
     assert_eq!((ours.remove(our), others.get(other)), (Some(String::from("ours")), Some(&String::from("other"))));
 }

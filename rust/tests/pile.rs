@@ -7,8 +7,8 @@ use std::sync::{Arc, Barrier};
 use std::thread;
 
 use common::{Drops, Panics, Random};
-use cordyceps_proved::pile::{PushError, MAX_ROOMS};
-use cordyceps_proved::Pile;
+use cordyceps_c::pile::{PushError, MAX_ROOMS};
+use cordyceps_c::{NotTaken, Pile};
 
 const PUSHERS: usize = 4;
 const ROOMS: usize = 64;
@@ -80,7 +80,7 @@ fn random_calls_agree_with_stacks() {
                 2 if handles.len() > 1 => {
                     let (other, taken) = handles.swap_remove(one);
                     let into = random.below(handles.len() as u64) as usize;
-                    let back = handles[into].0.absorb(other).err();
+                    let back = handles[into].0.absorb(other).err().map(NotTaken::into_inner);
                     assert_eq!(back.is_some(), !taken.is_empty());
                     handles.extend(back.map(|it| (it, taken)));
                 }
@@ -127,14 +127,14 @@ fn a_handle_that_cannot_be_absorbed_comes_back() {
     let mut ours = Pile::new(4).unwrap();
     let mut other = Pile::new(4).unwrap();
     other.push("kept").unwrap();
-    let mut other = ours.absorb(other).unwrap_err();
+    let mut other = ours.absorb(other).unwrap_err().into_inner();
     assert_eq!(other.pop(), Some("kept"));
 
     let mut split = ours.split().unwrap();
     split.push("last").unwrap();
     split.push("first").unwrap();
     assert_eq!(split.pop(), Some("first"));
-    let mut split = ours.absorb(split).unwrap_err();
+    let mut split = ours.absorb(split).unwrap_err().into_inner();
     assert_eq!(split.pop(), Some("last"));
     ours.absorb(split).unwrap();
 }

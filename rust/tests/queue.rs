@@ -6,8 +6,8 @@ use std::collections::BTreeMap;
 use std::panic::{catch_unwind, AssertUnwindSafe};
 
 use common::{Drops, Panics, Random};
-use cordyceps_proved::queue::Item;
-use cordyceps_proved::{Queue, Ticket, Timers};
+use cordyceps_c::queue::Item;
+use cordyceps_c::{Queue, Ticket, Timers};
 
 /// What the queue has to do, by an ordered map of std.
 #[derive(Default)]

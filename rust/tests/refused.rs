@@ -8,9 +8,9 @@ use std::os::raw::c_void;
 use std::ptr;
 
 use common::{Counted, Drops};
-use cordyceps_proved::inbox::SendError;
-use cordyceps_proved::pile::PushError;
-use cordyceps_proved::{Inbox, List, NoMemory, Pile, Queue, Timers};
+use cordyceps_c::inbox::SendError;
+use cordyceps_c::pile::PushError;
+use cordyceps_c::{Inbox, List, NoMemory, NotTaken, Pile, Queue, Timers};
 
 thread_local! {
     /// How many requests of this thread are granted before one is refused.
@@ -87,7 +87,7 @@ fn values_come_back_from_timers() {
     assert_eq!(refused(0, Timers::<u8>::new).0.unwrap_err(), NoMemory);
     let mut timers = Timers::new().unwrap();
     for number in 0..100 {
-        let refusals = insert(&drops, number, |it| timers.start(number as u64, it));
+        let refusals = insert(&drops, number, |it| timers.start(number as u64, it).map_err(NotTaken::into_inner));
         assert!(refusals >= 2 && timers.len() == number + 1);
     }
     for number in 0..100 {
@@ -126,7 +126,7 @@ fn values_come_back_from_a_queue() {
     assert_eq!(refused(0, Queue::<u8>::new).0.unwrap_err(), NoMemory);
     let mut queue = Queue::new().unwrap();
     for number in 0..100 {
-        let refusals = insert(&drops, number, |it| queue.push(number as u64, it));
+        let refusals = insert(&drops, number, |it| queue.push(number as u64, it).map_err(NotTaken::into_inner));
         assert!(refusals >= 2 && queue.len() == number + 1);
     }
     for number in 0..100 {
@@ -142,8 +142,8 @@ fn values_come_back_from_a_list() {
     let mut list = List::new().unwrap();
     for number in 0..100 {
         let refusals = match list.back().filter(|_| number % 2 == 1) {
-            None => insert(&drops, number, |it| list.push_back(it)),
-            Some(last) => insert(&drops, number, |it| list.insert_after(last, it)),
+            None => insert(&drops, number, |it| list.push_back(it).map_err(NotTaken::into_inner)),
+            Some(last) => insert(&drops, number, |it| list.insert_after(last, it).map_err(NotTaken::into_inner)),
         };
         assert!(refusals >= 2 && list.len() == number + 1);
     }

@@ -8,8 +8,8 @@ use std::panic::{catch_unwind, AssertUnwindSafe};
 use std::thread;
 
 use common::{Drops, Panics, Random};
-use cordyceps_proved::timers::Fired;
-use cordyceps_proved::{Ticket, Timers};
+use cordyceps_c::timers::Fired;
+use cordyceps_c::{Ticket, Timers};
 
 /// What the timers have to do, by a heap of std. A row of the heap is stale if its timer has another order by now.
 #[derive(Default)]

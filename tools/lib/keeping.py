@@ -4,17 +4,14 @@ import hashlib
 import os
 from collections import Counter
 
-from . import common, rattle_source
+from . import common, judged, rattle_source
 from .common import text_of
 from .edits import GOAL, read_edit
-from .rattle_source import functions_of
 
 # How many wrong bodies are worth a check of their own, where processors are idle.
 LEAST = 20
 # Where it is kept which wrong bodies were refused, as files whose names are the sums of all that they were judged by.
 KEPT = os.path.join(os.environ.get("XDG_CACHE_HOME") or os.path.expanduser("~/.cache"), "cordyceps-wrong-bodies")
-# The files of this folder that judge.
-JUDGING = "answers at_hand checking common edits judging keeping laying_out rattle_source".split()
 
 
 class Basis:
@@ -23,11 +20,8 @@ class Basis:
     def __init__(self, crate):
         self.crate = crate
         parts = {part: common.files_in(f"{crate.folder}/{part}") for part in common.rtlib().PARTS}
-        names = {of.name for it in parts["src"] for of in functions_of(it, text_of(it))}
-        own = [it for it in parts["proofs"] if os.path.basename(it) in common.OWN_PROOF]
-        # (what proves the law of a type belongs to no function)
-        self.proofs = [it for it in own if it.split("/")[-2] in names or "/+" in it]
-        files = [f"{os.path.dirname(os.path.realpath(__file__))}/{it}.py" for it in JUDGING] + read_below(crate)
+        self.proofs = judged.own_proofs(crate)
+        files = [f"{os.path.dirname(os.path.realpath(__file__))}/{it}.py" for it in judged.JUDGING] + read_below(crate)
         files += [it for it in [*parts["specs"], *parts["proofs"]] if it not in self.proofs]
         paths = [os.path.relpath(it, crate.folder) for it in parts["src"]]
         sources = [rattle_source.without_bodies(it, text_of(it)) for it in parts["src"]]
@@ -61,15 +55,18 @@ def read_below(crate):
 
 
 class Asked:
-    """The wrong bodies of a crate that are asked for: those to try, and what is known of the others."""
+    """The wrong bodies of a crate that are asked for: those to try, what is known of the others, and how many stand by
+    the crate's line."""
 
-    def __init__(self, crate, word, anew):
+    def __init__(self, crate, word, anew, is_drawn, sum=None):
         self.crate, self.edits, self.known, self.passed, self.failed, self.places = crate, [], [], [], [], {}
-        self.seconds = Counter()
+        self.seconds, self.stands, self.sum = Counter(), 0, sum
         basis = Basis(crate)
         for name in sorted(os.listdir(f"{crate.folder}/wrong_bodies")):
             edit, why = read_edit(crate, name)
-            if why:
+            if not is_drawn(name):
+                self.stands += bool(word.search(name))
+            elif why:
                 self.failed.append((name, why))
             elif word.search(name):
                 # (the goal that it names tells where to look first, and changes nothing)
@@ -81,6 +78,10 @@ class Asked:
                 else:
                     self.edits.append(edit)
                     self.places[edit.name] = place
+
+    def count(self):
+        """How many were judged, now or by an earlier run."""
+        return len(self.passed) + len(self.failed)
 
     def parts(self, count):
         """The edits to try, in at most so many parts, which are tried side by side. A function's stay together."""

@@ -25,6 +25,16 @@ if [ "$is_program" ]; then
 fi
 exec {tool} "$@"
 """
+# What `rattle build` compiles is one module, which is kept with the words for it, and then compiled.
+KEEPING_ALL = """#!/bin/sh
+for word in "$@"; do
+  case $word in
+    *.bc) {copy} "$word" {kept}/module.bc ;;
+  esac
+done
+printf '%s\\n' "$@" > {kept}/words
+exec {tool} "$@"
+"""
 # How a module is read: as the toolchain's own build does, without the machine's settings.
 READ = ["--target=x86_64-unknown-linux-gnu", "-march=x86-64", "--no-default-config", "-x", "ir"]
 
@@ -58,6 +68,15 @@ def without_hints(kit, copy):
 
 def keep_module(kit, copy, kept):
     """Has the compiler of a copy keep the module of a program as the file `kept`, and compile it no further."""
+    replace_compiler(kit, copy, KEEPING, kept)
+
+
+def keep_what_is_built(kit, copy, kept):
+    """Has the compiler of a copy keep each module that it compiles as `module.bc` in the folder `kept`, beside its
+    words."""
+    replace_compiler(kit, copy, KEEPING_ALL, kept)
+
+
+def replace_compiler(kit, copy, script, kept):
     words = {"copy": shutil.which("cp"), "kept": kept, "tool": f"{kit}/toolchain/bin/clang"}
-    script = KEEPING.format(**{name: shlex.quote(word) for name, word in words.items()})
-    replace(f"{copy}/toolchain/bin/clang", script)
+    replace(f"{copy}/toolchain/bin/clang", script.format(**{name: shlex.quote(word) for name, word in words.items()}))

@@ -26,7 +26,7 @@ WrongBody = namedtuple("WrongBody", "crate name functions promises")
 
 
 def crates():
-    return sorted(os.listdir(f"{sources.TOP}/crates"))
+    return sorted(it.name for it in os.scandir(f"{sources.TOP}/crates") if it.is_dir())
 
 
 def type_of(outer):

@@ -5,6 +5,7 @@ pub use Rattle.cordyceps_base.specs.Spots
 pub use Rattle.cordyceps_clock.specs.Clock
 pub use Rattle.cordyceps_heap.specs.Heap
 pub use Rattle.cordyceps_many.specs.Entries
+pub use Rattle.cordyceps_many.specs.InOrder
 pub use Rattle.cordyceps_many.specs.MultiList
 pub use Rattle.cordyceps_many.specs.Threads
 pub use Rattle.cordyceps_map.specs.MapLends
@@ -15,3 +16,7 @@ pub use Rattle.cordyceps_stable.specs.Changing
 pub use Rattle.cordyceps_stable.specs.Replacing
 pub use Rattle.cordyceps_stable.specs.StableLending
 pub use Rattle.cordyceps_stable.specs.Walk
+pub use Rattle.cordyceps_tree.specs.Bounds
+pub use Rattle.cordyceps_tree.specs.Heights
+pub use Rattle.cordyceps_tree.specs.TreeNodeLends
+pub use Rattle.cordyceps_tree.specs.Walks

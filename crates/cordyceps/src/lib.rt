@@ -8,7 +8,8 @@
 //! A [`StableList`] returns a [`Spot`] for each element: a stable pointer, by which the element is reached, removed and
 //! moved in O(1). A [`StableSortedList`] does so too, and an order keeps it sorted. A [`StableHeap`] is a priority
 //! queue for many elements. A [`ClockQueue`] is one for times: it has the earliest first, and takes none that has
-//! passed. The nodes of a [`MultiList`] are in several lists at once. Those of a [`StableMap`] are also found by a key.
+//! passed. A [`StableTree`] is a search tree whose longest call is O(log n). The nodes of a [`MultiList`] are in several
+//! lists at once. Those of a [`StableMap`] are also found by a key.
 //!
 //! A [`TransferStack`] is shared by threads, without a lock: each pushes to it through a party of its own, and takes
 //! all its elements at once. An [`MpscQueue`] is shared in the same way: many put elements in, and one at a time takes
@@ -41,6 +42,7 @@ pub mod stable_heap;
 pub mod stable_list;
 pub mod stable_map;
 pub mod stable_sorted_list;
+pub mod stable_tree;
 pub mod stack;
 
 pub use cordyceps_base::linked::Linked;
@@ -58,4 +60,6 @@ pub use cordyceps_stable::stable_list::{Spot, StableList};
 pub use cordyceps_stable::stable_sorted_list::StableSortedList;
 pub use cordyceps_stack::sorted_list::{SortedList, SortedListIter};
 pub use cordyceps_stack::stack::{Stack, TransferStack};
+pub use cordyceps_tree::node::TreeNode;
+pub use cordyceps_tree::stable_tree::StableTree;
 pub use replay::Item;

@@ -1,9 +1,9 @@
 -- That what a sender sent is among what came in, in its order.
 use Rattle.std.proofs.Common.{◌≡◌, Bool, true, false, ◌≤◌, List, [], ◌∷◌, ◌++◌, length, cond, refl, ap, ◌∙◌, subst, sym, append_assoc, inl, inr, ⊎_elim, arith}
 use Rattle.std.specs.Prelude.{Result, Ok, Err, IfOk}
-use Rattle.std.proofs.lemmas.List.{append-nil, length-append}
+use Rattle.std.proofs.lemmas.List.{length-append}
 use Rattle.std.proofs.lemmas.List.Concat.{flat_map-append}
-use Rattle.cordyceps_shared.specs.Histories.{plain, own}
+use Rattle.cordyceps_shared.specs.Histories.{plain, own, others}
 use Rattle.cordyceps_shared.specs.Interleaving.{Interleaves}
 use Rattle.cordyceps_shared.specs.Knowing.{IsPrefixOf}
 use Rattle.cordyceps_shared.specs.Shares.{Name}
@@ -33,13 +33,17 @@ module _ {E : Type 0} where
       (λ t. let (rest, is, then) = t in inl (rest, is, then_others rest ys zs more then))
       (λ t. let (rest, is, then) = t in inr (rest ++ more, ap (λ l. l ++ more) is, then_others xs rest zs more then)) h
 
-  own_among : (xs : List (Bool × Event Name E)) → AreAmong (came (own xs)) (came (plain xs))
-  own_among [] = ([], (refl, refl))
-  own_among (x ∷ xs) = marked x.0 (own_among xs)
+  -- what came by events with a mark, and by the others
+  pub own_split : (xs : List (Bool × Event Name E)) → Interleaves (came (own xs)) (came (others xs)) (came (plain xs))
+  own_split [] = (refl, refl)
+  own_split (x ∷ xs) = marked x.0 (own_split xs)
     where
-      marked : (b : Bool) → AreAmong (came (own xs)) (came (plain xs)) → AreAmong (came (cond b (x.1 ∷ own xs) (own xs))) (comes x.1 ++ came (plain xs))
-      marked true h = (h.0, mine_first (comes x.1) (came (own xs)) h.0 (came (plain xs)) h.1)
-      marked false h = (comes x.1 ++ h.0, others_first (comes x.1) (came (own xs)) h.0 (came (plain xs)) h.1)
+      marked : (b : Bool) → Interleaves (came (own xs)) (came (others xs)) (came (plain xs)) → Interleaves (came (cond b (x.1 ∷ own xs) (own xs))) (came (cond b (others xs) (x.1 ∷ others xs))) (comes x.1 ++ came (plain xs))
+      marked true h = mine_first (comes x.1) (came (own xs)) (came (others xs)) (came (plain xs)) h
+      marked false h = others_first (comes x.1) (came (own xs)) (came (others xs)) (came (plain xs)) h
+
+  own_among : (xs : List (Bool × Event Name E)) → AreAmong (came (own xs)) (came (plain xs))
+  own_among xs = (came (others xs), own_split xs)
 
   -- who has seen all that a sender had seen finds what it sent among all that came in
   pub sent_among : (u : PartyOf E) (h : List (Event Name E)) → IsPrefixOf (plain u.seen) h → AreAmong (sent u) (came h)

@@ -1,27 +1,27 @@
 -- What a party sent and received in each call.
-use Rattle.std.proofs.Common.{◌≡◌, ℕ, List, [], ◌∷◌, ◌++◌, Bool, true, false, cond, ◌||◌, ◌≤◌, length, map, refl, sym, ap, ◌∙◌, subst, append_assoc, ⊎_elim, arith}
+use Rattle.std.proofs.Common.{◌≡◌, ℕ, List, [], ◌∷◌, ◌++◌, Bool, true, false, cond, ◌||◌, refl, sym, ap, ◌∙◌, append_assoc}
 use Rattle.std.proofs.lemmas.List.{map-id, append-nil}
 use Rattle.std.proofs.lemmas.List.Concat.{flat_map-append}
 use Rattle.cordyceps_shared.specs.Histories.{plain, own}
 use Rattle.cordyceps_shared.specs.Knowing.{merge_marks}
 use Rattle.cordyceps_shared.specs.Shares.{Name}
 use Rattle.cordyceps_shared.specs.Standings.{Absorbs, GivesBack}
+use Rattle.cordyceps_shared.proofs.Acting.{acts_of}
 use Rattle.cordyceps_shared.proofs.Adding.{plain_append}
 use Rattle.cordyceps_shared.proofs.HistoryMarks.{own_append}
 use Rattle.cordyceps_shared.proofs.Moving.{moves_none, moves_then, moves_given, moves_by}
 use Rattle.cordyceps_queue.specs.History.{Event, actor, comes, goes, came, went}
 use Rattle.cordyceps_queue.specs.Shared.Calls.{PartyOf, Legal, GivesAllBack}
-use Rattle.cordyceps_queue.specs.Shared.Batches.{StopsAt, TakesLinked}
 use Rattle.cordyceps_queue.specs.Shared.Moves.{put_by, got_by, Moves}
 use Rattle.cordyceps_queue.specs.Shared.Receipts.{Learns}
-use Rattle.cordyceps_queue.proofs.SharedTheory.PartyMoves.{all_put, all_got, moves_linked}
-use Rattle.cordyceps_channel.specs.Channels.{sent, received, Receives, ReceivesBatch, Stays}
+use Rattle.cordyceps_queue.proofs.SharedTheory.PartyMoves.{all_put, all_got}
+use Rattle.cordyceps_channel.specs.Channels.{sent, received, DoesNothing, Receives, Stays}
 
 module _ {E : Type 0} where
-  went_append : (g h : List (Event Name E)) → went (g ++ h) ≡ went g ++ went h
+  pub went_append : (g h : List (Event Name E)) → went (g ++ h) ≡ went g ++ went h
   went_append g h = flat_map-append goes g h
 
-  went_own : (xs ys : List (Bool × Event Name E)) → went (own (xs ++ ys)) ≡ went (own xs) ++ went (own ys)
+  pub went_own : (xs ys : List (Bool × Event Name E)) → went (own (xs ++ ys)) ≡ went (own xs) ++ went (own ys)
   went_own xs ys = ap went (own_append xs ys) ∙ went_append (own xs) (own ys)
 
   -- what a party took out in a call is what it received
@@ -94,9 +94,12 @@ module _ {E : Type 0} where
       }
 
   -- ---- calls that neither send nor receive
-  pub gives_all : (all : Bool) (u w : PartyOf E) → GivesAllBack all u w → Moves (λ (x : E). x) [] [] u w
-  gives_all true u w g = moves_by (put_by (λ (x : E). x)) (got_by (λ (x : E). x)) (λ h. Legal h) actor u w [] g.0
-  gives_all false u w g = moves_by (put_by (λ (x : E). x)) (got_by (λ (x : E). x)) (λ h. Legal h) actor u w [] g.0
+  pub gives_all : (all : Bool) (u w : PartyOf E) → GivesAllBack all u w → DoesNothing u w
+  gives_all true u w g = acts_of actor (λ h. Legal h) u w [] g.0
+  gives_all false u w g = acts_of actor (λ h. Legal h) u w [] g.0
+
+  pub moves_nothing : (u w : PartyOf E) → DoesNothing u w → Moves (λ (x : E). x) [] [] u w
+  moves_nothing u w a = record { events = []; acts = a; put_in = refl; took_out = refl }
 
   pub gives : (n : ℕ) (gave : Bool) (u w : PartyOf E) → GivesBack n gave u w → Moves (λ (x : E). x) [] [] u w
   gives n gave u w g = moves_given (put_by (λ (x : E). x)) (got_by (λ (x : E). x)) n gave u w g
@@ -120,19 +123,3 @@ module _ {E : Type 0} where
 
   pub learns_moves : (told : List (Event Name E)) (u w : PartyOf E) → Learns told u w → Moves (λ (x : E). x) [] [] u w
   learns_moves told u w l = moves_by (put_by (λ (x : E). x)) (got_by (λ (x : E). x)) (λ h. Legal h) actor u w [] l.adds
-
-  -- ---- several at a time
-  few_taken : (max : ℕ) (es : List E) (u w : PartyOf E) → StopsAt max es u w → length es ≤ max
-  few_taken max es u w s = ⊎_elim (λ a. omega (arith, a.0)) (λ r. ⊎_elim (λ b. omega (arith, b.0)) (λ d. omega (arith, d.0)) r) s
-
-  pub takes_receives : {A : Type 0} (f : E → A) (max : ℕ) (batch : List A) (es : List E) (u w : PartyOf E) → batch ≡ map f es → TakesLinked max es u w → ReceivesBatch f max batch u w
-  takes_receives f max batch es u w is t = record {
-    elements = es;
-    items = is;
-    some = t.some;
-    few = few_taken max es u w t.stops;
-    receives = subst (λ l. Receives l u w) (map-id es) (moves_receives u w (map (λ x. x) es) (moves_linked (λ x. x) max es u w t));
-  }
-
-  pub batch_then : {A : Type 0} (f : E → A) (max : ℕ) (batch : List A) (u v w : PartyOf E) → Receives [] u v → ReceivesBatch f max batch v w → ReceivesBatch f max batch u w
-  batch_then f max batch u v w before b = record { elements = b.elements; items = b.items; some = b.some; few = b.few; receives = receives_then u v w [] b.elements before b.receives }

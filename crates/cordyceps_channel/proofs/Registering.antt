@@ -1,19 +1,21 @@
 -- That the register's party has its share again when each party that was split off has come back.
-use Rattle.std.proofs.Common.{◌≡◌, ℕ, zero, suc, ◌+◌, ◌<◌, Bool, true, false, List, [], ◌∷◌, ◌++◌, length, get_or, refl, sym, ap, ◌∙◌, subst, arith}
+use Rattle.std.proofs.Common.{◌≡◌, ◌≢◌, ℕ, zero, suc, ◌+◌, ◌<◌, Bool, true, false, List, [], ◌∷◌, ◌++◌, length, get_or, refl, sym, ap, ◌∙◌, subst, arith}
 use Rattle.std.specs.declared.snapshot.Snapshot.{Snapshot}
 use Rattle.std.proofs.lemmas.List.{append-nil, length-append}
 use Rattle.atomic_table.specs.Seated.{TableId}
-use Rattle.cordyceps_shared.specs.Shares.{Name, keeps_half, gives_half, join_shares}
+use Rattle.cordyceps_shared.specs.Shares.{Name, first_name, keeps_half, gives_half, join_shares}
 use Rattle.cordyceps_shared.specs.Histories.{own}
-use Rattle.cordyceps_shared.specs.Knowing.{without_marks}
-use Rattle.cordyceps_shared.specs.Standings.{Absorbs, GivesBack, new_party, keeping, giving}
+use Rattle.cordyceps_shared.specs.Acting.{Acts}
+use Rattle.cordyceps_shared.specs.Knowing.{Under, without_marks}
+use Rattle.cordyceps_shared.specs.Standings.{Absorbs, GivesBack, name_of, new_party, keeping, giving}
+use Rattle.cordyceps_shared.proofs.HistoryMarks.{own_append}
 use Rattle.cordyceps_shared.proofs.NameHalves.{halves_join}
-use Rattle.cordyceps_queue.specs.History.{went}
+use Rattle.cordyceps_shared.proofs.StepEvents.{under_append}
+use Rattle.cordyceps_queue.specs.History.{Event, actor, went}
 use Rattle.cordyceps_queue.specs.Shared.Calls.{PartyOf, Legal, capacity}
-use Rattle.cordyceps_queue.specs.Shared.Moves.{Moves}
 use Rattle.cordyceps_channel.specs.Places.{PlaceOf}
 use Rattle.cordyceps_channel.specs.Channels.{left_after, received, ComesBack, IsHome, AreHomes, IsRegister, IsOpened, AreParties}
-use Rattle.cordyceps_channel.proofs.Received.{moves_receives, absorbs_receives}
+use Rattle.cordyceps_channel.proofs.Received.{went_append, absorbs_receives}
 
 -- the share that is left is one name
 one_name : (n : ℕ) → (m : Name) × (left_after n ≡ m ∷ [])
@@ -24,6 +26,17 @@ pub joined : (n : ℕ) → join_shares (left_after (suc n)) (gives_half (left_af
 joined n =
     let t = one_name n in
     subst (λ (s : List Name). join_shares (keeps_half s) (gives_half s) ≡ s) (sym t.1) (halves_join t.0)
+
+-- the names of senders differ in length
+left_name : (n : ℕ) → (m : Name) × (left_after n ≡ m ∷ []) × (length m ≡ suc n)
+left_name zero = (_, refl, refl)
+left_name (suc n) = let (m, is, long) = left_name n in (m ++ false ∷ [], ap keeps_half is, omega (arith, long, length-append m (false ∷ [])))
+
+name_length : (n : ℕ) → length (first_name (gives_half (left_after n))) ≡ suc (suc n)
+name_length n = let (m, is, long) = left_name n in ap (λ (s : List Name). length (first_name (gives_half s))) is ∙ (length-append m (true ∷ []) ∙ omega (arith, long))
+
+pub names_differ : (i j : ℕ) → i ≢ j → first_name (gives_half (left_after i)) ≢ first_name (gives_half (left_after j))
+names_differ i j ne e = ne (omega (arith, ap length e, name_length i, name_length j))
 
 module _ {E : Type 0} (table : TableId) where
   pub home_at : (homes : List (PlaceOf (Snapshot (PartyOf E)))) (n i : ℕ) (d : PlaceOf (Snapshot (PartyOf E))) → i < length homes → AreHomes table n homes → IsHome table (n + i) (get_or homes i d)
@@ -48,14 +61,25 @@ none_own (x ∷ xs) = none_own xs
 
 module _ {E : Type 0} (z : TableId) where
   -- a sender that received nothing in a call still has the party that its place waits for
-  pub still_opened : {sent : List E} (u w : PartyOf E) (home : PlaceOf (Snapshot (PartyOf E))) → IsOpened z u home → Moves (λ x. x) sent [] u w → IsOpened z w home
-  still_opened u w home o m =
+  pub still_opened : (n : ℕ) (u w : PartyOf E) (es : List (Event Name E)) (home : PlaceOf (Snapshot (PartyOf E))) → IsOpened z n u home → Acts u es w → Under actor (name_of u) es → went es ≡ []
+      → IsOpened z n w home
+  still_opened n u w es home o a under none =
       let b = o.back in
+      let own_is : own w.seen ≡ own u.seen ++ es = ap own a.is ∙ (own_append u.seen a.rest ∙ ap (λ l. own u.seen ++ l) a.adds) in
       record {
         table = o.table;
+        share = o.share;
         took = o.took;
-        back = record { table = m.acts.table ∙ b.table; share = m.acts.share ∙ b.share; none = (moves_receives u w [] m).elements ∙ (append-nil (received u) ∙ b.none) };
+        back = record {
+          table = a.table ∙ b.table;
+          share = a.share ∙ b.share;
+          none = ap went own_is ∙ (went_append (own u.seen) es ∙ (λ i. b.none i ++ none i));
+          named = subst (λ l. Under actor (name_of w) l) (sym own_is) (subst (λ (s : List Name). Under actor (first_name s) (own u.seen ++ es)) (sym a.share) (under_append actor (name_of u) (own u.seen) es b.named under));
+        };
       }
+
+  pub opened_name : (n : ℕ) (p : PartyOf E) (home : PlaceOf (Snapshot (PartyOf E))) → IsOpened z n p home → name_of p ≡ first_name (gives_half (left_after n))
+  opened_name n p home o = ap (λ (s : List Name). first_name s) (o.back.share ∙ ap gives_half o.share)
 
   -- one more was split off the register's party
   pub still_register : (n : ℕ) (u : PartyOf E) (homes : List (PlaceOf (Snapshot (PartyOf E)))) (home : PlaceOf (Snapshot (PartyOf E))) → IsRegister z u homes → home.key.value ≡ u → home.took ≡ false
@@ -70,11 +94,17 @@ module _ {E : Type 0} (z : TableId) where
       last : IsRegister z u homes → IsHome z (length homes) home
       last q = record { table = ap (λ v. v.table) is ∙ q.table; share = ap (λ v. v.share) is ∙ q.share; free = free }
 
-  pub split_opened : (u : PartyOf E) (home : PlaceOf (Snapshot (PartyOf E))) → u.table ≡ z → home.key.value ≡ u → home.took ≡ true → IsOpened z (giving 0 u) home
-  split_opened u home of is took = record {
+  pub split_opened : (n : ℕ) (u : PartyOf E) (home : PlaceOf (Snapshot (PartyOf E))) → u.table ≡ z → u.share ≡ left_after n → home.key.value ≡ u → home.took ≡ true → IsOpened z n (giving 0 u) home
+  split_opened n u home of left is took = record {
     table = ap (λ v. v.table) is ∙ of;
+    share = ap (λ v. v.share) is ∙ left;
     took = took;
-    back = record { table = ap (λ v. v.table) (sym is); share = ap (λ v. gives_half v.share) (sym is); none = ap went (none_own u.seen) };
+    back = record {
+      table = ap (λ v. v.table) (sym is);
+      share = ap (λ v. gives_half v.share) (sym is);
+      none = ap went (none_own u.seen);
+      named = subst (λ l. Under actor (name_of (giving 0 u)) l) (sym (none_own u.seen)) tt;
+    };
   }
 
   -- one that came back was absorbed, which was split off last

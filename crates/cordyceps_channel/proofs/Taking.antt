@@ -1,6 +1,6 @@
 -- What is known of a receiver's party by where it is: in a consumer, or at rest.
 use Rattle.std.proofs.Common.{◌≡◌, refl, sym, ap, ◌∙◌, subst, inr, ⊎_elim}
-use Rattle.std.specs.Prelude.{Option, Some, None, MatchOption}
+use Rattle.std.specs.Prelude.{Option, Some, None, MatchOption, Result, Ok, Err, MatchResult}
 use Rattle.atomic_table.specs.Seated.{TableId}
 use Rattle.cordyceps_queue.specs.Shared.Calls.{PartyOf}
 use Rattle.cordyceps_queue.specs.Shared.OwnedConsumer.{OwnedOf}
@@ -12,6 +12,13 @@ some_case {X} A B r x is b = subst (λ (o : Option X). MatchOption o A B) (sym i
 
 pub none_case : {X : Type 0} (A : Type 0) (B : X → Type 0) (r : Option X) → r ≡ None → A → MatchOption r A B
 none_case {X} A B r is a = subst (λ (o : Option X). MatchOption o A B) (sym is) a
+
+-- the same of a result
+pub ok_case : {X Y : Type 0} (A : X → Type 0) (B : Y → Type 0) (r : Result X Y) (x : X) → r ≡ Ok x → A x → MatchResult r A B
+ok_case {X} {Y} A B r x is a = subst (λ (o : Result X Y). MatchResult o A B) (sym is) a
+
+pub err_case : {X Y : Type 0} (A : X → Type 0) (B : Y → Type 0) (r : Result X Y) (y : Y) → r ≡ Err y → B y → MatchResult r A B
+err_case {X} {Y} A B r y is b = subst (λ (o : Result X Y). MatchResult o A B) (sym is) b
 
 -- the value of an option that has one
 abbrev inside : {X : Type 0} → X → Option X → X

@@ -12,7 +12,7 @@ use Rattle.cordyceps_channel.specs.Channels.{Receives, IsOver, AreAmong, sent, r
 use Rattle.cordyceps_channel.specs.Selects.{At, EachReceives, only, came_from, Selects, LearnsAt, ReceivesNothing, AreOver}
 use Rattle.cordyceps_channel.proofs.Among.{sent_among}
 use Rattle.cordyceps_channel.proofs.Received.{receives_none, receives_then}
-use Rattle.cordyceps_channel.proofs.Selecting.{none_received}
+use Rattle.cordyceps_channel.proofs.Selecting.{none_received, each_then}
 
 module _ {E : Type 0} where
   pub at_below : (n : ℕ) (P : PartyOf E → Type 0) (us : List (PartyOf E)) → At n P us → n < length us
@@ -28,29 +28,18 @@ module _ {E : Type 0} where
   -- ---- a receipt
   pub learned_at : (i : ℕ) (h : List (Event Name E)) (us : List (PartyOf E)) (v w : PartyOf E) → i < length us → get_or us i v ≡ v → Receives [] v w → IsPrefixOf h (plain w.seen) → LearnsAt i h us (set us i w)
   learned_at i h [] v w there is r told = absurd (omega (arith, there))
-  learned_at zero h (u ∷ us) v w there is r told = (subst (λ (z : PartyOf E). Receives [] z w) (sym is) r, told, refl)
+  learned_at zero h (u ∷ us) v w there is r told = (record { received = subst (λ (z : PartyOf E). Receives [] z w) (sym is) r; told = told }, refl)
   learned_at (suc i) h (u ∷ us) v w there is r told = (refl, learned_at i h us v w (omega (arith, there)) is r told)
 
   learned_none : (i : ℕ) (h : List (Event Name E)) (us ws : List (PartyOf E)) → LearnsAt i h us ws → ReceivesNothing us ws
   learned_none i h [] ws l = absurd l
   learned_none i h (u ∷ us) [] l = absurd l
-  learned_none zero h (u ∷ us) (w ∷ ws) l = (l.0, subst (λ (zs : List (PartyOf E)). ReceivesNothing us zs) (sym l.2) (none_received us))
+  learned_none zero h (u ∷ us) (w ∷ ws) l = (l.0.received, subst (λ (zs : List (PartyOf E)). ReceivesNothing us zs) (sym l.1) (none_received us))
   learned_none (suc i) h (u ∷ us) (w ∷ ws) l = (subst (λ (z : PartyOf E). Receives [] u z) (sym l.0) (receives_none u), learned_none i h us ws l.1)
 
   -- ---- what each receiver received in two calls
-  each_then : (f g k : ℕ → List E) (us vs ws : List (PartyOf E)) → ((n : ℕ) → f n ++ g n ≡ k n) → EachReceives f us vs → EachReceives g vs ws → EachReceives k us ws
-  each_then f g k [] [] ws e a b = subst_none ws b
-    where
-      subst_none : (zs : List (PartyOf E)) → EachReceives g [] zs → EachReceives k [] zs
-      subst_none [] h = tt
-      subst_none (z ∷ zs) h = absurd h
-  each_then f g k [] (v ∷ vs) ws e a b = absurd a
-  each_then f g k (u ∷ us) [] ws e a b = absurd a
-  each_then f g k (u ∷ us) (v ∷ vs) [] e a b = absurd b
-  each_then f g k (u ∷ us) (v ∷ vs) (w ∷ ws) e a b = (
-    subst (λ es. Receives es u w) (e 0) (receives_then u v w (f 0) (g 0) a.0 b.0),
-    each_then (λ n. f (suc n)) (λ n. g (suc n)) (λ n. k (suc n)) us vs ws (λ n. e (suc n)) a.1 b.1,
-  )
+  receives_each : (f g k : ℕ → List E) (us vs ws : List (PartyOf E)) → ((n : ℕ) → f n ++ g n ≡ k n) → EachReceives f us vs → EachReceives g vs ws → EachReceives k us ws
+  receives_each f g k us vs ws e a b = each_then (λ n. Receives (f n)) (λ n. Receives (g n)) (λ n. Receives (k n)) us vs ws (λ n u v w r q. subst (λ es. Receives es u w) (e n) (receives_then u v w (f n) (g n) r q)) a b
 
   -- ---- all elements
   one_more : (n : ℕ) (xs : List (Selected E)) (x : Selected E) → came_from n xs ++ only x.index x.value n ≡ came_from n (xs ++ x ∷ [])
@@ -61,15 +50,15 @@ module _ {E : Type 0} where
   selected_none us = none_received us
 
   pub selected_more : (xs : List (Selected E)) (x : Selected E) (us vs ws : List (PartyOf E)) → Selects xs us vs → EachReceives (only x.index x.value) vs ws → Selects (xs ++ x ∷ []) us ws
-  selected_more xs x us vs ws a b = each_then (λ n. came_from n xs) (only x.index x.value) (λ n. came_from n (xs ++ x ∷ [])) us vs ws (λ n. one_more n xs x) a b
+  selected_more xs x us vs ws a b = receives_each (λ n. came_from n xs) (only x.index x.value) (λ n. came_from n (xs ++ x ∷ [])) us vs ws (λ n. one_more n xs x) a b
 
   pub selected_last : (xs : List (Selected E)) (us vs ws : List (PartyOf E)) → Selects xs us vs → ReceivesNothing vs ws → Selects xs us ws
-  selected_last xs us vs ws a b = each_then (λ n. came_from n xs) (λ n. []) (λ n. came_from n xs) us vs ws (λ n. append-nil (came_from n xs)) a b
+  selected_last xs us vs ws a b = receives_each (λ n. came_from n xs) (λ n. []) (λ n. came_from n xs) us vs ws (λ n. append-nil (came_from n xs)) a b
 
   pub all_selected : {X A : Type 0} (items : X → List (Selected E)) (r : Result X A) (i : ℕ) (h : List (Event Name E)) (us vs ws : List (PartyOf E)) → LearnsAt i h us vs
       → IfOk r (λ x. Selects (items x) vs ws × AreOver ws) → IfOk r (λ x. Selects (items x) us ws × AreOver ws)
   all_selected items (Ok x) i h us vs ws l s = (
-    each_then (λ n. []) (λ n. came_from n (items x)) (λ n. came_from n (items x)) us vs ws (λ n. refl) (learned_none i h us vs l) s.0,
+    receives_each (λ n. []) (λ n. came_from n (items x)) (λ n. came_from n (items x)) us vs ws (λ n. refl) (learned_none i h us vs l) s.0,
     s.1,
   )
   all_selected items (Err e) i h us vs ws l s = s
@@ -80,7 +69,7 @@ module _ {E : Type 0} where
   pick f h Q i [] vs ws a b o q = absurd a
   pick f h Q i (u ∷ us) [] ws a b o q = absurd a
   pick f h Q i (u ∷ us) (v ∷ vs) [] a b o q = absurd b
-  pick f h Q zero (u ∷ us) (v ∷ vs) (w ∷ ws) a b o q = q v w (f 0) a.1 b.0 o.0
+  pick f h Q zero (u ∷ us) (v ∷ vs) (w ∷ ws) a b o q = q v w (f 0) a.0.told b.0 o.0
   pick f h Q (suc i) (u ∷ us) (v ∷ vs) (w ∷ ws) a b o q = pick (λ n. f (suc n)) h Q i us vs ws a.1 b.1 o.1 q
 
   pub order_selected : {X A : Type 0} (items : X → List (Selected E)) (r : Result X A) (i : ℕ) (s : PartyOf E) (us vs ws : List (PartyOf E)) → LearnsAt i (plain s.seen) us vs

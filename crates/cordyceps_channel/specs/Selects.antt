@@ -1,8 +1,8 @@
 -- What a select promises, which receives from several channels.
-use Rattle.std.specs.Prelude.{◌≡◌, ◌<◌, ℕ, zero, suc, List, [], ◌∷◌, ◌++◌, length}
+use Rattle.std.specs.Prelude.{◌≡◌, ◌≢◌, ◌⊎◌, ◌<◌, ◌≤◌, ℕ, zero, suc, List, [], ◌∷◌, ◌++◌, length}
 use Rattle.cordyceps_shared.specs.Histories.{plain}
 use Rattle.cordyceps_shared.specs.Knowing.{IsPrefixOf}
-use Rattle.cordyceps_shared.specs.Shares.{Name}
+use Rattle.cordyceps_shared.specs.Shares.{Name, whole}
 use Rattle.cordyceps_queue.specs.History.{Event}
 use Rattle.cordyceps_queue.specs.Shared.Calls.{PartyOf}
 use Rattle.cordyceps_channel.specs.declared.errors.RecvTimeoutError.{RecvTimeoutError}
@@ -10,15 +10,19 @@ use Rattle.cordyceps_channel.specs.declared.errors.RecvTimeoutError.TheVariants 
 use Rattle.cordyceps_channel.specs.declared.errors.TryRecvError.{TryRecvError}
 use Rattle.cordyceps_channel.specs.declared.errors.TryRecvError.TheVariants as nothing
 use Rattle.cordyceps_channel.specs.declared.select.Selected.{Selected}
-use Rattle.cordyceps_channel.specs.Channels.{Receives, IsOver}
+use Rattle.cordyceps_channel.specs.Channels.{Receives, FindsNone, IsOver}
 
 module _ {E : Type 0} where
+  -- the lists are as long, and P n holds of the parties before and after of receiver n, for each n
+  abbrev pub Each : (ℕ → PartyOf E → PartyOf E → Type 0) → List (PartyOf E) → List (PartyOf E) → Type 0
+  Each P [] [] = Unit {0}
+  Each P [] (w ∷ ws) = ⊥
+  Each P (u ∷ us) [] = ⊥
+  Each P (u ∷ us) (w ∷ ws) = P 0 u w × Each (λ n. P (suc n)) us ws
+
   -- from us to ws receiver n received the elements f n, for each n
   abbrev pub EachReceives : (ℕ → List E) → List (PartyOf E) → List (PartyOf E) → Type 0
-  EachReceives f [] [] = Unit {0}
-  EachReceives f [] (w ∷ ws) = ⊥
-  EachReceives f (u ∷ us) [] = ⊥
-  EachReceives f (u ∷ us) (w ∷ ws) = Receives (f 0) u w × EachReceives (λ n. f (suc n)) us ws
+  EachReceives f us ws = Each (λ n. Receives (f n)) us ws
 
   -- e at i, and nothing elsewhere
   abbrev pub only : ℕ → E → ℕ → List E
@@ -47,12 +51,16 @@ module _ {E : Type 0} where
   abbrev pub Selects : List (Selected E) → List (PartyOf E) → List (PartyOf E) → Type 0
   Selects all us ws = EachReceives (λ n. came_from n all) us ws
 
-  -- from us to ws receiver i received nothing, and what it has seen begins with the history h; the others are as they
-  -- were
+  -- the receiver received nothing, and what it has seen begins with the history h
+  pub record Learned (h : List (Event Name E)) (u w : PartyOf E) : Type 0 where
+    pub received : Receives [] u w
+    pub told : IsPrefixOf h (plain w.seen)
+
+  -- from us to ws receiver i learned the history h; the others are as they were
   abbrev pub LearnsAt : ℕ → List (Event Name E) → List (PartyOf E) → List (PartyOf E) → Type 0
   LearnsAt i h [] ws = ⊥
   LearnsAt i h (u ∷ us) [] = ⊥
-  LearnsAt zero h (u ∷ us) (w ∷ ws) = Receives [] u w × IsPrefixOf h (plain w.seen) × (ws ≡ us)
+  LearnsAt zero h (u ∷ us) (w ∷ ws) = Learned h u w × (ws ≡ us)
   LearnsAt (suc i) h (u ∷ us) (w ∷ ws) = (w ≡ u) × LearnsAt i h us ws
 
   -- no receiver received anything
@@ -64,11 +72,59 @@ module _ {E : Type 0} where
   AreOver [] = Unit {0}
   AreOver (w ∷ ws) = IsOver w × AreOver ws
 
+  -- each receiver tried, and received nothing, or its channel is over; and there is one whose party is not whole, as it
+  -- is when all senders have ended
+  pub record SelectsEmpty (us ws : List (PartyOf E)) : Type 0 where
+    pub each : Each (λ n u w. (why : TryRecvError) × FindsNone why u w) us ws
+    pub index : ℕ
+    pub others : At index (λ w. w.share ≢ whole) ws
+
   -- nothing was received, and, if the select is disconnected, all its channels are over
   abbrev pub SelectsNone : TryRecvError → List (PartyOf E) → List (PartyOf E) → Type 0
-  SelectsNone nothing.Empty us ws = ReceivesNothing us ws
+  SelectsNone nothing.Empty us ws = SelectsEmpty us ws
   SelectsNone nothing.Disconnected us ws = ReceivesNothing us ws × AreOver ws
 
   abbrev pub SelectsNoneInTime : RecvTimeoutError → List (PartyOf E) → List (PartyOf E) → Type 0
-  SelectsNoneInTime in_time.Timeout us ws = ReceivesNothing us ws
+  SelectsNoneInTime in_time.Timeout us ws = SelectsEmpty us ws
   SelectsNoneInTime in_time.Disconnected us ws = ReceivesNothing us ws × AreOver ws
+
+-- ---- inside a select
+-- the worst of two answers: that all is over, only where both say so
+abbrev pub worst : TryRecvError → TryRecvError → TryRecvError
+worst nothing.Disconnected why = why
+worst nothing.Empty why = nothing.Empty
+
+module _ {E : Type 0} where
+  -- what a receiver found, where this is the worst answer of a row
+  abbrev pub Finds : TryRecvError → PartyOf E → PartyOf E → Type 0
+  Finds nothing.Disconnected u w = FindsNone nothing.Disconnected u w
+  Finds nothing.Empty u w = (why : TryRecvError) × FindsNone why u w
+
+  -- receiver n is one of those from the first on, and before the end, and was asked
+  pub record IsAsked (why : TryRecvError) (first end n : ℕ) (u w : PartyOf E) : Type 0 where
+    pub from : first ≤ n
+    pub below : n < end
+    pub found : Finds why u w
+
+  -- it is none of them, and is as it was
+  pub record IsLeft (first end n : ℕ) (u w : PartyOf E) : Type 0 where
+    pub outside : (n < first) ⊎ (end ≤ n)
+    pub same : w ≡ u
+
+  abbrev pub InRow : TryRecvError → ℕ → ℕ → ℕ → PartyOf E → PartyOf E → Type 0
+  InRow why first end n u w = IsAsked why first end n u w ⊎ IsLeft first end n u w
+
+  -- receiver n of the row has a party that is not whole
+  pub record IsOpenAt (first end n : ℕ) (ws : List (PartyOf E)) : Type 0 where
+    pub from : first ≤ n
+    pub below : n < end
+    pub others : At n (λ w. w.share ≢ whole) ws
+
+  abbrev pub HasOpen : TryRecvError → ℕ → ℕ → List (PartyOf E) → Type 0
+  HasOpen nothing.Disconnected first end ws = Unit {0}
+  HasOpen nothing.Empty first end ws = (n : ℕ) × IsOpenAt first end n ws
+
+  -- the receivers of the row were asked, and found none, which this is the worst answer of; the others are as they were
+  pub record RowFindsNone (why : TryRecvError) (first end : ℕ) (us ws : List (PartyOf E)) : Type 0 where
+    pub each : Each (InRow why first end) us ws
+    pub others : HasOpen why first end ws

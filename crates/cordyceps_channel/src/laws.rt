@@ -1,8 +1,11 @@
 //! Calls of a channel in a row, whose contracts are laws.
-ghost use Rattle.std.specs.Prelude.{◌≡◌, ◌≤◌, [], ◌∷◌, ◌++◌, map, IfOk};
+ghost use Rattle.std.specs.Prelude.{◌≡◌, ◌≤◌, [], ◌∷◌, ◌++◌, length, map, All, IfOk};
+ghost use Rattle.cordyceps_shared.specs.Sending.{Delivers, how_many};
 ghost use Rattle.cordyceps_channel.specs.Channels.{IsOver, Receives, ReceivesAs, AreAmong, TellsReceiver, sent, received};
+ghost use Rattle.cordyceps_channel.specs.Channels.{AllAmong, AreApart};
 ghost use Rattle.cordyceps_channel.specs.Selects.{At, AreOver, Selects};
 
+use crate::closed::Closed;
 use crate::errors::Disconnected;
 use crate::receiver::Receiver;
 use crate::select::{Select, Selected};
@@ -64,6 +67,41 @@ pub fn close_and_receive<T: Linked<Links<T>>, W: Wake + Drop, R: Wait>(
     ensures order { IfOk result (λ _. AreAmong (sent sender) (received receiver.new)) }
 {
     receiver.learn(sender.close());
+    receive_all(rt, alloc, receiver)
+}
+
+/// Learns what senders saw that have ended, and receives until all others have ended too. What they sent is then among
+/// what the receiver received: the elements of each in the order in which it sent them, and no element counts for two
+/// senders. If as many elements were received as they sent, nobody else has sent any. Requires that no two of the senders
+/// act under the same name, as those of `channel_with_senders` do not.
+///
+/// Where another call has received all before, this one receives none, and says the same.
+///
+/// # Errors
+/// As `receive_all`.
+///
+/// # Complexity
+/// As `receive_all`, and O(n) for n senders.
+///
+/// # Waits
+/// Until all senders have ended.
+pub fn receive_all_of<T: Linked<Links<T>>, W: Wake + Drop, R: Wait>(
+    rt: &R,
+    alloc: Global,
+    closed: Vec<Closed<T>>,
+    receiver: &mut Receiver<T, W>,
+) -> Result<Vec<T::Handle>, AllocError>
+    requires table { All (λ u. u.table ≡ receiver.old.table) closed.items }
+    requires apart { AreApart closed.items }
+    ensures all { IfOk result (λ all. Receives all.items receiver.old receiver.new × IsOver receiver.new) }
+    ensures order { IfOk result (λ _. AllAmong (map (λ u. sent u) closed.items) (received receiver.new)) }
+    ensures exact { IfOk result (λ _. length (received receiver.new) ≡ how_many (map (λ u. sent u) closed.items)
+        → Delivers (map (λ u. sent u) closed.items) (received receiver.new)) }
+{
+    let mut closed = closed;
+    while let Some(sender) = closed.pop() {
+        receiver.learn(sender.into_receipt());
+    }
     receive_all(rt, alloc, receiver)
 }
 

@@ -1,11 +1,11 @@
 //! How a channel is created: the queue, the register of its senders' parties, and its two sides.
-ghost use Rattle.std.specs.Prelude.{◌≡◌, ◌≤◌, IfOk};
-ghost use Rattle.cordyceps_channel.specs.Channels.{IsChannel, AreParties, rooms_under};
+ghost use Rattle.std.specs.Prelude.{◌≡◌, ◌≤◌, ◌+◌, IfOk};
+ghost use Rattle.cordyceps_channel.specs.Channels.{IsChannel, HaveChannel, IsEmptyChannel, IsNewSender, AreParties, rooms_under};
 
 use crate::bell::Bell;
 use crate::place::Place;
 use crate::receiver::Receiver;
-use crate::register::Register;
+use crate::register::{Register, RegisterPlace};
 use crate::sender::Sender;
 use crate::shared::Shared;
 use crate::taker::Taker;
@@ -15,6 +15,7 @@ use cordyceps_base::mpsc_queue::Links;
 use cordyceps_base::shared::MAX_ROOMS;
 use cordyceps_queue::mpsc_queue::{MpscQueue, Party};
 use std::alloc::{AllocError, Global};
+use std::marker::Model;
 use std::snapshot::Snapshot;
 use std::sync::Arc;
 
@@ -96,6 +97,93 @@ fn rooms_of_queue(rooms: usize) -> usize
     (rooms + rooms / 8).min(MAX_ROOMS)
 }
 
+/// A new channel without senders, whose register nobody else has yet.
+#[derive(Drop)]
+struct Fresh<T: Linked<Links<T>>, W: Wake + Drop> {
+    shared: Arc<Shared<T, W>, Global>,
+    place: RegisterPlace<T>,
+    register: Register<T>,
+    taker: Taker<T>,
+}
+
+impl<T: Linked<Links<T>>, W: Wake + Drop> Model for Fresh<T, W> {
+    ghost use Rattle.std.specs.Arc.{arc_value};
+    ghost use Rattle.std.specs.Prelude.{length};
+    ghost use Rattle.cordyceps_channel.specs.Channels.{FreshOf, IsFresh};
+
+    ghost Value = { FreshOf T.Handle };
+
+    ghost view = { λ f. record {
+      table = (arc_value (arc_value f.shared).queue).table;
+      senders = length f.register.homes.items;
+      receiver = f.taker.party;
+    } };
+
+    ghost invariant = { λ f. IsFresh (arc_value (arc_value f.shared).queue).table f.place f.register.party
+        f.register.homes.items f.taker.party };
+}
+
+impl<T: Linked<Links<T>>, W: Wake + Drop> Fresh<T, W> {
+    /// Creates a channel whose receiver listens to this bell.
+    fn new(
+        bell: Arc<Bell<W>, Global>,
+        alloc: Global,
+        rooms: usize,
+    ) -> Result<Fresh<T, W>, AllocError>
+        requires { rooms ≤ MAX_ROOMS }
+        ensures { IfOk result (λ fresh. IsEmptyChannel rooms fresh) }
+    {
+        let total = rooms_of_queue(rooms);
+        let Parts {
+            queue,
+            party,
+            receivers,
+        } = make_parts(alloc, total)?;
+        let key = Snapshot::of(&party);
+        let place = Place::new(alloc, &key)?;
+        let register = Register {
+            party,
+            homes: Vec::new(alloc),
+        };
+        let queue = Arc::new(alloc, queue)?;
+        let taker = Taker::new(Arc::try_clone(&queue)?, receivers);
+        let kept = total.saturating_sub(rooms);
+        let shared = Arc::new(alloc, Shared::new(queue, bell, alloc, rooms, kept))?;
+        Ok(Fresh {
+            shared,
+            place,
+            register,
+            taker,
+        })
+    }
+
+    /// Makes one more sender.
+    fn add_sender(&mut self) -> Result<Sender<T, W>, AllocError>
+        ensures { IfOk result (λ sender. IsNewSender self.old.table self.old.senders sender
+            × (self.new ≡ record self.old { senders = self.old.senders + 1 })) }
+    {
+        let shared = Arc::try_clone(&self.shared)?;
+        let place = self.place.another()?;
+        let opened = self.register.split(shared.alloc, &shared.queue)?;
+        Ok(Sender::of(shared, place, opened))
+    }
+
+    /// Leaves the register in its place, and makes the receiver.
+    fn into_receiver(self) -> Receiver<T, W>
+        ensures receiver { result ≡ self.receiver }
+        ensures table { result.table ≡ self.table }
+    {
+        let Fresh {
+            shared,
+            mut place,
+            register,
+            taker,
+        } = self;
+        place.put(register);
+        Receiver::of(shared, place, taker)
+    }
+}
+
 /// Creates a channel whose receiver listens to this bell.
 pub(crate) fn channel_at<T: Linked<Links<T>>, W: Wake + Drop>(
     bell: Arc<Bell<W>, Global>,
@@ -105,30 +193,34 @@ pub(crate) fn channel_at<T: Linked<Links<T>>, W: Wake + Drop>(
     requires { rooms ≤ MAX_ROOMS }
     ensures { IfOk result (λ ends. IsChannel rooms ends.0 ends.1) }
 {
-    let total = rooms_of_queue(rooms);
-    let Parts {
-        queue,
-        party,
-        receivers,
-    } = make_parts(alloc, total)?;
-    let key = Snapshot::of(&party);
-    let mut place = Place::new(alloc, &key)?;
-    let mut register = Register {
-        party,
-        homes: Vec::new(alloc),
-    };
-    let opened = register.split(alloc, &queue)?;
-    place.put(register);
-    let senders_place = place.another()?;
-    let queue = Arc::new(alloc, queue)?;
-    let taker = Taker::new(Arc::try_clone(&queue)?, receivers);
-    let shared = Arc::new(
-        alloc,
-        Shared::new(queue, bell, alloc, rooms, total.saturating_sub(rooms)),
-    )?;
-    let senders_shared = Arc::try_clone(&shared)?;
-    Ok((
-        Sender::of(senders_shared, senders_place, opened),
-        Receiver::of(shared, place, taker),
-    ))
+    let mut fresh = Fresh::new(bell, alloc, rooms)?;
+    let sender = fresh.add_sender()?;
+    Ok((sender, fresh.into_receiver()))
+}
+
+/// Creates a channel with `rooms` rooms, as `channel` does, and returns `count` senders and its receiver. No two of the
+/// senders act under the same name, so `laws::receive_all_of` can say what all of them have sent. Requires that `rooms` is
+/// at most `MAX_ROOMS`.
+///
+/// # Errors
+/// If memory is refused, it returns `AllocError`, and nothing is kept.
+///
+/// # Complexity
+/// O(`rooms` + `count`).
+pub fn channel_with_senders<T: Linked<Links<T>>>(
+    alloc: Global,
+    rooms: usize,
+    count: usize,
+) -> Result<(Vec<Sender<T>>, Receiver<T>), AllocError>
+    requires { rooms ≤ MAX_ROOMS }
+    ensures { IfOk result (λ ends. HaveChannel rooms count ends.0.items ends.1) }
+{
+    let bell = Arc::new(alloc, Bell::new(NoWake))?;
+    let mut fresh = Fresh::new(bell, alloc, rooms)?;
+    let mut senders = Vec::new(alloc);
+    for _ in 0..count {
+        let sender = fresh.add_sender()?;
+        senders.push(sender)?;
+    }
+    Ok((senders, fresh.into_receiver()))
 }

@@ -6,7 +6,7 @@
 //!
 //! `batches` has the calls that receive several elements, and `deadline` the one that waits for a limited time.
 ghost use Rattle.std.specs.Arc.{arc_value};
-ghost use Rattle.std.specs.Prelude.{◌≡◌, [], ◌∷◌, true, false, MatchResult};
+ghost use Rattle.std.specs.Prelude.{◌≡◌, ◌≢◌, [], ◌∷◌, true, false, MatchResult};
 ghost use Rattle.cordyceps_shared.specs.Histories.{plain};
 ghost use Rattle.cordyceps_shared.specs.Knowing.{IsPrefixOf};
 ghost use Rattle.cordyceps_shared.specs.Shares.{whole, gives_half};
@@ -108,6 +108,7 @@ impl<T: Linked<Links<T>>, W: Wake + Drop> Receiver<T, W> {
     fn gather(&mut self) -> bool
         ensures received { Receives [] self.old self.new }
         ensures last { result ≡ true → self.new.share ≡ whole }
+        ensures others { result ≡ false → (self.new ≡ self.old) × (self.new.share ≢ whole) }
     {
         if self.is_last {
             return true;
@@ -133,6 +134,7 @@ impl<T: Linked<Links<T>>, W: Wake + Drop> Receiver<T, W> {
     pub(crate) fn is_end(&mut self) -> bool
         ensures received { Receives [] self.old self.new }
         ensures last { result ≡ true → self.new.share ≡ whole }
+        ensures others { result ≡ false → Stays self.old self.new × (self.new.share ≢ whole) }
     {
         if self.gather() {
             return true;

@@ -14,7 +14,7 @@
 //! The receiver's party absorbs that one, and is whole. No count of senders is trusted for it: a party in each place
 //! shows that its sender has ended. A new sender takes over the party and the place of one that has ended, so there are
 //! as many places as there were senders at a time.
-ghost use Rattle.std.specs.Prelude.{◌≡◌, [], true, IfOk, IfSome};
+ghost use Rattle.std.specs.Prelude.{◌≡◌, ◌+◌, [], length, true, IfOk, IfSome};
 ghost use Rattle.cordyceps_channel.specs.Channels.{IsRegister, IsOpened, left_after, sent};
 
 use crate::place::{Fits, Place};
@@ -58,6 +58,8 @@ pub(crate) type RegisterPlace<T> = Place<Register<T>, Key<T>>;
 /// A party for a new sender, and the place that it comes back to.
 #[derive(Drop)]
 pub(crate) struct Opened<T: Linked<Links<T>>> {
+    /// The number of the place.
+    pub number: usize,
     pub party: Party<T>,
     pub home: Home<T>,
 }
@@ -69,13 +71,17 @@ impl<T: Linked<Links<T>>> Register<T> {
         ensures party { self.new.party ≡ self.old.party }
         ensures homes { self.new.homes.items ≡ self.old.homes.items }
         ensures opened { IfOk result (λ some. IfSome some (λ found.
-            IsOpened self.old.party.table found.party found.home)) }
+            IsOpened self.old.party.table found.number found.party found.home)) }
     {
         for i in 0..self.homes.len() {
             if self.homes[i].is_filled() {
                 let mut home = self.homes[i].another()?;
                 if let Some(party) = home.take() {
-                    return Ok(Some(Opened { party, home }));
+                    return Ok(Some(Opened {
+                        number: i,
+                        party,
+                        home,
+                    }));
                 }
             }
         }
@@ -86,16 +92,23 @@ impl<T: Linked<Links<T>>> Register<T> {
     pub fn split(&mut self, alloc: Global, queue: &MpscQueue<T>) -> Result<Opened<T>, AllocError>
         requires { IsRegister queue.now.table self.old.party self.old.homes.items }
         ensures register { IsRegister queue.now.table self.new.party self.new.homes.items }
-        ensures opened { IfOk result (λ found. IsOpened queue.now.table found.party found.home) }
+        ensures opened { IfOk result (λ found. IsOpened queue.now.table found.number found.party found.home) }
         ensures unsent { IfOk result (λ found. sent found.party ≡ []) }
+        ensures number { IfOk result (λ found. found.number ≡ length self.old.homes.items) }
+        ensures more { IfOk result (λ found. length self.new.homes.items ≡ found.number + 1) }
     {
+        let number = self.homes.len();
         self.homes.try_reserve(1)?;
         let key = Snapshot::of(&self.party);
         let mut home = Place::new(alloc, &key)?;
         let kept = home.another()?;
         self.homes.push_reserved(kept);
         let party = queue.split(&mut self.party, 0);
-        Ok(Opened { party, home })
+        Ok(Opened {
+            number,
+            party,
+            home,
+        })
     }
 
     /// Returns a party for a new sender.
@@ -105,7 +118,7 @@ impl<T: Linked<Links<T>>> Register<T> {
     pub fn open(&mut self, alloc: Global, queue: &MpscQueue<T>) -> Result<Opened<T>, AllocError>
         requires { IsRegister queue.now.table self.old.party self.old.homes.items }
         ensures register { IsRegister queue.now.table self.new.party self.new.homes.items }
-        ensures opened { IfOk result (λ found. IsOpened queue.now.table found.party found.home) }
+        ensures opened { IfOk result (λ found. IsOpened queue.now.table found.number found.party found.home) }
     {
         if let Some(opened) = self.reopen()? {
             return Ok(opened);

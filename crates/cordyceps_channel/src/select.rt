@@ -1,13 +1,12 @@
 //! Receiving from several channels by one thread.
 //!
 //! The receivers of a select listen to one bell, so a thread that waits for all of them sleeps once. A try asks each
-//! receiver at most twice: it begins behind the one from which it received last, so that no channel is left out while
-//! others are busy. Only where each of them has said that it is disconnected are all asked once more, the first first.
-//! If they say so again, nothing came in between, and the select is disconnected.
+//! receiver once, in two rows: those behind the one from which it received last, and then the others, so that no channel
+//! is left out while others are busy. If each of them is disconnected, so is the select, since an end is final.
 ghost use Rattle.std.specs.Prelude.{◌≡◌, ◌≤◌, ◌++◌, [], ◌∷◌, length, IfOk, MatchResult};
 ghost use Rattle.cordyceps_channel.specs.Channels.{IsChannel};
 ghost use Rattle.cordyceps_channel.specs.Selects.{AreOver, ReceivesAt, ReceivesNothing, SelectsNone, SelectsNoneInTime};
-ghost use Rattle.cordyceps_channel.specs.Selects.{At, LearnsAt};
+ghost use Rattle.cordyceps_channel.specs.Selects.{At, LearnsAt, RowFindsNone, worst};
 
 use crate::bell::{Bell, Listening};
 use crate::errors::{Disconnected, RecvTimeoutError, TryRecvError};
@@ -54,6 +53,16 @@ impl<T: Linked<Links<T>>, W: Wake + Drop> Model for Select<T, W> {
     ghost Value = { List (PartyOf T.Handle) };
 
     ghost view = { λ s. s.receivers.items };
+}
+
+/// Returns the worse of two answers: `Disconnected` only if both are.
+fn worse(first: TryRecvError, second: TryRecvError) -> TryRecvError
+    ensures { result ≡ worst first second }
+{
+    match first {
+        TryRecvError::Disconnected => second,
+        TryRecvError::Empty => TryRecvError::Empty,
+    }
 }
 
 impl<T: Linked<Links<T>>> Select<T> {
@@ -126,7 +135,7 @@ impl<T: Linked<Links<T>>, W: Wake + Drop> Select<T, W> {
     /// received, and else `Empty`. A select without channels is disconnected.
     ///
     /// # Complexity
-    /// That of two calls of `Receiver::try_recv` for each channel.
+    /// That of a call of `Receiver::try_recv` for each channel.
     ///
     /// # Waits
     /// Never.
@@ -134,38 +143,34 @@ impl<T: Linked<Links<T>>, W: Wake + Drop> Select<T, W> {
         ensures { MatchResult result (λ found. ReceivesAt found.index found.value self.old self.new)
             (λ why. SelectsNone why self.old self.new) }
     {
-        let mut is_over = true;
-        for _ in 0..self.receivers.len() {
-            let index = if self.turn < self.receivers.len() {
-                self.turn
-            } else {
-                0
-            };
-            self.turn = index + 1;
-            match self.receivers[index].try_recv() {
-                Ok(value) => return Ok(Selected { index, value }),
-                Err(why) => is_over = is_over && why == TryRecvError::Disconnected,
-            }
+        let count = self.receivers.len();
+        let turn = self.turn.min(count);
+        match self.try_row(turn, count) {
+            Ok(found) => Ok(found),
+            Err(behind) => match self.try_row(0, turn) {
+                Ok(found) => Ok(found),
+                Err(before) => Err(worse(behind, before)),
+            },
         }
-        if !is_over {
-            return Err(TryRecvError::Empty);
-        }
-        self.try_each()
     }
 
-    /// Tries each receiver, the first first, until one is not disconnected.
-    fn try_each(&mut self) -> Result<Selected<T::Handle>, TryRecvError>
+    /// Tries each receiver from `first` on, and before `end`, until one has an element.
+    fn try_row(&mut self, first: usize, end: usize) -> Result<Selected<T::Handle>, TryRecvError>
+        requires { (first ≤ end) × (end ≤ length self.old) }
         ensures { MatchResult result (λ found. ReceivesAt found.index found.value self.old self.new)
-            (λ why. SelectsNone why self.old self.new) }
+            (λ why. RowFindsNone why first end self.old self.new) }
     {
-        for index in 0..self.receivers.len() {
+        let mut none = TryRecvError::Disconnected;
+        for index in first..end {
             match self.receivers[index].try_recv() {
-                Ok(value) => return Ok(Selected { index, value }),
-                Err(TryRecvError::Empty) => return Err(TryRecvError::Empty),
-                Err(TryRecvError::Disconnected) => {}
+                Ok(value) => {
+                    self.turn = index + 1;
+                    return Ok(Selected { index, value });
+                }
+                Err(why) => none = worse(none, why),
             }
         }
-        Err(TryRecvError::Disconnected)
+        Err(none)
     }
 
     /// Receives an element from one of the channels, and waits while none is there.

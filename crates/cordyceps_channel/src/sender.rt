@@ -5,12 +5,14 @@
 //! waits for nobody: the place is this sender's alone until then. So the receiver can take all parties in at the end,
 //! and its own is whole again.
 ghost use Rattle.std.specs.Arc.{arc_value};
-ghost use Rattle.std.specs.Prelude.{◌≡◌, ◌<◌, true, false, IfOk, MatchResult};
+ghost use Rattle.std.specs.Prelude.{◌≡◌, ◌≢◌, ◌<◌, true, false, IfOk, MatchResult};
 ghost use Rattle.cordyceps_shared.specs.Histories.{plain};
+ghost use Rattle.cordyceps_shared.specs.Standings.{name_of};
 ghost use Rattle.cordyceps_queue.specs.Shared.Calls.{FindsFull, Legal};
 ghost use Rattle.cordyceps_channel.specs.Channels.{Sends, SendsNothing, HasBack, IsOpened, HasRegister, IsRegister};
 
 use crate::bell::Listening;
+use crate::closed::Closed;
 use crate::errors::{Disconnected, TrySendError};
 use crate::register::{Home, Opened, Register, RegisterPlace};
 use crate::shared::{Shared, give_all_back};
@@ -21,6 +23,7 @@ use cordyceps_queue::mpsc_queue::{Party, Receipt};
 use crossbeam_utils::Backoff;
 use std::alloc::{AllocError, Global};
 use std::marker::Model;
+use std::snapshot::Snapshot;
 use std::sync::atomic::Ordering;
 use std::sync::{Arc, Wait};
 
@@ -40,6 +43,8 @@ use std::sync::{Arc, Wait};
 pub struct Sender<T: Linked<Links<T>>, W: Wake + Drop = NoWake> {
     shared: Arc<Shared<T, W>, Global>,
     register: RegisterPlace<T>,
+    /// The number of its place.
+    number: usize,
     home: Home<T>,
     party: Party<T>,
 }
@@ -53,7 +58,7 @@ impl<T: Linked<Links<T>>, W: Wake + Drop> Model for Sender<T, W> {
 
     ghost view = { λ s. s.party };
 
-    ghost invariant = { λ s. IsSender (arc_value (arc_value s.shared).queue).table s.register s.party s.home };
+    ghost invariant = { λ s. IsSender (arc_value (arc_value s.shared).queue).table s.number s.register s.party s.home };
 }
 
 impl<T: Linked<Links<T>>, W: Wake + Drop> Drop for Sender<T, W> {
@@ -65,6 +70,7 @@ impl<T: Linked<Links<T>>, W: Wake + Drop> Drop for Sender<T, W> {
         let Sender {
             shared,
             register,
+            number: _,
             mut home,
             mut party,
         } = self;
@@ -85,14 +91,19 @@ impl<T: Linked<Links<T>>, W: Wake + Drop> Sender<T, W> {
         opened: Opened<T>,
     ) -> Sender<T, W>
         requires register { HasRegister (arc_value (arc_value shared).queue).table false register }
-        requires opened { IsOpened (arc_value (arc_value shared).queue).table opened.party opened.home }
+        requires opened { IsOpened (arc_value (arc_value shared).queue).table opened.number opened.party opened.home }
         ensures { result ≡ opened.party }
     {
-        let Opened { party, home } = opened;
+        let Opened {
+            number,
+            party,
+            home,
+        } = opened;
         shared.senders.fetch_add(1, Ordering::SeqCst);
         Sender {
             shared,
             register,
+            number,
             home,
             party,
         }
@@ -216,7 +227,26 @@ impl<T: Linked<Links<T>>, W: Wake + Drop> Sender<T, W> {
         receipt
     }
 
-    /// Returns another sender of the same channel. It takes over the party of one that has ended, if there is one.
+    /// Ends the sender, as `close` does, and returns what is left of it, of which `laws::receive_all_of` says what this
+    /// sender and others have sent.
+    ///
+    /// # Complexity
+    /// That of a drop.
+    ///
+    /// # Waits
+    /// Never.
+    pub fn finish(self) -> Closed<T>
+        ensures { result ≡ self }
+    {
+        let mut sender = self;
+        let receipt = sender.receipt();
+        let party = Snapshot::of(&sender.party);
+        drop(sender);
+        Closed::of(receipt, party)
+    }
+
+    /// Returns another sender of the same channel. It takes over the party of one that has ended, if there is one, and
+    /// counts what that one has sent as its own.
     ///
     /// # Errors
     /// If memory is refused, it returns `AllocError`, and the channel is as before.
@@ -229,13 +259,19 @@ impl<T: Linked<Links<T>>, W: Wake + Drop> Sender<T, W> {
     pub fn try_clone<R: Wait>(&mut self, rt: &R) -> Result<Sender<T, W>, AllocError>
         ensures same { self.new ≡ self.old }
         ensures made { IfOk result (λ sender. sender.table ≡ self.old.table) }
+        ensures apart { IfOk result (λ sender. name_of sender ≢ name_of self.old) }
     {
         let shared = Arc::try_clone(&self.shared)?;
         let place = self.register.another()?;
         let mut register = take_register(rt, &mut self.register);
         let opened = register.open(shared.alloc, &shared.queue);
         self.register.put(register);
-        Ok(Sender::of(shared, place, opened?))
+        let opened = opened?;
+        // Two senders never have one place. The proof knows it from this test.
+        if opened.number == self.number {
+            return Err(AllocError);
+        }
+        Ok(Sender::of(shared, place, opened))
     }
 }
 

@@ -1,7 +1,7 @@
 //! What senders and receiver of a channel share.
 
-ghost use Rattle.std.specs.Prelude.{◌≡◌, [], true};
-ghost use Rattle.cordyceps_channel.specs.Channels.{SendsNothing};
+ghost use Rattle.std.specs.Prelude.{◌≡◌, ◌<◌, true};
+ghost use Rattle.cordyceps_channel.specs.Channels.{DoesNothing};
 
 use crate::bell::Bell;
 use crate::wake::{NoWake, Wake};
@@ -40,6 +40,7 @@ pub(crate) struct Shared<T: Linked<Links<T>>, W: Wake + Drop> {
     pub quantum: usize,
     /// With how many rooms the receiver frees them, even if more elements are there.
     pub batch: usize,
+    ghost takes_some: { 0 < quantum },
 }
 
 impl<T: Linked<Links<T>>, W: Wake + Drop> Shared<T, W> {
@@ -52,7 +53,8 @@ impl<T: Linked<Links<T>>, W: Wake + Drop> Shared<T, W> {
         rooms: usize,
         kept: usize,
     ) -> Shared<T, W>
-        ensures { result.queue ≡ queue }
+        ensures queue { result.queue ≡ queue }
+        ensures some { 0 < result.quantum }
     {
         Shared {
             queue,
@@ -71,7 +73,8 @@ impl<T: Linked<Links<T>>, W: Wake + Drop> Shared<T, W> {
 /// tries, the party keeps its rooms.
 pub(crate) fn give_all_back<T: Linked<Links<T>>>(queue: &MpscQueue<T>, party: &mut Party<T>) -> bool
     requires { party.old.table ≡ queue.now.table }
-    ensures { SendsNothing party.old party.new }
+    ensures nothing { DoesNothing party.old party.new }
+    ensures gave { result ≡ true → (0 < party.old.rooms) × (party.new.rooms ≡ 0) }
 {
     if party.rooms() == 0 {
         return false;

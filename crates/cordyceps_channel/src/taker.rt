@@ -7,7 +7,8 @@ ghost use Rattle.std.specs.Prelude.{◌≡◌, ◌≤◌, [], ◌∷◌, true, f
 ghost use Rattle.cordyceps_shared.specs.Histories.{plain};
 ghost use Rattle.cordyceps_shared.specs.Knowing.{IsPrefixOf};
 ghost use Rattle.cordyceps_shared.specs.Shares.{whole, join_shares};
-ghost use Rattle.cordyceps_channel.specs.Channels.{Receives, ReceivesBatch, IsOver, Stays, received};
+ghost use Rattle.cordyceps_queue.specs.Shared.Calls.{FindsBusy};
+ghost use Rattle.cordyceps_channel.specs.Channels.{Receives, ReceivesBatch, IsOver, Misses, Stays, received};
 
 use crate::shared::give_all_back;
 use cordyceps_base::linked::Linked;
@@ -58,6 +59,7 @@ impl<T: Linked<Links<T>>> Taker<T> {
         ensures holds { self.new.holds ≡ result }
         ensures stays { Stays self.old.party self.new.party }
         ensures whole { self.old.party.share ≡ whole → result ≡ true }
+        ensures busy { result ≡ false → FindsBusy self.old.party self.new.party }
     {
         let Some((queue, party)) = self.resting.take() else {
             return true;
@@ -88,7 +90,7 @@ impl<T: Linked<Links<T>>> Taker<T> {
     /// Tries once to take an element out.
     pub fn try_dequeue(&mut self) -> Option<T::Handle>
         ensures answer { MatchOption result
-            (Receives [] self.old.party self.new.party × (self.old.party.share ≡ whole → IsOver self.new.party))
+            (Misses self.old.party self.new.party × (self.old.party.share ≡ whole → IsOver self.new.party))
             (λ handle. Receives (handle ∷ []) self.old.party self.new.party) }
         ensures share { self.new.party.share ≡ self.old.party.share }
     {
@@ -108,7 +110,7 @@ impl<T: Linked<Links<T>>> Taker<T> {
     pub fn take(&mut self, max: usize) -> Option<Batch<T>>
         requires { 1 ≤ max }
         ensures answer { MatchOption result
-            (Receives [] self.old.party self.new.party × (self.old.party.share ≡ whole → IsOver self.new.party))
+            (Misses self.old.party self.new.party × (self.old.party.share ≡ whole → IsOver self.new.party))
             (λ batch. ReceivesBatch T.element max batch self.old.party self.new.party) }
         ensures share { self.new.party.share ≡ self.old.party.share }
     {
@@ -127,7 +129,8 @@ impl<T: Linked<Links<T>>> Taker<T> {
     /// Gives all of the party's rooms to the pool, if they are at least this many, and returns whether it gave them. It
     /// keeps the right to dequeue if the pool has no room.
     pub fn give_back(&mut self, at_least: usize) -> bool
-        ensures { Stays self.old.party self.new.party }
+        ensures stays { Stays self.old.party self.new.party }
+        ensures gave { result ≡ true → self.new.party.rooms ≡ 0 }
     {
         let Some(consumer) = &mut self.consumer else {
             return false;
@@ -144,7 +147,9 @@ impl<T: Linked<Links<T>>> Taker<T> {
 
     /// Gives the right back, and all rooms to the pool, and returns whether the party had rooms.
     pub fn give_all(&mut self) -> bool
-        ensures { Stays self.old.party self.new.party }
+        ensures holds { self.new.holds ≡ false }
+        ensures stays { Stays self.old.party self.new.party }
+        ensures gave { result ≡ true → self.new.party.rooms ≡ 0 }
     {
         self.rest();
         let Some((queue, mut party)) = self.resting.take() else {

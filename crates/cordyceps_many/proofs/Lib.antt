@@ -1,6 +1,8 @@
 mod Between
 pub mod Entered
+pub mod Fewer
 pub mod HookRows
+pub mod Indexes
 mod Indexed
 mod Marking
 pub mod Members
@@ -8,4 +10,5 @@ mod Placed
 mod Reached
 pub mod Shared
 pub mod Threads
+pub mod ValueAt
 mod Written

@@ -36,7 +36,7 @@ module _ {X : Type 0} where
   in_has c p e = (index_of p (spots c), place_of (spots c) p e)
 
 -- no spot comes twice
-new_of : (q : Ptr) (s : List Ptr) → is_in q s ≡ false → IsNew q s
+pub new_of : (q : Ptr) (s : List Ptr) → is_in q s ≡ false → IsNew q s
 new_of q [] e = tt
 new_of q (x ∷ s) e = let n = not_in q x s e in (n.0, new_of q s n.1)
 

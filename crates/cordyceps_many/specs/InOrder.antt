@@ -1,9 +1,9 @@
 -- Lists whose nodes are in order, by an order of their values.
-use Rattle.std.specs.Prelude.{◌≡◌, true, false, List, [], ◌∷◌, ◌++◌, Option, MatchOption}
+use Rattle.std.specs.Prelude.{◌≡◌, ◌≢◌, true, false, List, [], ◌∷◌, ◌++◌, Option, MatchOption}
 use Rattle.std.specs.declared.cmp.Ordering.{Ordering}
 use Rattle.std.specs.Ordering.{is_gt}
 use denote.RawPtr.{Ptr}
-use Rattle.cordyceps_base.specs.BySpot.{HoldsAt}
+use Rattle.cordyceps_base.specs.BySpot.{HasSpot, HoldsAt}
 use Rattle.cordyceps_base.specs.Nodes.{Nodes}
 use Rattle.cordyceps_many.specs.MultiList.{IsLastOf}
 use Rattle.cordyceps_many.specs.Threads.{is_in}
@@ -40,3 +40,14 @@ module _ {X : Type 0} where
     pub whole : s ≡ front ++ back
     pub end : MatchOption o (front ≡ []) (λ q. IsLastOf front q)
     pub high : (cmp : X → X → Ordering) → by cmp → (q : Ptr) → is_in q back ≡ true → IsGreaterAt cmp c q p
+
+  -- the list s is an index: it has every node, in order
+  pub record IsIndex (cmp : X → X → Ordering) (c : Nodes X) (s : List Ptr) : Type 0 where
+    pub all : (p : Ptr) → HasSpot c p → is_in p s ≡ true
+    pub in_order : IsInOrder cmp c s
+
+  -- the list s is an index of all nodes but that at p
+  pub record IsIndexBut (cmp : X → X → Ordering) (c : Nodes X) (p : Ptr) (s : List Ptr) : Type 0 where
+    pub others : (q : Ptr) → HasSpot c q → q ≢ p → is_in q s ≡ true
+    pub out : is_in p s ≡ false
+    pub in_order : IsInOrder cmp c s

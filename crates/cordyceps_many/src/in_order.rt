@@ -20,9 +20,9 @@ use cordyceps_stable::stable_list::Spot;
 
 impl<T, H: Hooks> MultiList<T, H> {
     /// Links the node at `at` in list `i` after the last node that is not greater, so after its equals, or at the front
-    /// if all are greater. A list that was in order is in order afterwards. Requires that `at` is valid, that the node
-    /// is not in the list, and a length below `usize::MAX`. If the order is a function of the caller's, it requires as
-    /// well that the function can be called and is a total preorder.
+    /// if all are greater. A list that was in order is in order afterwards. Requires that `at` is valid, and that the
+    /// node is not in the list. If the order is a function of the caller's, it requires as well that the function can be
+    /// called and is a total preorder.
     ///
     /// # Complexity
     /// O(k + 1), where k is the number of nodes of list `i` that are greater, and so O(1) if none is: it compares with
@@ -32,7 +32,6 @@ impl<T, H: Hooks> MultiList<T, H> {
         requires within { i < H.count }
         requires there { HasSpot self.old.nodes at }
         requires not_in { is_in at (list_at i self.old.lists) ≡ false }
-        requires fits { length (list_at i self.old.lists) < usize.MAX }
         requires order { O.can_compare order.now }
         ensures nodes { self.new.nodes ≡ self.old.nodes }
         ensures list { IsPutInOrder (O.compares_by order.now) self.old.nodes at (list_at i self.old.lists)
@@ -68,7 +67,7 @@ impl<T, H: Hooks> MultiList<T, H> {
         // for the proof: no two nodes are at one spot, and no list has one twice
         self.lists_agree();
         let value = self.get(at);
-        let mut place = self.last(i);
+        let mut place = self.back(i);
         while let Some(other) = place {
             if !order.compare(self.get(other), value).is_gt() {
                 return Some(other);

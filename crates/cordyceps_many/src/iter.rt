@@ -47,7 +47,7 @@ impl<T, H: Hooks> MultiList<T, H> {
     {
         // for the proof: each spot of a list is that of a node
         self.lists_agree();
-        let at = self.first(i);
+        let at = self.front(i);
         Iter {
             lists: self,
             list: i,

@@ -177,14 +177,14 @@ impl<T: Drop, H: Hooks> MultiList<T, H> {
     ///
     /// # Complexity
     /// O(H).
-    pub fn take_first(&mut self, i: usize) -> Option<MultiNode<T, H>>
+    pub fn pop_front(&mut self, i: usize) -> Option<MultiNode<T, H>>
         requires within { i < H.count }
         ensures taken { MatchOption result ((list_at i self.old.lists ≡ []) × (self.new ≡ self.old))
             (λ n. FirstTaken H.count i self.old n self.new) }
         ensures kept { (p : Ptr) → HasSpot self.old.nodes p → (IsFirstOf (list_at i self.old.lists) p → ⊥)
             → HasSpot self.new.nodes p }
     {
-        match self.first(i) {
+        match self.front(i) {
             Some(at) => Some(self.remove(at)),
             None => None,
         }
@@ -332,7 +332,7 @@ impl<T, H: Hooks> MultiList<T, H> {
     ///
     /// # Complexity
     /// O(1).
-    pub fn first(&self, i: usize) -> Option<Spot>
+    pub fn front(&self, i: usize) -> Option<Spot>
         requires within { i < H.count }
         ensures first { MatchOption result (list_at i self.now.lists ≡ [])
             (λ p. IsFirstOf (list_at i self.now.lists) p) }
@@ -347,7 +347,7 @@ impl<T, H: Hooks> MultiList<T, H> {
     ///
     /// # Complexity
     /// O(1).
-    pub fn last(&self, i: usize) -> Option<Spot>
+    pub fn back(&self, i: usize) -> Option<Spot>
         requires within { i < H.count }
         ensures last { MatchOption result (list_at i self.now.lists ≡ []) (λ p. IsLastOf (list_at i self.now.lists) p) }
         ensures there { IfSome result (λ p. HasSpot self.now.nodes p) }
@@ -389,8 +389,20 @@ impl<T, H: Hooks> MultiList<T, H> {
         spot_unless_null(hook_of(&self.row, i, address_of(at)).prev)
     }
 
-    /// Links the node at `at` at the back of list `i`. Requires that `at` is valid, that the node is not in the list,
-    /// and a length below `usize::MAX`.
+    /// Does nothing when the program runs. Its contract states that a list which does not have a node is not full: it is
+    /// shorter than list 0, whose length is a `usize`.
+    fn has_room(&self, i: usize, at: Spot)
+        requires within { i < H.count }
+        requires there { HasSpot self.now.nodes at }
+        requires not_in { is_in at (list_at i self.now.lists) ≡ false }
+        ensures { length (list_at i self.now.lists) < usize.MAX }
+    {
+        self.lists_agree();
+        let _len = self.len(0);
+    }
+
+    /// Links the node at `at` at the back of list `i`. Requires that `at` is valid, and that the node is not in the
+    /// list.
     ///
     /// # Complexity
     /// O(1).
@@ -398,20 +410,20 @@ impl<T, H: Hooks> MultiList<T, H> {
         requires within { i < H.count }
         requires there { HasSpot self.old.nodes at }
         requires not_in { is_in at (list_at i self.old.lists) ≡ false }
-        requires fits { length (list_at i self.old.lists) < usize.MAX }
         ensures nodes { self.new.nodes ≡ self.old.nodes }
         ensures list { list_at i self.new.lists ≡ list_at i self.old.lists ++ at ∷ [] }
         ensures others { SameBut i self.old.lists self.new.lists }
         ensures in_list { is_in at (list_at i self.new.lists) ≡ true }
         ensures kept { (p : Ptr) → HasSpot self.old.nodes p → HasSpot self.new.nodes p }
     {
+        self.has_room(i, at);
         let ends = self.ends.at(i);
         let ends = put_last(&mut self.row, i, at, ends);
         self.ends.set(i, ends);
     }
 
-    /// Links the node at `at` at the front of list `i`. Requires that `at` is valid, that the node is not in the list,
-    /// and a length below `usize::MAX`.
+    /// Links the node at `at` at the front of list `i`. Requires that `at` is valid, and that the node is not in the
+    /// list.
     ///
     /// # Complexity
     /// O(1).
@@ -419,20 +431,20 @@ impl<T, H: Hooks> MultiList<T, H> {
         requires within { i < H.count }
         requires there { HasSpot self.old.nodes at }
         requires not_in { is_in at (list_at i self.old.lists) ≡ false }
-        requires fits { length (list_at i self.old.lists) < usize.MAX }
         ensures nodes { self.new.nodes ≡ self.old.nodes }
         ensures list { list_at i self.new.lists ≡ at ∷ list_at i self.old.lists }
         ensures others { SameBut i self.old.lists self.new.lists }
         ensures in_list { is_in at (list_at i self.new.lists) ≡ true }
         ensures kept { (p : Ptr) → HasSpot self.old.nodes p → HasSpot self.new.nodes p }
     {
+        self.has_room(i, at);
         let ends = self.ends.at(i);
         let ends = put_first(&mut self.row, i, at, ends);
         self.ends.set(i, ends);
     }
 
-    /// Links the node at `at` before the one at `other` in list `i`. Requires that `at` is valid, that the list has the
-    /// node at `other` and not that at `at`, and a length below `usize::MAX`.
+    /// Links the node at `at` before the one at `other` in list `i`. Requires that `at` is valid, and that the list has
+    /// the node at `other` and not that at `at`.
     ///
     /// # Complexity
     /// O(1).
@@ -441,20 +453,20 @@ impl<T, H: Hooks> MultiList<T, H> {
         requires there { HasSpot self.old.nodes at }
         requires not_in { is_in at (list_at i self.old.lists) ≡ false }
         requires in_list { is_in other (list_at i self.old.lists) ≡ true }
-        requires fits { length (list_at i self.old.lists) < usize.MAX }
         ensures nodes { self.new.nodes ≡ self.old.nodes }
         ensures list { list_at i self.new.lists ≡ with_before other at (list_at i self.old.lists) }
         ensures others { SameBut i self.old.lists self.new.lists }
         ensures in_list { is_in at (list_at i self.new.lists) ≡ true }
         ensures kept { (p : Ptr) → HasSpot self.old.nodes p → HasSpot self.new.nodes p }
     {
+        self.has_room(i, at);
         let ends = self.ends.at(i);
         let ends = put_before(&mut self.row, i, at, other, ends);
         self.ends.set(i, ends);
     }
 
-    /// Links the node at `at` after the one at `other` in list `i`. Requires that `at` is valid, that the list has the
-    /// node at `other` and not that at `at`, and a length below `usize::MAX`.
+    /// Links the node at `at` after the one at `other` in list `i`. Requires that `at` is valid, and that the list has
+    /// the node at `other` and not that at `at`.
     ///
     /// # Complexity
     /// O(1).
@@ -463,13 +475,13 @@ impl<T, H: Hooks> MultiList<T, H> {
         requires there { HasSpot self.old.nodes at }
         requires not_in { is_in at (list_at i self.old.lists) ≡ false }
         requires in_list { is_in other (list_at i self.old.lists) ≡ true }
-        requires fits { length (list_at i self.old.lists) < usize.MAX }
         ensures nodes { self.new.nodes ≡ self.old.nodes }
         ensures list { list_at i self.new.lists ≡ with_after other at (list_at i self.old.lists) }
         ensures others { SameBut i self.old.lists self.new.lists }
         ensures in_list { is_in at (list_at i self.new.lists) ≡ true }
         ensures kept { (p : Ptr) → HasSpot self.old.nodes p → HasSpot self.new.nodes p }
     {
+        self.has_room(i, at);
         let ends = self.ends.at(i);
         let ends = put_after(&mut self.row, i, at, other, ends);
         self.ends.set(i, ends);
@@ -580,7 +592,7 @@ impl<T, H: Hooks> MultiList<T, H> {
     ///
     /// # Complexity
     /// O(1).
-    pub fn pop_front(&mut self, i: usize) -> Option<Spot>
+    pub fn unlink_front(&mut self, i: usize) -> Option<Spot>
         requires not_all { 0 < i }
         requires within { i < H.count }
         ensures nodes { self.new.nodes ≡ self.old.nodes }
@@ -591,7 +603,7 @@ impl<T, H: Hooks> MultiList<T, H> {
         ensures there { IfSome result (λ p. HasSpot self.new.nodes p) }
         ensures kept { (p : Ptr) → HasSpot self.old.nodes p → HasSpot self.new.nodes p }
     {
-        let first = self.first(i);
+        let first = self.front(i);
         if let Some(at) = first {
             self.unlink(i, at);
         }

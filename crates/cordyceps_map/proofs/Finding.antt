@@ -22,7 +22,7 @@ use Rattle.cordyceps_map.proofs.Chained.{Says, last_among}
 use Rattle.cordyceps_map.proofs.Leaving.{in_front, cut_shows}
 use Rattle.cordyceps_map.proofs.Looking.{value_of_entry, none_of_entry, none_found}
 use Rattle.cordyceps_map.proofs.ShownNodes.{shown_has, has_shown, shown_held, shown_taken, value_shown}
-use Rattle.cordyceps_map.proofs.ValueAt.{value_in, value_held, held_value}
+use Rattle.cordyceps_many.proofs.ValueAt.{value_in, value_held, held_value}
 
 pub when_none : {A N : Type 0} (S : A → Type 0) (o : Option A) → o ≡ None → N → MatchOption o N S
 when_none S None e n = n

@@ -20,7 +20,7 @@ use Rattle.cordyceps_map.specs.Chains.{bucket_in, AreChained, IsMap, IsEntered}
 use Rattle.cordyceps_map.proofs.Entering.{joined_members, renamed, carried, entered}
 use Rattle.cordyceps_map.proofs.Looking.{none_found}
 use Rattle.cordyceps_map.proofs.ShownNodes.{spots_shown, shown_joined}
-use Rattle.cordyceps_map.proofs.ValueAt.{value_joined, value_came}
+use Rattle.cordyceps_many.proofs.ValueAt.{value_joined, value_came}
 
 module _ {K V : Type 0} (eq : K → K → Bool) (laws : IsEquivalence eq) (hash : K → ℕ) (c : Nodes (Entry K V)) (hs : List (Option Ptr)) (m : IsMap eq hash c hs) (p : Ptr) (n : Element (Entry K V)) (fresh : HasSpot c p → ⊥) (none : lookup_entry (eq n.value.key) (pairs (shown c)) ≡ None) (j : Nodes (Entry K V)) (joined : j ≡ c ++ (p, n) ∷ []) (d : Nodes (Entry K V)) (ms : List (Option Ptr)) (b : ℕ) (r : IsEntered j hs b p d ms) (number : b ≡ bucket_in (length hs) (hash n.value.key)) where
   out : is_in p (spots c) ≡ false

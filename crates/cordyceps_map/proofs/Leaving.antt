@@ -21,7 +21,7 @@ use Rattle.cordyceps_map.proofs.Entering.{with_chain, chain_here, chain_there, s
 use Rattle.cordyceps_map.specs.StableMap.{pairs}
 use Rattle.cordyceps_map.proofs.Looking.{absent}
 use Rattle.cordyceps_map.proofs.ShownNodes.{spots_shown, value_shown, shown_value}
-use Rattle.cordyceps_map.proofs.ValueAt.{value_in, value_left, spot_gone, distinct_left}
+use Rattle.cordyceps_many.proofs.ValueAt.{value_in, value_left, spot_gone, distinct_left}
 
 pub in_front : (q : Ptr) (s t : List Ptr) → is_in q s ≡ true → is_in q (s ++ t) ≡ true
 in_front q s t e = in_append q s t ∙ ap (λ (b : Bool). if b then true else is_in q t) e

@@ -1,7 +1,6 @@
 mod Added
 mod Chained
 mod Entering
-pub mod Fewer
 mod Filling
 mod Finding
 mod Inserting
@@ -15,5 +14,5 @@ mod Redirecting
 mod Revalued
 mod Seen
 mod ShownNodes
-pub mod ValueAt
+pub mod ValueIndexes
 mod Walking

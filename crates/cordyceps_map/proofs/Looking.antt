@@ -9,7 +9,8 @@ use Rattle.cordyceps_base.proofs.SpotsMemory.{same_ptr_refl}
 use Rattle.cordyceps_many.specs.Entries.{value_at}
 use Rattle.cordyceps_many.proofs.Threads.{split, differ}
 use Rattle.cordyceps_map.specs.StableMap.{pairs, IsFound}
-use Rattle.cordyceps_map.proofs.ValueAt.{value_here, value_there, value_in, new_out}
+use Rattle.cordyceps_many.proofs.Fewer.{new_out}
+use Rattle.cordyceps_many.proofs.ValueAt.{value_here, value_there, value_in}
 
 -- by pairs of a key and a value, as a contract sees them
 module _ {K V : Type 0} (eq : K → K → Bool) (k : K) where

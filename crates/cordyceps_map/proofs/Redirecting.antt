@@ -9,7 +9,7 @@ use Rattle.cordyceps_many.proofs.Members.{has_in}
 use Rattle.cordyceps_map.specs.declared.entry.Entry.{Entry}
 use Rattle.cordyceps_map.specs.Chains.{IsRedirected}
 use Rattle.cordyceps_map.proofs.ShownNodes.{shown_written}
-use Rattle.cordyceps_map.proofs.ValueAt.{index_value, value_written, value_kept}
+use Rattle.cordyceps_many.proofs.ValueAt.{index_value, value_written, value_kept}
 
 module _ {K V : Type 0} where
   pub redirected : (c : Nodes (Entry K V)) (p : Ptr) (next : Option Ptr) (e : Entry K V) → HasSpot c p → slice_get (values (elements c)) (index_of p (spots c)) ≡ Some e

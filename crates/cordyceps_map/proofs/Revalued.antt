@@ -14,7 +14,7 @@ use Rattle.cordyceps_map.specs.Chains.{bucket_in, head_in, IsChain, IsMap}
 use Rattle.cordyceps_map.specs.MapLends.{with_second, with_value_at}
 use Rattle.cordyceps_map.specs.StableMap.{Mapped}
 use Rattle.cordyceps_map.proofs.ShownNodes.{spots_shown, value_shown, shown_value, shown_held}
-use Rattle.cordyceps_map.proofs.ValueAt.{value_here, value_there, value_in, value_held, value_written, value_kept}
+use Rattle.cordyceps_many.proofs.ValueAt.{value_here, value_there, value_in, value_held, value_written, value_kept}
 
 pub spots_written : {X : Type 0} (c : Nodes X) (k : ℕ) (w : X) → spots (with_item c k w) ≡ spots c
 spots_written [] k w = refl

@@ -10,7 +10,7 @@ use Rattle.cordyceps_many.specs.MultiList.{HasNumber}
 use Rattle.cordyceps_many.proofs.Threads.{split}
 use Rattle.cordyceps_map.specs.declared.entry.Entry.{Entry}
 use Rattle.cordyceps_map.specs.Shown.{pair_of, shown_element, shown}
-use Rattle.cordyceps_map.proofs.ValueAt.{value_here, value_there}
+use Rattle.cordyceps_many.proofs.ValueAt.{value_here, value_there}
 
 module _ {K V : Type 0} where
   pub spots_shown : (c : Nodes (Entry K V)) → spots (shown c) ≡ spots c

@@ -12,9 +12,9 @@ use Rattle.cordyceps_map.specs.declared.entry.Entry.{Entry}
 use Rattle.cordyceps_map.specs.Shown.{shown}
 use Rattle.cordyceps_map.specs.Chains.{bucket_in, head_in, last_spot, Leads, IsChain, IsMap}
 use Rattle.cordyceps_map.proofs.Chained.{Says, unique}
-use Rattle.cordyceps_map.proofs.Fewer.{no_longer}
+use Rattle.cordyceps_many.proofs.Fewer.{no_longer}
 use Rattle.cordyceps_map.proofs.ShownNodes.{shown_value}
-use Rattle.cordyceps_map.proofs.ValueAt.{value_in}
+use Rattle.cordyceps_many.proofs.ValueAt.{value_in}
 
 last_joined : (o : Option Ptr) (s : List Ptr) (p : Ptr) → last_spot o (s ++ p ∷ []) ≡ Some p
 last_joined o [] p = refl

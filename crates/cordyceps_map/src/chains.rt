@@ -174,7 +174,7 @@ pub(crate) fn fill<K: Eq + Hash, V, H: Hooks, S: BuildHasher>(
     ensures shows { shown nodes.new.nodes ≡ shown nodes.old.nodes }
     ensures lists { nodes.new.lists ≡ nodes.old.lists }
 {
-    let mut at = nodes.first(0);
+    let mut at = nodes.front(0);
     while let Some(spot) = at {
         // for the proof: a list has a spot only once, and only those of nodes
         nodes.lists_agree();

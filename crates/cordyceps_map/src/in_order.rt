@@ -49,8 +49,8 @@ impl<'a, K, V, O: Order<V>> Order<Entry<K, V>> for ByValue<'a, O> {
 impl<K: Eq + Hash, V, H: Hooks, S: BuildHasher> StableMap<K, V, H, S> {
     /// Links the node at `at` in list `i`, by an order of the values, after the last node that is not greater, so after
     /// its equals, or at the front if all are greater. A list that was in order is in order afterwards. Requires that
-    /// `at` is valid, that the node is not in the list, and a length below `usize::MAX`. If the order is a function of
-    /// the caller's, it requires as well that the function can be called and is a total preorder.
+    /// `at` is valid, and that the node is not in the list. If the order is a function of the caller's, it requires as
+    /// well that the function can be called and is a total preorder.
     ///
     /// # Complexity
     /// O(k + 1), where k is the number of nodes of list `i` that are greater, and so O(1) if none is: it compares with
@@ -60,7 +60,6 @@ impl<K: Eq + Hash, V, H: Hooks, S: BuildHasher> StableMap<K, V, H, S> {
         requires within { i < H.count }
         requires there { HasSpot self.old.nodes at }
         requires not_in { is_in at (list_at i self.old.lists) ≡ false }
-        requires fits { length (list_at i self.old.lists) < usize.MAX }
         requires order { O.can_compare order.now }
         ensures nodes { self.new.nodes ≡ self.old.nodes }
         ensures list { IsPutInOrder (O.compares_by order.now) (valued self.old.nodes) at (list_at i self.old.lists)

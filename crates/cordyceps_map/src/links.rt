@@ -28,27 +28,27 @@ impl<K: Eq + Hash, V, H: Hooks, S: BuildHasher> StableMap<K, V, H, S> {
     ///
     /// # Complexity
     /// O(1).
-    pub fn first(&self, i: usize) -> Option<Spot>
+    pub fn front(&self, i: usize) -> Option<Spot>
         requires within { i < H.count }
         ensures first { MatchOption result (list_at i self.now.lists ≡ [])
             (λ p. IsFirstOf (list_at i self.now.lists) p) }
         ensures there { IfSome result (λ p. HasSpot self.now.nodes p) }
         ensures in_list { IfSome result (λ p. is_in p (list_at i self.now.lists) ≡ true) }
     {
-        self.nodes.first(i)
+        self.nodes.front(i)
     }
 
     /// Returns the spot of the last node of list `i`, or `None` if the list is empty.
     ///
     /// # Complexity
     /// O(1).
-    pub fn last(&self, i: usize) -> Option<Spot>
+    pub fn back(&self, i: usize) -> Option<Spot>
         requires within { i < H.count }
         ensures last { MatchOption result (list_at i self.now.lists ≡ []) (λ p. IsLastOf (list_at i self.now.lists) p) }
         ensures there { IfSome result (λ p. HasSpot self.now.nodes p) }
         ensures in_list { IfSome result (λ p. is_in p (list_at i self.now.lists) ≡ true) }
     {
-        self.nodes.last(i)
+        self.nodes.back(i)
     }
 
     /// Returns the spot after `at` in list `i`, or `None` if the last node of that is at `at`. Requires that the node
@@ -83,8 +83,8 @@ impl<K: Eq + Hash, V, H: Hooks, S: BuildHasher> StableMap<K, V, H, S> {
         self.nodes.prev(i, at)
     }
 
-    /// Links the node at `at` at the back of list `i`. Requires that `at` is valid, that the node is not in the list,
-    /// and a length below `usize::MAX`.
+    /// Links the node at `at` at the back of list `i`. Requires that `at` is valid, and that the node is not in the
+    /// list.
     ///
     /// # Complexity
     /// O(1).
@@ -92,7 +92,6 @@ impl<K: Eq + Hash, V, H: Hooks, S: BuildHasher> StableMap<K, V, H, S> {
         requires within { i < H.count }
         requires there { HasSpot self.old.nodes at }
         requires not_in { is_in at (list_at i self.old.lists) ≡ false }
-        requires fits { length (list_at i self.old.lists) < usize.MAX }
         ensures nodes { self.new.nodes ≡ self.old.nodes }
         ensures list { list_at i self.new.lists ≡ list_at i self.old.lists ++ at ∷ [] }
         ensures others { OthersStay i self.old self.new }
@@ -102,8 +101,8 @@ impl<K: Eq + Hash, V, H: Hooks, S: BuildHasher> StableMap<K, V, H, S> {
         self.nodes.link_back(i, at);
     }
 
-    /// Links the node at `at` at the front of list `i`. Requires that `at` is valid, that the node is not in the list,
-    /// and a length below `usize::MAX`.
+    /// Links the node at `at` at the front of list `i`. Requires that `at` is valid, and that the node is not in the
+    /// list.
     ///
     /// # Complexity
     /// O(1).
@@ -111,7 +110,6 @@ impl<K: Eq + Hash, V, H: Hooks, S: BuildHasher> StableMap<K, V, H, S> {
         requires within { i < H.count }
         requires there { HasSpot self.old.nodes at }
         requires not_in { is_in at (list_at i self.old.lists) ≡ false }
-        requires fits { length (list_at i self.old.lists) < usize.MAX }
         ensures nodes { self.new.nodes ≡ self.old.nodes }
         ensures list { list_at i self.new.lists ≡ at ∷ list_at i self.old.lists }
         ensures others { OthersStay i self.old self.new }
@@ -121,8 +119,8 @@ impl<K: Eq + Hash, V, H: Hooks, S: BuildHasher> StableMap<K, V, H, S> {
         self.nodes.link_front(i, at);
     }
 
-    /// Links the node at `at` before the one at `other` in list `i`. Requires that `at` is valid, that the list has the
-    /// node at `other` and not that at `at`, and a length below `usize::MAX`.
+    /// Links the node at `at` before the one at `other` in list `i`. Requires that `at` is valid, and that the list has
+    /// the node at `other` and not that at `at`.
     ///
     /// # Complexity
     /// O(1).
@@ -131,7 +129,6 @@ impl<K: Eq + Hash, V, H: Hooks, S: BuildHasher> StableMap<K, V, H, S> {
         requires there { HasSpot self.old.nodes at }
         requires not_in { is_in at (list_at i self.old.lists) ≡ false }
         requires in_list { is_in other (list_at i self.old.lists) ≡ true }
-        requires fits { length (list_at i self.old.lists) < usize.MAX }
         ensures nodes { self.new.nodes ≡ self.old.nodes }
         ensures list { list_at i self.new.lists ≡ with_before other at (list_at i self.old.lists) }
         ensures others { OthersStay i self.old self.new }
@@ -141,8 +138,8 @@ impl<K: Eq + Hash, V, H: Hooks, S: BuildHasher> StableMap<K, V, H, S> {
         self.nodes.link_before(i, at, other);
     }
 
-    /// Links the node at `at` after the one at `other` in list `i`. Requires that `at` is valid, that the list has the
-    /// node at `other` and not that at `at`, and a length below `usize::MAX`.
+    /// Links the node at `at` after the one at `other` in list `i`. Requires that `at` is valid, and that the list has
+    /// the node at `other` and not that at `at`.
     ///
     /// # Complexity
     /// O(1).
@@ -151,7 +148,6 @@ impl<K: Eq + Hash, V, H: Hooks, S: BuildHasher> StableMap<K, V, H, S> {
         requires there { HasSpot self.old.nodes at }
         requires not_in { is_in at (list_at i self.old.lists) ≡ false }
         requires in_list { is_in other (list_at i self.old.lists) ≡ true }
-        requires fits { length (list_at i self.old.lists) < usize.MAX }
         ensures nodes { self.new.nodes ≡ self.old.nodes }
         ensures list { list_at i self.new.lists ≡ with_after other at (list_at i self.old.lists) }
         ensures others { OthersStay i self.old self.new }
@@ -252,7 +248,7 @@ impl<K: Eq + Hash, V, H: Hooks, S: BuildHasher> StableMap<K, V, H, S> {
     ///
     /// # Complexity
     /// O(1).
-    pub fn pop_front(&mut self, i: usize) -> Option<Spot>
+    pub fn unlink_front(&mut self, i: usize) -> Option<Spot>
         requires not_all { 0 < i }
         requires within { i < H.count }
         ensures nodes { self.new.nodes ≡ self.old.nodes }
@@ -263,6 +259,6 @@ impl<K: Eq + Hash, V, H: Hooks, S: BuildHasher> StableMap<K, V, H, S> {
         ensures there { IfSome result (λ p. HasSpot self.new.nodes p) }
         ensures kept { (p : Ptr) → HasSpot self.old.nodes p → HasSpot self.new.nodes p }
     {
-        self.nodes.pop_front(i)
+        self.nodes.unlink_front(i)
     }
 }

@@ -34,7 +34,7 @@ ghost use denote.RawPtr.{Ptr};
 ghost use Rattle.cordyceps_base.specs.BySpot.{HasSpot, HoldsAt, IsTaken};
 ghost use Rattle.cordyceps_many.specs.MultiList.{list_at, HasNumber};
 ghost use Rattle.cordyceps_many.specs.Threads.{is_in, without};
-ghost use Rattle.cordyceps_map.specs.StableMap.{pairs, AreApart, IsFound, IsRemoved, IsInserted};
+ghost use Rattle.cordyceps_map.specs.StableMap.{pairs, AreSound, IsFound, IsRemoved, IsInserted};
 ghost use Rattle.cordyceps_map.specs.Chains.{IsEmptyTable};
 
 use crate::chains::{bucket_of, enter, fill, leave, place_of, take_out};
@@ -312,9 +312,6 @@ impl<K: Eq + Hash, V, H: Hooks, S: BuildHasher> StableMap<K, V, H, S> {
 }
 
 impl<K: Eq + Hash, V, H: Hooks, S: BuildHasher> StableMap<K, V, H, S> {
-    ghost use Rattle.cordyceps_base.specs.Nodes.{spots};
-    ghost use Rattle.cordyceps_base.specs.Spots.{AreDistinct, AreNullComparable};
-
     /// Does nothing when the program runs. Its contract states that no two nodes are at one spot or have equal keys,
     /// that no spot is null, that each list has a spot only once, and only spots of nodes, and that list 0 has all of
     /// these.
@@ -322,12 +319,7 @@ impl<K: Eq + Hash, V, H: Hooks, S: BuildHasher> StableMap<K, V, H, S> {
     /// # Complexity
     /// O(1).
     pub fn lists_agree(&self)
-        ensures distinct { AreDistinct (spots self.now.nodes) }
-        ensures comparable { AreNullComparable (spots self.now.nodes) }
-        ensures once { (i : ℕ) → AreDistinct (list_at i self.now.lists) }
-        ensures inside { (i : ℕ) (p : Ptr) → is_in p (list_at i self.now.lists) ≡ true → HasSpot self.now.nodes p }
-        ensures all { (p : Ptr) → HasSpot self.now.nodes p → is_in p (list_at 0 self.now.lists) ≡ true }
-        ensures apart { AreApart K.eq self.now.nodes }
+        ensures { AreSound K.eq self.now }
     {
         self.nodes.lists_agree();
     }

@@ -1,7 +1,8 @@
 -- What the writer of a journal receives, and what a sink writes of it.
 use Rattle.std.proofs.Common.{◌≡◌, ℕ, suc, ◌+◌, ◌<◌, ◌^◌, List, [], ◌∷◌, ◌++◌, length, map, Bool, true, false, refl, sym, ap, ◌∙◌, subst, append_assoc, inl, inr, arith}
 use Rattle.std.proofs.lemmas.List.{append-nil, length-append}
-use Rattle.cordyceps.specs.Channels.Channels.{Receives, AreAmong, sent, received}
+use Rattle.std.specs.Prelude.{Result, Ok, Err, MatchResult}
+use Rattle.cordyceps.specs.Channels.Channels.{Receives, ReceivesBatch, IsOver, AreAmong, sent, received}
 use Rattle.cordyceps.specs.Elements.Element.{Element}
 use Rattle.cordyceps.specs.Parties.Histories.{plain}
 use Rattle.cordyceps.specs.Parties.Interleaving.{Interleaves}
@@ -9,6 +10,7 @@ use Rattle.cordyceps.specs.Parties.Knowing.{IsPrefixOf}
 use Rattle.cordyceps.specs.Queues.Calls.{PartyOf}
 use Rattle.cordyceps.proofs.Parties.Interleaving.{all_left, all_right, only_left, interleaves_append}
 use Rattle.cordyceps.proofs.Channels.Among.{sent_among}
+use Rattle.cordyceps.proofs.Channels.Missing.{batch_then}
 use Rattle.cordyceps_shared_uses.specs.Journal.{Runs, Writes, counted}
 use Rattle.cordyceps_shared_uses.specs.Journal.{Asked, Write, Flush, IsAsked, Asks, to_write, refusals}
 use Rattle.cordyceps_shared_uses.specs.Logger.{record_of}
@@ -26,6 +28,12 @@ module _ {E : Type 0} where
     elements = b.elements ∙ (ap (λ l. l ++ ys) a.elements ∙ append_assoc (received u) xs ys);
     seen = (a.seen.0 ++ b.seen.0, b.seen.1 ∙ (ap (λ l. l ++ b.seen.0) a.seen.1 ∙ append_assoc (plain u.seen) a.seen.0 b.seen.0));
   }
+
+  -- a batch after a try that got none
+  pub batch_later : {A B : Type 0} (f : E → A) (max : ℕ) (r : Result (List A) B) (u v w : PartyOf E) → Receives [] u v → MatchResult r (λ batch. ReceivesBatch f max batch v w) (λ _. Receives [] v w × IsOver w)
+      → MatchResult r (λ batch. ReceivesBatch f max batch u w) (λ _. Receives [] u w × IsOver w)
+  batch_later f max (Ok batch) u v w before h = batch_then f max batch u v w before h
+  batch_later f max (Err e) u v w before h = (receives_then u v w [] [] before h.0, h.1)
 
 -- ---- what a sink writes
 counted_then : (a b c m n : ℕ) → b ≡ counted a m → c ≡ counted b n → c ≡ counted a (m + n)

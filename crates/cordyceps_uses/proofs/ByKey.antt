@@ -12,7 +12,8 @@ use Rattle.cordyceps.specs.Spots.MultiList.{list_at}
 use Rattle.cordyceps.specs.Spots.Threads.{is_in, without, Once}
 use Rattle.cordyceps.proofs.Spots.Members.{in_has}
 use Rattle.cordyceps.proofs.Spots.Threads.{split, differ, parts, without_none, without_gone, apart}
-use Rattle.cordyceps.proofs.Spots.ValueAt.{held_value, value_in, value_joined, value_came, value_left, new_out}
+use Rattle.cordyceps.proofs.Spots.Fewer.{new_out}
+use Rattle.cordyceps.proofs.Spots.ValueAt.{held_value, value_in, value_joined, value_came, value_left}
 use Rattle.cordyceps.specs.Spots.StableMap.{Mapped, pairs, IsFound, IsInserted, IsAdded}
 use Rattle.cordyceps_uses.specs.Keyed.{in_order, order, moved_back, IsSound, IsAt, IsTakenOut, IsPut}
 use Rattle.cordyceps_uses.proofs.Ordered.{none_passes, found_past, cut_past, none_cut, passes, unlike, moved_here, order_joined, order_mid, framed, all_of}

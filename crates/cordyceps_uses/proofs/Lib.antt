@@ -4,6 +4,7 @@ mod ByKey
 mod Draining
 mod HandedOver
 mod Idlest
+mod Indexed
 mod Ordered
 mod Placing
 mod Renewing

@@ -1,30 +1,23 @@
 -- What the calls of a table of tasks leave of it.
-use Rattle.std.proofs.Common.{◌≡◌, ◌≤◌, ℕ, suc, Bool, true, false, cond, if◌then◌else◌, List, [], ◌∷◌, ◌++◌, length, slice_get, Option, Some, None, is_some, nat_eq, refl, sym, ap, ◌∙◌, subst, arith}
+use Rattle.std.proofs.Common.{◌≡◌, ℕ, Bool, true, false, cond, if◌then◌else◌, List, [], ◌∷◌, ◌++◌, slice_get, Option, Some, None, is_some, nat_eq, refl, sym, ap, ◌∙◌, subst, arith}
 use Rattle.std.specs.Prelude.{IfSome}
 use Rattle.std.specs.Map.{lookup_entry, remove_entry}
 use denote.RawPtr.{Ptr}
 use Rattle.cordyceps.specs.Elements.Nodes.{Nodes}
-use Rattle.cordyceps.specs.Spots.BySpot.{HasSpot}
 use Rattle.cordyceps.specs.Spots.Spots.{same_ptr}
 use Rattle.cordyceps.proofs.Spots.{same_ptr_eq}
 use Rattle.cordyceps.specs.Spots.Entries.{value_at}
 use Rattle.cordyceps.specs.Spots.MultiList.{list_at, SameBut, IsFirstOf}
 use Rattle.cordyceps.specs.Spots.StableMap.{Mapped}
-use Rattle.cordyceps.specs.Spots.Threads.{is_in, without, Once}
+use Rattle.cordyceps.specs.Spots.Threads.{is_in, without}
 use Rattle.cordyceps.proofs.Spots.Members.{in_self, other_mid}
-use Rattle.cordyceps.proofs.Spots.Threads.{split, differ, other_way, in_there, in_more, not_in_both, length_without, without_other, without_gone}
+use Rattle.cordyceps.proofs.Spots.Threads.{split, differ, other_way, in_there, in_more, not_in_both, without_other, without_gone}
 use Rattle.cordyceps_uses.specs.Keyed.{with_value, in_order, order, AreFrom, HasAt, IsAt, IsSound, IsPlaced, IsTakenOut, IsPut, IsLinkedIn}
 use Rattle.cordyceps_uses.specs.declared.task_table.State.TheVariants.{Ready, Waiting, Running}
 use Rattle.cordyceps_uses.specs.TaskTable.{Entry, priority, task, others, state, running, without_task, waits, shown, IsReadied, IsSpawned, IsTable}
 use Rattle.cordyceps_uses.proofs.ByKey.{once_of, order_without, linked_is, absent_in, spot_apart, found_by}
 use Rattle.cordyceps_uses.proofs.Ordered.{passes, none_cut, from_less, from_cut, order_here, order_mid}
 use Rattle.cordyceps_uses.proofs.Placing.{order_other}
-
-no_longer : (s t : List Ptr) → Once s → ((q : Ptr) → is_in q s ≡ true → is_in q t ≡ true) → length s ≤ length t
-no_longer [] t o i = omega arith
-no_longer (x ∷ s) t o i =
-    let rest = no_longer s (without x t) o.1 (λ q e. without_other x q t (other_way q x (differ q x s e o.0)) ∙ i q (in_more q x s e)) in
-    let long = length_without x t (i x (in_self x s)) in omega (arith, rest, long)
 
 -- an entry that a list has is at one of its spots
 pub record AtSpot {X : Type 0} (c : Nodes X) (l : List Ptr) (x : X) : Type 0 where
@@ -44,12 +37,6 @@ entry_at t c [] x e = absurd cc
 entry_at t c (p ∷ l) x e = entry_by t c p l x (entry_at t c l x) (value_at c p) refl e
 
 module _ {T : Type 0} (m : Mapped (Entry T)) (s : IsSound nat_eq m) where
-  -- a list that a node is not in has room for it
-  pub room : (i : ℕ) (p : Ptr) → HasSpot m.nodes p → is_in p (list_at i m.lists) ≡ false → suc (length (list_at i m.lists)) ≤ length (list_at 0 m.lists)
-  room i p h out = no_longer (p ∷ list_at i m.lists) (list_at 0 m.lists) (out, once_of (list_at i m.lists) (s.once i)) (λ q e. split (same_ptr p q)
-      (λ same. subst (λ z. is_in z (list_at 0 m.lists) ≡ true) (same_ptr_eq p q same) (s.all p h))
-      (λ other. s.all q (s.inside i q (sym (in_there q p (list_at i m.lists) (other_way p q other)) ∙ e))))
-
   -- ---- what a task does
   told : (pid : ℕ) (p : Ptr) → IsAt nat_eq 0 m pid p → (i : ℕ) (b : Bool) → is_in p (list_at i m.lists) ≡ b → is_some (task pid (order i m)) ≡ b
   told pid p a i b e = sym (linked_is nat_eq m s p a.entry a.value i pid a.same) ∙ e

@@ -5,6 +5,7 @@ pub mod Keyed
 pub mod Ranks
 pub mod Recency
 pub mod RecencyLends
+pub mod Sessions
 pub mod TaskTable
 pub mod Tasks
 pub mod TimerWheel

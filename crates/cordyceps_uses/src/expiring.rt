@@ -270,8 +270,6 @@ fn set_until<K: Eq + Hash, V, S: BuildHasher>(
         ++ with_until until x ∷ []) at }
 {
     lists_agree(map);
-    // for the proof: list 1 is as long as list 0, whose length fits
-    let _len = map.len();
     map.unlink(1, at);
     map.value_at_mut(at).until = until;
     lists_agree(map);
@@ -302,7 +300,7 @@ fn first_expired<K: Eq + Hash, V, S: BuildHasher>(map: &Nodes<K, V, S>, now: u64
     ensures there { IfSome result (λ p. HasSpot map.now.nodes p) }
 {
     lists_agree(map);
-    let at = map.first(1)?;
+    let at = map.front(1)?;
     if value_of(map, at).until <= now {
         Some(at)
     } else {
@@ -321,7 +319,7 @@ fn victim<K: Eq + Hash, V, S: BuildHasher>(map: &Nodes<K, V, S>, now: u64) -> Op
     lists_agree(map);
     match first_expired(map, now) {
         Some(at) => Some(at),
-        None => map.first(0),
+        None => map.front(0),
     }
 }
 

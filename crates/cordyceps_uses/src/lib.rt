@@ -9,6 +9,7 @@ mod keyed;
 pub mod pooled_queue;
 mod ranked;
 pub mod recency;
+pub mod sessions;
 pub mod task_table;
 pub mod tasks;
 pub mod timer_wheel;

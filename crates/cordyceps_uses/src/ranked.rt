@@ -1,5 +1,5 @@
 //! Lists of a map that are in the order of a rank of their values, the least first, and equals as they came.
-ghost use Rattle.std.specs.Prelude.{◌≡◌, ◌<◌, ◌≤◌, ℕ, suc, length, true, false, MatchOption, IfSome};
+ghost use Rattle.std.specs.Prelude.{◌≡◌, ◌<◌, ◌≤◌, ℕ, suc, true, false, MatchOption, IfSome};
 ghost use Rattle.cordyceps.specs.Spots.BySpot.{HasSpot};
 ghost use Rattle.cordyceps.specs.Spots.MultiList.{list_at};
 ghost use Rattle.cordyceps.specs.Spots.Threads.{is_in};
@@ -28,7 +28,6 @@ pub(crate) fn link_by_rank<K: Eq + Hash, V: Ranked, H: Hooks, S: BuildHasher>(
     requires within { i < H.count }
     requires there { HasSpot map.old.nodes at }
     requires not_in { is_in at (list_at i map.old.lists) ≡ false }
-    requires fits { length (list_at i map.old.lists) < usize.MAX }
     requires sorted { AreFrom V.rank 0 (order i map.old) }
     ensures { IsLinkedIn V.rank i map.old at map.new }
 {
@@ -53,7 +52,7 @@ fn place_by_rank<K: Eq + Hash, V: Ranked, H: Hooks, S: BuildHasher>(
     ensures in_list { IfSome result (λ p. is_in p (list_at i map.now.lists) ≡ true) }
 {
     lists_agree(map);
-    let mut at = map.last(i);
+    let mut at = map.back(i);
     while let Some(spot) = at {
         if value_of(map, spot).rank() <= most {
             return Some(spot);

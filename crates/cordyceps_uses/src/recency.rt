@@ -216,6 +216,6 @@ fn make_room<K: Eq + Hash + Drop, V: Drop, S: BuildHasher>(
     if count(map) < capacity {
         return None;
     }
-    let at = map.first(0)?;
+    let at = map.front(0)?;
     Some(take_out(map, at).into_pair())
 }

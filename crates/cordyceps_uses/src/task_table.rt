@@ -170,7 +170,7 @@ impl<T, S: BuildHasher> TaskTable<T, S> {
             (λ x. IsReadied self.old x self.new) }
     {
         lists_agree(&self.map);
-        let at = self.map.first(2)?;
+        let at = self.map.front(2)?;
         make_ready(&mut self.map, at);
         Some(number_at(&self.map, at))
     }
@@ -187,7 +187,7 @@ impl<T, S: BuildHasher> TaskTable<T, S> {
         ensures waiting { self.new.waiting ≡ self.old.waiting }
     {
         lists_agree(&self.map);
-        let at = self.map.pop_front(1)?;
+        let at = self.map.unlink_front(1)?;
         Some(number_at(&self.map, at))
     }
 
@@ -305,8 +305,6 @@ fn make_ready<T, S: BuildHasher>(map: &mut Nodes<T, S>, at: Spot)
     ensures table { IsTable map.new }
 {
     lists_agree(map);
-    // for the proof: a list is no longer than list 0, whose length fits
-    let _len = map.len();
     map.ensure_unlinked(2, at);
     link_by_rank(map, 1, at);
 }
@@ -320,8 +318,6 @@ fn make_wait<T, S: BuildHasher>(map: &mut Nodes<T, S>, at: Spot)
     ensures table { IsTable map.new }
 {
     lists_agree(map);
-    // for the proof: a list is no longer than list 0, whose length fits
-    let _len = map.len();
     map.unlink(1, at);
     map.link_back(2, at);
 }

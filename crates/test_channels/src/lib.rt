@@ -10,6 +10,8 @@ mod compared;
 #[cfg(test)]
 mod crowds;
 #[cfg(test)]
+mod in_a_row;
+#[cfg(test)]
 mod memory;
 #[cfg(test)]
 mod one_thread;

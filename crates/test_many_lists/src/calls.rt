@@ -26,7 +26,7 @@ pub fn spot_at<H: Hooks>(rt: &impl Abort, lists: &Lists<H>, i: usize, at: usize)
     ensures there { HasSpot lists.now.nodes result }
     ensures in_list { is_in result (list_at i lists.now.lists) ≡ true }
 {
-    let mut spot = lists.first(i).expect(rt, "the list has a node");
+    let mut spot = lists.front(i).expect(rt, "the list has a node");
     for _ in 0..at {
         spot = lists.next(i, spot).expect(rt, "the list has such a place");
     }
@@ -48,7 +48,7 @@ fn list_holds<H: Hooks>(rt: &impl Abort, lists: &Lists<H>, i: usize, plain: &Pla
         lists.iter(i).size_hint(),
         (numbers.len(), Some(numbers.len())),
     );
-    let mut at = lists.first(i);
+    let mut at = lists.front(i);
     for number in numbers {
         let spot = at.expect(rt, "a walk meets each node");
         same(
@@ -59,7 +59,7 @@ fn list_holds<H: Hooks>(rt: &impl Abort, lists: &Lists<H>, i: usize, plain: &Pla
         at = lists.next(i, spot);
     }
     same(rt, at.is_none(), true);
-    let mut at = lists.last(i);
+    let mut at = lists.back(i);
     for number in numbers.iter().rev() {
         let spot = at.expect(rt, "a walk back meets each node");
         same(rt, lists.id(spot), *number);
@@ -72,7 +72,7 @@ fn list_holds<H: Hooks>(rt: &impl Abort, lists: &Lists<H>, i: usize, plain: &Pla
 fn marks_hold<H: Hooks>(rt: &impl Abort, lists: &Lists<H>, i: usize, plain: &Plain)
     requires { i < H.count }
 {
-    let mut at = lists.first(0);
+    let mut at = lists.front(0);
     for number in plain.list(0) {
         let spot = at.expect(rt, "a walk meets each node");
         same(rt, lists.is_linked(i, spot), plain.has(i, *number));
@@ -102,7 +102,6 @@ fn link_end<H: Hooks>(
     requires { i < H.count }
 {
     let spot = spot_at(rt, lists, 0, at);
-    at_most(rt, lists.len(i), LONGEST);
     if lists.is_linked(i, spot) {
         return Reply::NotMade;
     }
@@ -126,7 +125,6 @@ fn link_beside<H: Hooks>(
 {
     let spot = spot_at(rt, lists, 0, places.0);
     let other = spot_at(rt, lists, 0, places.1);
-    at_most(rt, lists.len(i), LONGEST);
     if lists.is_linked(i, spot) || !lists.is_linked(i, other) {
         return Reply::NotMade;
     }
@@ -143,7 +141,6 @@ fn link_in_order<H: Hooks>(rt: &impl Abort, lists: &mut Lists<H>, i: usize, at: 
     requires { i < H.count }
 {
     let spot = spot_at(rt, lists, 0, at);
-    at_most(rt, lists.len(i), LONGEST);
     if lists.is_linked(i, spot) {
         return Reply::NotMade;
     }
@@ -199,13 +196,13 @@ fn unlink<H: Hooks>(
 }
 
 /// Takes the first node of list `i` out of that, unless that is list 0.
-fn pop_front<H: Hooks>(lists: &mut Lists<H>, i: usize) -> Reply
+fn unlink_front<H: Hooks>(lists: &mut Lists<H>, i: usize) -> Reply
     requires { i < H.count }
 {
     if i == 0 {
         return Reply::NotMade;
     }
-    match lists.pop_front(i) {
+    match lists.unlink_front(i) {
         Some(spot) => Reply::At(Some(lists.id(spot))),
         None => Reply::At(None),
     }
@@ -238,9 +235,9 @@ fn relink<H: Hooks>(rt: &impl Abort, lists: &mut Lists<H>, last: usize, call: Ca
             at_most(rt, i, last);
             unlink(rt, lists, i, at, false)
         }
-        Call::PopFront(i) => {
+        Call::UnlinkFront(i) => {
             at_most(rt, i, last);
-            pop_front(lists, i)
+            unlink_front(lists, i)
         }
         _ => Reply::NotMade,
     }
@@ -297,9 +294,9 @@ pub fn reply<H: Hooks>(
             let spot = spot_at(rt, lists, 0, at);
             out(lists.remove(spot))
         }
-        Call::TakeFirst(i) => {
+        Call::PopFront(i) => {
             at_most(rt, i, last);
-            match lists.take_first(i) {
+            match lists.pop_front(i) {
                 Some(node) => out(node),
                 None => Reply::Out(None),
             }

@@ -12,8 +12,8 @@ use test_support::counted::{Counted, Drops};
 
 /// Calls of three lists that are empty at first, and what they reply.
 const CALLS: &[(Call, Reply)] = &[
-    (Call::TakeFirst(0), Reply::Out(None)),
-    (Call::PopFront(1), Reply::At(None)),
+    (Call::PopFront(0), Reply::Out(None)),
+    (Call::UnlinkFront(1), Reply::At(None)),
     (Call::Insert((0, 50)), Reply::Done),
     (Call::Insert((1, 51)), Reply::Done),
     (Call::Insert((2, 52)), Reply::Done),
@@ -34,21 +34,21 @@ const CALLS: &[(Call, Reply)] = &[
     (Call::Unlink(1, 3), Reply::Done),
     (Call::Unlink(1, 3), Reply::NotMade),
     (Call::EnsureUnlinked(1, 3), Reply::Done),
-    (Call::PopFront(2), Reply::At(Some(3))),
+    (Call::UnlinkFront(2), Reply::At(Some(3))),
     // list 1 is 1 0 2
     (Call::MoveToBack(1, 1), Reply::Done),
     (Call::MoveToFront(1, 2), Reply::Done),
     (Call::Write(2, 99), Reply::Done),
     // list 1 is 2 0 1, and list 2 is 2
-    (Call::TakeFirst(2), Reply::Out(Some((2, 99)))),
-    (Call::PopFront(1), Reply::At(Some(0))),
+    (Call::PopFront(2), Reply::Out(Some((2, 99)))),
+    (Call::UnlinkFront(1), Reply::At(Some(0))),
     (Call::UnlinkOthers(1), Reply::Done),
-    (Call::PopFront(1), Reply::At(None)),
+    (Call::UnlinkFront(1), Reply::At(None)),
     (Call::MoveToFront(0, 2), Reply::Done),
     (Call::Remove(0), Reply::Out(Some((3, 53)))),
-    (Call::TakeFirst(0), Reply::Out(Some((0, 50)))),
+    (Call::PopFront(0), Reply::Out(Some((0, 50)))),
     (Call::Clear, Reply::Done),
-    (Call::TakeFirst(0), Reply::Out(None)),
+    (Call::PopFront(0), Reply::Out(None)),
     // list 1 is in order, and of two equals the one that was linked first comes first: 5 7 6 4
     (Call::Insert((4, 7)), Reply::Done),
     (Call::Insert((5, 3)), Reply::Done),
@@ -59,20 +59,20 @@ const CALLS: &[(Call, Reply)] = &[
     (Call::LinkInOrder(1, 1), Reply::Done),
     (Call::LinkInOrder(1, 3), Reply::Done),
     (Call::LinkInOrder(1, 3), Reply::NotMade),
-    (Call::PopFront(1), Reply::At(Some(5))),
-    (Call::PopFront(1), Reply::At(Some(7))),
-    (Call::PopFront(1), Reply::At(Some(6))),
-    (Call::PopFront(1), Reply::At(Some(4))),
-    (Call::PopFront(1), Reply::At(None)),
+    (Call::UnlinkFront(1), Reply::At(Some(5))),
+    (Call::UnlinkFront(1), Reply::At(Some(7))),
+    (Call::UnlinkFront(1), Reply::At(Some(6))),
+    (Call::UnlinkFront(1), Reply::At(Some(4))),
+    (Call::UnlinkFront(1), Reply::At(None)),
     // in a list that is not in order, a node goes after the last that is not greater
     (Call::LinkBack(2, 0), Reply::Done),
     (Call::LinkBack(2, 1), Reply::Done),
     (Call::LinkBack(2, 2), Reply::Done),
     (Call::LinkInOrder(2, 3), Reply::Done),
-    (Call::PopFront(2), Reply::At(Some(4))),
-    (Call::PopFront(2), Reply::At(Some(5))),
-    (Call::PopFront(2), Reply::At(Some(7))),
-    (Call::PopFront(2), Reply::At(Some(6))),
+    (Call::UnlinkFront(2), Reply::At(Some(4))),
+    (Call::UnlinkFront(2), Reply::At(Some(5))),
+    (Call::UnlinkFront(2), Reply::At(Some(7))),
+    (Call::UnlinkFront(2), Reply::At(Some(6))),
 ];
 
 #[test]
@@ -150,7 +150,7 @@ fn each_value_is_dropped_once(rt: HostRuntime) -> Result<(), AllocError> {
         lists.link_front(1, spot);
     }
     same(&rt, drops.count(), 0);
-    drop(lists.take_first(1));
+    drop(lists.pop_front(1));
     same(&rt, drops.count(), 1);
     lists.clear();
     same(&rt, drops.count(), 4);

@@ -28,7 +28,7 @@ fn drawn(draws: &mut Draws, len: usize, last: usize, number: u64) -> Call {
     match draws.below(22) {
         0 | 1 | 2 if len < MOST => Call::Insert((number, value % 8)),
         0 => Call::Remove(at),
-        1 => Call::TakeFirst(i),
+        1 => Call::PopFront(i),
         2 => Call::UnlinkOthers(at),
         3 => Call::Write(at, value),
         4 | 5 => Call::LinkBack(i, at),
@@ -44,7 +44,7 @@ fn drawn(draws: &mut Draws, len: usize, last: usize, number: u64) -> Call {
         // few values are drawn, so that some are equal
         18 => Call::Write(at, value % 8),
         20 | 21 => Call::LinkInOrder(i, at),
-        _ => Call::PopFront(i),
+        _ => Call::UnlinkFront(i),
     }
 }
 

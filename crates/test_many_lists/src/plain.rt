@@ -14,7 +14,7 @@ pub enum Call {
     /// Removes the node at this place.
     Remove(usize),
     /// Removes the first node of this list.
-    TakeFirst(usize),
+    PopFront(usize),
     Clear,
     /// Writes the value of the node at this place.
     Write(usize, u64),
@@ -31,7 +31,7 @@ pub enum Call {
     UnlinkOthers(usize),
     MoveToBack(usize, usize),
     MoveToFront(usize, usize),
-    PopFront(usize),
+    UnlinkFront(usize),
 }
 
 /// What a call replies.
@@ -183,7 +183,7 @@ impl Plain {
                 self.remove(pair.0, 0);
                 Reply::Out(Some(pair))
             }
-            Call::TakeFirst(i) => {
+            Call::PopFront(i) => {
                 let Some(number) = self.list(i).first() else {
                     return Reply::Out(None);
                 };
@@ -259,7 +259,7 @@ impl Plain {
                 self.remove(self.number(rt, at), 1);
                 Reply::Done
             }
-            Call::PopFront(i) => {
+            Call::UnlinkFront(i) => {
                 if i == 0 {
                     return Reply::NotMade;
                 }

@@ -24,16 +24,6 @@ const LONGEST: usize = 10_000;
 /// A map from numbers to numbers.
 pub type Map<H> = StableMap<u64, u64, H, Seeded>;
 
-/// Fails where list `i` may be too long for another node. No list is longer than list 0.
-fn room<H: Hooks>(rt: &impl Abort, map: &Map<H>, i: usize)
-    requires { i < H.count }
-    ensures { length (list_at i map.now.lists) < usize.MAX }
-{
-    // for the proof: list `i` has a spot only once, and only spots of list 0
-    map.lists_agree();
-    at_most(rt, map.len(), LONGEST);
-}
-
 /// Returns the key at a spot.
 fn key_of<H: Hooks>(map: &Map<H>, at: Option<Spot>) -> Option<u64>
     requires { IfSome at (λ p. HasSpot map.now.nodes p) }
@@ -74,7 +64,7 @@ fn list_holds<H: Hooks>(rt: &impl Abort, map: &Map<H>, i: usize, plain: &Plain)
     let keys = plain.list(i);
     same(
         rt,
-        (key_of(map, map.first(i)), key_of(map, map.last(i))),
+        (key_of(map, map.front(i)), key_of(map, map.back(i))),
         (keys.first().copied(), keys.last().copied()),
     );
     for (at, key) in keys.iter().enumerate() {
@@ -113,7 +103,7 @@ pub fn holds<H: Hooks>(rt: &impl Abort, map: &Map<H>, last: usize, plain: &Plain
 }
 
 /// Links the node of a key at an end of list `i`, unless it is in that.
-fn link_end<H: Hooks>(rt: &impl Abort, map: &mut Map<H>, i: usize, key: u64, is_back: bool) -> Reply
+fn link_end<H: Hooks>(map: &mut Map<H>, i: usize, key: u64, is_back: bool) -> Reply
     requires { i < H.count }
 {
     let Some(spot) = map.find(&key) else {
@@ -122,7 +112,6 @@ fn link_end<H: Hooks>(rt: &impl Abort, map: &mut Map<H>, i: usize, key: u64, is_
     if map.is_linked(i, spot) {
         return Reply::NotMade;
     }
-    room(rt, map, i);
     if is_back {
         map.link_back(i, spot);
     } else {
@@ -132,13 +121,7 @@ fn link_end<H: Hooks>(rt: &impl Abort, map: &mut Map<H>, i: usize, key: u64, is_
 }
 
 /// Links the node of the first key beside that of the second in list `i`, unless it is in that, or the other is not.
-fn link_beside<H: Hooks>(
-    rt: &impl Abort,
-    map: &mut Map<H>,
-    i: usize,
-    keys: (u64, u64),
-    is_after: bool,
-) -> Reply
+fn link_beside<H: Hooks>(map: &mut Map<H>, i: usize, keys: (u64, u64), is_after: bool) -> Reply
     requires { i < H.count }
 {
     let Some(spot) = map.find(&keys.0) else {
@@ -150,7 +133,6 @@ fn link_beside<H: Hooks>(
     if map.is_linked(i, spot) || !map.is_linked(i, other) {
         return Reply::NotMade;
     }
-    room(rt, map, i);
     if is_after {
         map.link_after(i, spot, other);
     } else {
@@ -160,7 +142,7 @@ fn link_beside<H: Hooks>(
 }
 
 /// Links the node of a key in list `i` where the order of the values puts it, unless it is in that.
-fn link_in_order<H: Hooks>(rt: &impl Abort, map: &mut Map<H>, i: usize, key: u64) -> Reply
+fn link_in_order<H: Hooks>(map: &mut Map<H>, i: usize, key: u64) -> Reply
     requires { i < H.count }
 {
     let Some(spot) = map.find(&key) else {
@@ -169,7 +151,6 @@ fn link_in_order<H: Hooks>(rt: &impl Abort, map: &mut Map<H>, i: usize, key: u64
     if map.is_linked(i, spot) {
         return Reply::NotMade;
     }
-    room(rt, map, i);
     map.link_in_order(i, spot, &Least);
     Reply::Done
 }
@@ -223,13 +204,13 @@ fn unlink_others<H: Hooks>(map: &mut Map<H>, key: u64) -> Reply {
 }
 
 /// Takes the first node of list `i` out of that, unless that is list 0.
-fn pop_front<H: Hooks>(map: &mut Map<H>, i: usize) -> Reply
+fn unlink_front<H: Hooks>(map: &mut Map<H>, i: usize) -> Reply
     requires { i < H.count }
 {
     if i == 0 {
         return Reply::NotMade;
     }
-    let at = map.pop_front(i);
+    let at = map.unlink_front(i);
     Reply::At(key_of(map, at))
 }
 
@@ -265,9 +246,9 @@ fn relink<H: Hooks>(rt: &impl Abort, map: &mut Map<H>, last: usize, call: Call) 
             unlink(map, i, key, false)
         }
         Call::UnlinkOthers(key) => unlink_others(map, key),
-        Call::PopFront(i) => {
+        Call::UnlinkFront(i) => {
             at_most(rt, i, last);
-            pop_front(map, i)
+            unlink_front(map, i)
         }
         _ => Reply::NotMade,
     }
@@ -280,23 +261,23 @@ fn link<H: Hooks>(rt: &impl Abort, map: &mut Map<H>, last: usize, call: Call) ->
     match call {
         Call::LinkBack(i, key) => {
             at_most(rt, i, last);
-            link_end(rt, map, i, key, true)
+            link_end(map, i, key, true)
         }
         Call::LinkFront(i, key) => {
             at_most(rt, i, last);
-            link_end(rt, map, i, key, false)
+            link_end(map, i, key, false)
         }
         Call::LinkBefore(i, key, other) => {
             at_most(rt, i, last);
-            link_beside(rt, map, i, (key, other), false)
+            link_beside(map, i, (key, other), false)
         }
         Call::LinkAfter(i, key, other) => {
             at_most(rt, i, last);
-            link_beside(rt, map, i, (key, other), true)
+            link_beside(map, i, (key, other), true)
         }
         Call::LinkInOrder(i, key) => {
             at_most(rt, i, last);
-            link_in_order(rt, map, i, key)
+            link_in_order(map, i, key)
         }
         _ => relink(rt, map, last, call),
     }

@@ -42,7 +42,7 @@ fn drawn(draws: &mut Draws, buckets: usize, last: usize, number: u64) -> Call {
         17 => Call::MoveToFront(i, key),
         18 | 19 => Call::Unlink(i, key),
         20 => Call::EnsureUnlinked(i, key),
-        21 => Call::PopFront(i),
+        21 => Call::UnlinkFront(i),
         22 if value < 200 => Call::UnlinkOthers(key),
         23 if value < 200 => Call::Rehash(draws.place(buckets.min(64))),
         24 => Call::Write(key, value),

@@ -36,7 +36,7 @@ pub enum Call {
     UnlinkOthers(u64),
     MoveToBack(usize, u64),
     MoveToFront(usize, u64),
-    PopFront(usize),
+    UnlinkFront(usize),
 }
 
 /// What a call replies.
@@ -257,7 +257,7 @@ impl Plain {
                 self.unlink(key, 1);
                 Reply::Done
             }
-            Call::PopFront(i) if i > 0 => {
+            Call::UnlinkFront(i) if i > 0 => {
                 let key = self.list(i).first().copied();
                 if let Some(key) = key {
                     drop_key(self.list_mut(rt, i), key);

@@ -16,6 +16,8 @@ mod made;
 #[cfg(test)]
 mod pools;
 #[cfg(test)]
+mod sessions;
+#[cfg(test)]
 mod task_tables;
 #[cfg(test)]
 mod task_ways;

@@ -1,6 +1,6 @@
-use Rattle.std.proofs.Common.{◌≡◌, [], ◌++◌, map, refl, sym, ap, ◌∙◌, subst}
+use Rattle.std.proofs.Common.{[], ◌++◌, map, sym, ap, ◌∙◌, subst}
 use Rattle.std.proofs.lemmas.List.{append-nil, map-append}
-use Rattle.cordyceps_channel.specs.Channels.{ReceivesAs, Receives}
+use Rattle.cordyceps_channel.specs.Channels.{Receives}
 use Rattle.cordyceps_channel.proofs.Received.{receives_none, receives_then}
 use Rattle.cordyceps_channel.proofs.laws.receive_all_in_batches.Goals as goal
 

@@ -1,5 +1,5 @@
-use Rattle.cordyceps_channel.specs.Channels.{SendsNothing}
+use Rattle.cordyceps_channel.specs.Channels.{DoesNothing}
 use Rattle.cordyceps_channel.proofs.shared.give_all_back.Given as goal
 
 abbrev pub invariant-loop : goal.invariant-loop
-invariant-loop g l = SendsNothing l.initial.party l.party
+invariant-loop g l = DoesNothing l.initial.party l.party

@@ -6,14 +6,14 @@ use Rattle.cordyceps_many.specs.Threads.{is_in}
 use Rattle.cordyceps_map.specs.Chains.{hash_of}
 use Rattle.cordyceps_map.proofs.Filling.{IsFilling, begun, gone_on, fewer, among, filled}
 use Rattle.cordyceps_map.proofs.Finding.{no_some}
-use Rattle.cordyceps_map.proofs.ValueAt.{held_value}
+use Rattle.cordyceps_many.proofs.ValueAt.{held_value}
 use Rattle.cordyceps_map.proofs.Powers.{positive}
 use Rattle.cordyceps_map.proofs.chains.fill.Goals as goal
 
 pub loop-at-init : goal.loop-at-init
 loop-at-init g c =
     let hash : g.row.K.Denot → ℕ = (λ (x : g.row.K.Denot). hash_of g.S.BuildHasher g.S.Hasher.Hasher c.args.hasher.now (g.K.Hash.hash_input x)) in
-    record { way = begun hash c.args.nodes.now.nodes c.args.buckets.now (list_at 0 c.args.nodes.now.lists) c.first-at.result c.requires c.first-at.ensures.first; long = refl; shows = refl; lists = refl }
+    record { way = begun hash c.args.nodes.now.nodes c.args.buckets.now (list_at 0 c.args.nodes.now.lists) c.front-at.result c.requires c.front-at.ensures.first; long = refl; shows = refl; lists = refl }
 
 pub get-requires : goal.get-requires
 get-requires g c =

@@ -1,6 +1,6 @@
 use Rattle.std.proofs.Common.{refl, sym, subst, slice_set}
 use Rattle.cordyceps_map.specs.Chains.{IsCut}
-use Rattle.cordyceps_map.proofs.ValueAt.{held_value}
+use Rattle.cordyceps_many.proofs.ValueAt.{held_value}
 use Rattle.cordyceps_map.proofs.chains.leave.Goals as goal
 
 pub returns-in-Some-clause-cut : goal.returns-in-Some-clause-cut

@@ -9,7 +9,7 @@ use Rattle.cordyceps_map.specs.Shown.{pair_of, shown}
 use Rattle.cordyceps_map.proofs.Finding.{no_some}
 use Rattle.cordyceps_map.proofs.Looking.{absent, present}
 use Rattle.cordyceps_map.proofs.ShownNodes.{spots_shown, value_shown}
-use Rattle.cordyceps_map.proofs.ValueAt.{held_value, value_in}
+use Rattle.cordyceps_many.proofs.ValueAt.{held_value, value_in}
 use Rattle.cordyceps_map.proofs.Walking.{IsOnWay, steps, begun, met, gone_on, fewer, bounded, nowhere}
 use Rattle.cordyceps_map.proofs.chains.place_in.Goals as goal
 

@@ -1,17 +1,9 @@
-use Rattle.std.proofs.Common.{length, subst, sym, ap, arith, ◌∙◌}
+use Rattle.std.proofs.Common.{subst, sym, ap, arith, ◌∙◌}
 use Rattle.std.specs.Map.{lookup_entry}
-use Rattle.cordyceps.specs.Spots.MultiList.{list_at}
 use Rattle.cordyceps_uses.specs.Keyed.{AreFrom}
-use Rattle.cordyceps_uses.proofs.Ordered.{order_long}
 use Rattle.cordyceps_uses.proofs.Placing.{order_other}
 use Rattle.cordyceps_uses.proofs.States.{until, put_timed}
 use Rattle.cordyceps_uses.proofs.expiring.put_by_time.Goals as goal
-
-pub link_by_rank-requires-clause-fits : goal.link_by_rank-requires-clause-fits
-link_by_rank-requires-clause-fits g c =
-    let m = c.args.map.now in let same = ap length (c.put-at.ensures.put.others 1 (λ e. absurd cc)) in
-    let long = order_long m.nodes (list_at 0 m.lists) (c.lists_agree.ensures.inside 0) in let t = c.requires.timed.long in let fits = c.requires.fits in
-    omega (arith, same, long, t, fits)
 
 pub link_by_rank-requires-clause-sorted : goal.link_by_rank-requires-clause-sorted
 link_by_rank-requires-clause-sorted g c = subst (AreFrom until 0) (sym (c.put-at.ensures.put.orders 1 (omega arith))) c.requires.timed.sorted

@@ -1,23 +1,17 @@
-use Rattle.std.proofs.Common.{◌≡◌, [], ◌∷◌, ◌++◌, ap, sym, subst, arith, ◌∙◌}
+use Rattle.std.proofs.Common.{◌≡◌, [], ◌∷◌, ◌++◌, ap, sym, subst, ◌∙◌}
 use Rattle.std.specs.Map.{remove_entry}
 use Rattle.cordyceps.specs.Spots.BySpot.{HoldsAt}
 use Rattle.cordyceps.proofs.Spots.ValueAt.{held_value}
 use Rattle.cordyceps_uses.specs.declared.expiring.Timed.{Timed}
 use Rattle.cordyceps_uses.specs.Expiring.{Entry, by_use}
 use Rattle.cordyceps_uses.proofs.Written.{written_at}
-use Rattle.cordyceps_uses.proofs.Renewing.{written_room, written_sorted, renewed_entries, renewed_timed}
+use Rattle.cordyceps_uses.proofs.Renewing.{written_sorted, renewed_entries, renewed_timed}
 use Rattle.cordyceps_uses.proofs.expiring.set_until.Goals as goal
 
 pub move_back-requires-clause-at : goal.move_back-requires-clause-at
 move_back-requires-clause-at g c =
     let r = c.unlink.ensures in let t : Timed _ = record { value = c.value_at_mut.result.now.value; until = c.args.until } in
     written_at g.K.PartialEq.eq c.args.map.now c.lists_agree.ensures c.args.key.now c.args.at c.requires.at c.unlink.new.self r.nodes (r.others.lists 0 (λ e. absurd cc)) t c.lists_agree-2.ensures
-
-pub link_by_rank-requires-clause-fits : goal.link_by_rank-requires-clause-fits
-link_by_rank-requires-clause-fits g c =
-    let r = c.unlink.ensures in let b = c.move_back.ensures in let t : Timed _ = record { value = c.value_at_mut.result.now.value; until = c.args.until } in
-    let room = written_room g.K.PartialEq.eq c.args.map.now c.lists_agree.ensures c.requires.timed c.args.key.now c.args.at c.requires.at c.unlink.new.self r.nodes r.list r.others.lists t c.lists_agree-2.ensures c.move_back.new.map b.nodes b.list b.others b.moved in
-    let long = c.len-len.ensures in let fits = c.len-len.type_inv in omega (arith, room, long, fits)
 
 pub link_by_rank-requires-clause-sorted : goal.link_by_rank-requires-clause-sorted
 link_by_rank-requires-clause-sorted g c =

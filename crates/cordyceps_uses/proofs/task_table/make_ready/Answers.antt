@@ -1,13 +1,7 @@
-use Rattle.std.proofs.Common.{length, ap, arith}
 use Rattle.cordyceps.proofs.Spots.Members.{has_in}
 use Rattle.cordyceps.proofs.Spots.ValueAt.{in_value}
-use Rattle.cordyceps_uses.proofs.Tabled.{room, readied, readied_table}
+use Rattle.cordyceps_uses.proofs.Tabled.{readied, readied_table}
 use Rattle.cordyceps_uses.proofs.task_table.make_ready.Goals as goal
-
-pub link_by_rank-requires-clause-fits : goal.link_by_rank-requires-clause-fits
-link_by_rank-requires-clause-fits g c =
-    let same = ap length (c.ensure_unlinked.ensures.others.lists 1 (λ e. absurd cc)) in let more = room c.args.map.now c.lists_agree.ensures 1 c.args.at c.requires.there c.requires.not_in in
-    let long = c.len-len.ensures in let fits = c.len-len.type_inv in omega (arith, same, more, long, fits)
 
 pub returns-clause-ready : goal.returns-clause-ready
 returns-clause-ready g c =

@@ -1,14 +1,8 @@
-use Rattle.std.proofs.Common.{[], ◌∷◌, ◌++◌, length, ap, arith, ◌∙◌}
+use Rattle.std.proofs.Common.{[], ◌∷◌, ◌++◌, ap, ◌∙◌}
 use Rattle.cordyceps.proofs.Spots.Members.{has_in}
 use Rattle.cordyceps.proofs.Spots.ValueAt.{in_value}
-use Rattle.cordyceps_uses.proofs.Tabled.{room, waited, waited_table}
+use Rattle.cordyceps_uses.proofs.Tabled.{waited, waited_table}
 use Rattle.cordyceps_uses.proofs.task_table.make_wait.Goals as goal
-
-pub link_back-requires-clause-fits : goal.link_back-requires-clause-fits
-link_back-requires-clause-fits g c =
-    let same = ap length (c.unlink.ensures.others.lists 2 (λ e. absurd cc)) in
-    let more = room c.args.map.now c.lists_agree.ensures 2 c.args.at c.requires.there (c.requires.table.apart c.args.at c.requires.in_list) in
-    let long = c.len-len.ensures in let fits = c.len-len.type_inv in omega (arith, same, more, long, fits)
 
 pub returns-clause-waits : goal.returns-clause-waits
 returns-clause-waits g c =

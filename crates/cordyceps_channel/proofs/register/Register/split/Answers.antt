@@ -1,7 +1,7 @@
-use Rattle.std.proofs.Common.{[], ◌∷◌, ◌++◌, ◌∙◌, subst, ap, sym, rules}
+use Rattle.std.proofs.Common.{◌≡◌, length, [], ◌∷◌, ◌++◌, ◌∙◌, subst, ap, sym, rules}
 use Rattle.cordyceps_shared.specs.Standings.{keeping}
 use Rattle.cordyceps_queue.specs.History.{came}
-use Rattle.cordyceps_channel.specs.Channels.{IsRegister, IsOpened, sent}
+use Rattle.cordyceps_channel.specs.Channels.{IsRegister, IsOpened, left_after, sent}
 use Rattle.cordyceps_channel.proofs.Registering.{none_own, still_register, split_opened}
 use Rattle.cordyceps_channel.proofs.register.Register.split.Goals as goal
 
@@ -23,8 +23,11 @@ pub returns-clause-opened : goal.returns-clause-opened
 returns-clause-opened g c =
     let u = c.args.self.now.party in
     let z = c.args.queue.now.table in
-    let o = split_opened z u c.another.new.self c.requires.table (search rules) (search rules) in
-    subst (λ p. IsOpened z p c.another.new.self) (sym c.split-party.ensures.1) o
+    let n = c.len-number.result in
+    let same : length c.args.self.now.homes.items ≡ n = search rules in
+    let left : u.share ≡ left_after n = c.requires.share ∙ ap left_after same in
+    let o = split_opened z n u c.another.new.self c.requires.table left (search rules) (search rules) in
+    subst (λ p. IsOpened z n p c.another.new.self) (sym c.split-party.ensures.1) o
 
 pub returns-clause-unsent : goal.returns-clause-unsent
 returns-clause-unsent g c = ap (λ v. sent v) c.split-party.ensures.1 ∙ ap came (none_own c.args.self.now.party.seen)

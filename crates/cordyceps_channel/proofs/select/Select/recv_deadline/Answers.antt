@@ -1,4 +1,5 @@
-use Rattle.cordyceps_channel.proofs.Selecting.{none_received, found_later, nothing_later, selects_empty, selects_over}
+use Rattle.cordyceps_channel.specs.declared.errors.TryRecvError.TheVariants as why
+use Rattle.cordyceps_channel.proofs.Selecting.{none_received, found_later, selects_empty, selects_as}
 use Rattle.cordyceps_channel.proofs.select.Select.recv_deadline.Goals as goal
 
 pub loop-init : goal.loop-init
@@ -10,18 +11,12 @@ returns-in-Ok g c = found_later c.in-Ok.found.index c.in-Ok.found.value c.args.s
 pub returns-in-Err-Disconnected : goal.returns-in-Err-Disconnected
 returns-in-Err-Disconnected g c =
     let e = c.in-Err-Disconnected in
-    let ws = c.try_recv.new.self in
-    let found = selects_over e.field-0 c.loop.self ws e.field-0-is e.ensures in
-    (nothing_later c.args.self.now c.loop.self ws c.loop.invariant found.0, found.1)
+    selects_as e.field-0 why.Disconnected c.args.self.now c.loop.self c.try_recv.new.self e.field-0-is c.loop.invariant e.ensures
 
 pub returns-then-not-wait_until : goal.returns-then-not-wait_until
 returns-then-not-wait_until g c =
     let e = c.in-Err-Empty in
-    let ws = c.try_recv.new.self in
-    nothing_later c.args.self.now c.loop.self ws c.loop.invariant (selects_empty e.field-0 c.loop.self ws e.field-0-is e.ensures)
+    selects_as e.field-0 why.Empty c.args.self.now c.loop.self c.try_recv.new.self e.field-0-is c.loop.invariant e.ensures
 
 pub loop-preserved : goal.loop-preserved
-loop-preserved g c =
-    let e = c.in-Err-Empty in
-    let ws = c.try_recv.new.self in
-    nothing_later c.args.self.now c.loop.self ws c.loop.invariant (selects_empty e.field-0 c.loop.self ws e.field-0-is e.ensures)
+loop-preserved g c = selects_empty c.in-Err-Empty.field-0 c.args.self.now c.loop.self c.try_recv.new.self c.loop.invariant c.in-Err-Empty.ensures

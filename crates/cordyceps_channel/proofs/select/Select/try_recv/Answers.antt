@@ -1,32 +1,29 @@
-use Rattle.std.proofs.Common.{rules, sym, subst, set, length, ◌<◌, MatchResult}
-use Rattle.cordyceps_channel.specs.Selects.{ReceivesAt, SelectsNone}
-use Rattle.cordyceps_channel.proofs.Selecting.{none_received, then_none, then_one, select_later}
-use Rattle.cordyceps_channel.proofs.Waiting.{finds_none}
+use Rattle.std.proofs.Common.{◌≡◌, ◌≤◌, arith, length, rules, subst, sym}
+use Rattle.cordyceps_channel.specs.Selects.{InRow, RowFindsNone, SelectsNone}
+use Rattle.cordyceps_channel.proofs.Selecting.{as_many, both_rows, found_later, row_nothing}
 use Rattle.cordyceps_channel.proofs.select.Select.try_recv.Goals as goal
 
-pub loop-init : goal.loop-init
-loop-init g c = none_received c.self.inside.receivers.items
+pub try_row-requires-in-Err : goal.try_row-requires-in-Err
+try_row-requires-in-Err g c =
+    let turn = c.min-turn.result in
+    let count = c.len-count.result in
+    let few : turn ≤ count = search rules in
+    let all : count ≡ length c.args.self.now = search rules in
+    (omega arith, omega (arith, few, all, as_many (InRow c.in-Err.behind turn count) c.args.self.now c.try_row.new.self c.in-Err.ensures.each))
 
-pub returns-in-Ok : goal.returns-in-Ok
-returns-in-Ok g c =
-    let i = c.if-self-len.index in
-    let vs = c.loop.self-inside.receivers.items in
-    let w = c.try_recv.new.self in
-    let there : i < length vs = search rules in
-    subst (λ us. ReceivesAt i c.in-Ok.value us (set vs i w)) c.self.view_is
-    (then_one c.self.inside.receivers.items vs i c.in-Ok.value c.index_mut.result.now w c.loop.invariant there (sym c.index_mut.ensures.value) c.in-Ok.ensures)
+pub returns-in-Ok-try_row : goal.returns-in-Ok-try_row
+returns-in-Ok-try_row g c =
+    let found = c.in-Ok-try_row.found in
+    let us = c.args.self.now in
+    let vs = c.try_row.new.self in
+    found_later found.index found.value us vs c.try_row-in-Err.new.self (row_nothing c.in-Err.behind c.min-turn.result c.len-count.result us vs c.in-Err.ensures) c.in-Ok-try_row.ensures
 
-pub loop-preserved : goal.loop-preserved
-loop-preserved g c =
-    let i = c.if-self-len.index in
-    let vs = c.loop.self-inside.receivers.items in
-    let u = c.index_mut.result.now in
-    let w = c.try_recv.new.self in
-    let there : i < length vs = search rules in
-    then_none c.self.inside.receivers.items vs i u w c.loop.invariant there (sym c.index_mut.ensures.value) (finds_none c.in-Err.why u w c.in-Err.ensures)
-
-pub returns : goal.returns
-returns g c =
-    let ws = c.try_each.new.self in
-    subst (λ us. MatchResult c.try_each.result (λ x. ReceivesAt x.index x.value us ws) (λ why. SelectsNone why us ws)) c.self.view_is
-    (select_later (λ x. x.index) (λ x. x.value) c.try_each.result c.self.inside.receivers.items c.loop.self-inside.receivers.items ws c.loop.invariant c.try_each.ensures)
+pub returns-in-Err-try_row : goal.returns-in-Err-try_row
+returns-in-Err-try_row g c =
+    let us = c.args.self.now in
+    let vs = c.try_row.new.self in
+    let ws = c.try_row-in-Err.new.self in
+    let turn = c.min-turn.result in
+    let all : c.len-count.result ≡ length us = search rules in
+    let behind = subst (λ n. RowFindsNone c.in-Err.behind turn n us vs) all c.in-Err.ensures in
+    subst (λ y. SelectsNone y us ws) (sym c.worse.ensures) (both_rows c.in-Err.behind c.in-Err-try_row.before turn us vs ws behind c.in-Err-try_row.ensures)

@@ -1,6 +1,7 @@
-use Rattle.std.proofs.Common.{◌≡◌, ◌∙◌, subst, arith}
-use Rattle.cordyceps_queue.proofs.SharedTheory.PartyMoves.{moves_refill}
-use Rattle.cordyceps_queue.specs.Shared.Calls.{Refills, FindsFull}
+use Rattle.std.proofs.Common.{◌≡◌, ◌∙◌, [], refl, subst, arith}
+use Rattle.cordyceps_shared.proofs.Acting.{acts_of}
+use Rattle.cordyceps_queue.specs.History.{actor}
+use Rattle.cordyceps_queue.specs.Shared.Calls.{Legal, Refills, FindsFull}
 use Rattle.cordyceps_channel.proofs.Registering.{still_opened}
 use Rattle.cordyceps_channel.proofs.sender.Sender.has_room.Goals as goal
 
@@ -8,17 +9,17 @@ pub invariant_of-self : goal.invariant_of-self
 invariant_of-self g c =
     let u = c.self.inside.party in
     let w = c.refill_at_most-taken.new.party in
-    let m = moves_refill (λ x. x) c.refill_at_most-taken.result u w c.refill_at_most-taken.ensures.answer in
+    let a = acts_of actor (λ h. Legal h) u w [] c.refill_at_most-taken.ensures.answer.0 in
     let i = c.self.invariant in
-    record { table = m.acts.table ∙ i.table; register = i.register; opened = still_opened _ u w c.self.inside.home i.opened m }
+    record { table = a.table ∙ i.table; register = i.register; opened = still_opened _ _ u w [] c.self.inside.home i.opened a tt refl }
 
 pub invariant_of-self-2 : goal.invariant_of-self-2
 invariant_of-self-2 g c =
     let u = c.self.inside.party in
     let w = c.refill_at_most-taken.new.party in
-    let m = moves_refill (λ x. x) c.refill_at_most-taken.result u w c.refill_at_most-taken.ensures.answer in
+    let a = acts_of actor (λ h. Legal h) u w [] c.refill_at_most-taken.ensures.answer.0 in
     let i = c.self.invariant in
-    record { table = m.acts.table ∙ i.table; register = i.register; opened = still_opened _ u w c.self.inside.home i.opened m }
+    record { table = a.table ∙ i.table; register = i.register; opened = still_opened _ _ u w [] c.self.inside.home i.opened a tt refl }
 
 pub returns-then-taken-eq0-clause-full : goal.returns-then-taken-eq0-clause-full
 returns-then-taken-eq0-clause-full g c = λ _.

@@ -1,5 +1,8 @@
-use Rattle.std.proofs.Common.{◌∙◌, subst, sym}
-use Rattle.cordyceps_queue.proofs.SharedTheory.PartyMoves.{moves_enqueue}
+use Rattle.std.proofs.Common.{◌∙◌, [], ◌∷◌, refl, subst, sym}
+use Rattle.cordyceps_shared.specs.Standings.{name_of}
+use Rattle.cordyceps_shared.proofs.Acting.{acts_of}
+use Rattle.cordyceps_queue.specs.History.{actor, Swap, Link}
+use Rattle.cordyceps_queue.specs.Shared.Calls.{Legal}
 use Rattle.cordyceps_queue.proofs.SharedTheory.Sending.{then_enqueues}
 use Rattle.cordyceps_channel.specs.Channels.{SendsNothing}
 use Rattle.cordyceps_channel.proofs.Registering.{still_opened}
@@ -9,9 +12,10 @@ pub invariant_of-self : goal.invariant_of-self
 invariant_of-self g c =
     let u = c.self-2.inside.party in
     let w = c.enqueue.new.party in
-    let m = moves_enqueue (λ x. x) c.args.handle u w c.enqueue.ensures in
+    let es = Swap (name_of u) c.args.handle ∷ Link (name_of u) ∷ [] in
+    let a = acts_of actor (λ h. Legal h) u w es c.enqueue.ensures.0 in
     let i = c.self-2.invariant in
-    record { table = m.acts.table ∙ i.table; register = i.register; opened = still_opened _ u w c.self-2.inside.home i.opened m }
+    record { table = a.table ∙ i.table; register = i.register; opened = still_opened _ _ u w es c.self-2.inside.home i.opened a (refl, (refl, tt)) refl }
 
 pub returns : goal.returns
 returns g c =

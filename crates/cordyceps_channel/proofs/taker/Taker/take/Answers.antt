@@ -1,8 +1,8 @@
-use Rattle.std.proofs.Common.{[], sym, ap, ◌∙◌, subst}
+use Rattle.std.proofs.Common.{sym, ap, ◌∙◌, subst}
 use Rattle.std.specs.Prelude.{Err}
-use Rattle.cordyceps_queue.proofs.SharedTheory.PartyMoves.{moves_consume}
-use Rattle.cordyceps_channel.specs.Channels.{Receives, ReceivesBatch}
-use Rattle.cordyceps_channel.proofs.Received.{moves_receives, receives_then, takes_receives, batch_then}
+use Rattle.cordyceps_queue.specs.Shared.Calls.{Consumes}
+use Rattle.cordyceps_channel.specs.Channels.{ReceivesBatch}
+use Rattle.cordyceps_channel.proofs.Missing.{misses_held, takes_receives, batch_then}
 use Rattle.cordyceps_channel.proofs.Ending.{over}
 use Rattle.cordyceps_channel.proofs.Taking.{consumer_party, some_case, none_case}
 use Rattle.cordyceps_channel.proofs.taker.Taker.take.Goals as goal
@@ -22,9 +22,9 @@ returns-clause-answer g c =
           (batch_then g.T.Linked.element c.args.max k.in-Ok.batch c.args.self.now.party c.hold.new.self.party w held.receives (subst (λ v. ReceivesBatch g.T.Linked.element c.args.max k.in-Ok.batch v w) same took))
       | in-Err k ↦
           let why = k.in-Err._why in
-          let none = moves_receives u w [] (moves_consume (λ x. x) (Err why) u w k.in-Err.ensures.answer) in
+          let missed = misses_held why c.args.self.now.party c.hold.new.self.party w held.receives (subst (λ v. Consumes (Err why) v w) same k.in-Err.ensures.answer) in
           none_case _ _ c.match-take_linked.result k.result-is (
-            receives_then c.args.self.now.party c.hold.new.self.party w [] [] held.receives (subst (λ v. Receives [] v w) same none),
+            missed,
             λ is. let alone = ap (λ v. v.share) same ∙ (held.share ∙ is) in over u w why alone k.in-Err.ensures.answer (k.in-Err.ensures.whole alone),
           )
     ]

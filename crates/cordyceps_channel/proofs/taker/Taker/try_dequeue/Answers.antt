@@ -1,7 +1,9 @@
 use Rattle.std.proofs.Common.{[], ◌∷◌, sym, ap, ◌∙◌, subst}
 use Rattle.std.specs.Prelude.{Ok, Err}
+use Rattle.cordyceps_queue.specs.Shared.Calls.{Consumes}
 use Rattle.cordyceps_queue.proofs.SharedTheory.PartyMoves.{moves_consume}
 use Rattle.cordyceps_channel.specs.Channels.{Receives}
+use Rattle.cordyceps_channel.proofs.Missing.{misses_held}
 use Rattle.cordyceps_channel.proofs.Received.{moves_receives, receives_then}
 use Rattle.cordyceps_channel.proofs.Ending.{over, certain}
 use Rattle.cordyceps_channel.proofs.Taking.{consumer_party, some_case, none_case}
@@ -22,9 +24,9 @@ returns-clause-answer g c =
           (receives_then c.args.self.now.party c.hold.new.self.party w [] (e ∷ []) held.receives (subst (λ v. Receives (e ∷ []) v w) same took))
       | in-Err k ↦
           let why = k.in-Err._why in
-          let none = moves_receives u w [] (moves_consume (λ x. x) (Err why) u w k.in-Err.ensures.answer) in
+          let missed = misses_held why c.args.self.now.party c.hold.new.self.party w held.receives (subst (λ v. Consumes (Err why) v w) same k.in-Err.ensures.answer) in
           none_case _ _ c.match-try_dequeue.result k.result-is (
-            receives_then c.args.self.now.party c.hold.new.self.party w [] [] held.receives (subst (λ v. Receives [] v w) same none),
+            missed,
             λ is.
                 let alone = ap (λ v. v.share) same ∙ (held.share ∙ is) in over u w why alone k.in-Err.ensures.answer (certain g.row.T-Handle.Denot why (k.in-Err.ensures.whole alone)),
           )

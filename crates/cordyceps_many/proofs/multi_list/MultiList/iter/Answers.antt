@@ -9,7 +9,7 @@ invariant_of-result g c =
     let v = c.args.self.now in let s = list_at c.args.i v.lists in
     record {
       within = c.requires.within;
-      there = c.first-at.ensures.in_list;
+      there = c.front-at.ensures.in_list;
       count = c.len.ensures ∙ sym (entries_long v.nodes s (c.lists_agree.ensures.inside c.args.i))
-          ∙ ap (λ z. length (entries_at v.nodes z)) (sym (place_first c.first-at.result s c.first-at.ensures.first));
+          ∙ ap (λ z. length (entries_at v.nodes z)) (sym (place_first c.front-at.result s c.front-at.ensures.first));
     }

@@ -8,7 +8,7 @@ use Rattle.cordyceps_many.proofs.multi_list.MultiList.last_not_greater.Goals as 
 pub loop-place-init : goal.loop-place-init
 loop-place-init g c =
     let v = c.args.self.now in let s = list_at c.args.i v.lists in
-    walk_starts (g.O.Order.compares_by c.args.order.now) v.nodes c.args.at s c.last-place.result c.last-place.ensures.last
+    walk_starts (g.O.Order.compares_by c.args.order.now) v.nodes c.args.at s c.back-place.result c.back-place.ensures.last
 
 pub get-requires : goal.get-requires
 get-requires g c =

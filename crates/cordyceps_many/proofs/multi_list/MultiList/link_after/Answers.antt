@@ -11,7 +11,7 @@ use Rattle.cordyceps_many.proofs.multi_list.MultiList.link_after.Goals as goal
 pub put_after-ends-requires : goal.put_after-ends-requires
 put_after-ends-requires g c =
     let ns = c.self.inside.row.boxes.blocks in let es = c.self.inside.ends in let v = c.args.self.now in let inv = c.self.invariant in let seen = c.self.view_is in let k = g.H.Rows.count in
-    let i = c.args.i in let s = list_at i v.lists in let w = held k es ns v inv seen i c.at-ends.result c.at-ends.ensures in let long = w.long in let fits = c.requires.fits in
+    let i = c.args.i in let s = list_at i v.lists in let w = held k es ns v inv seen i c.at-ends.result c.at-ends.ensures in let long = w.long in let fits = c.has_room.ensures in
     record { there = spot_in k es ns v inv seen c.args.at c.requires.there; within = c.requires.within; comparable = inv.parts.comparable; fits = omega (arith, long, fits); around = (s, opened (hook_at ns i) c.at-ends.result s c.args.at w c.requires.not_in, c.requires.in_list) }
 
 pub invariant_of-self : goal.invariant_of-self

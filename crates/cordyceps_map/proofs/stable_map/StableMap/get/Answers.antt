@@ -6,7 +6,7 @@ use Rattle.cordyceps_map.specs.Shown.{pair_of, shown}
 use Rattle.cordyceps_map.specs.StableMap.{Mapped, pairs}
 use Rattle.cordyceps_map.proofs.Finding.{placed_has, not_found}
 use Rattle.cordyceps_map.proofs.Looking.{value_of_entry}
-use Rattle.cordyceps_map.proofs.ValueAt.{held_value}
+use Rattle.cordyceps_many.proofs.ValueAt.{held_value}
 use Rattle.cordyceps_map.proofs.stable_map.StableMap.get.Goals as goal
 
 pub place_of-requires : goal.place_of-requires

@@ -10,7 +10,7 @@ use Rattle.cordyceps_map.proofs.Leaving.{cut_long, cut_shows, left}
 use Rattle.cordyceps_map.proofs.Lent.{lent_items}
 use Rattle.cordyceps_map.proofs.Seen.{inner_has}
 use Rattle.cordyceps_map.proofs.ShownNodes.{shown_has, shown_taken}
-use Rattle.cordyceps_map.proofs.ValueAt.{held_value}
+use Rattle.cordyceps_many.proofs.ValueAt.{held_value}
 use Rattle.cordyceps_map.proofs.stable_map.StableMap.remove_at.Goals as goal
 
 pub get-requires : goal.get-requires

@@ -2,7 +2,7 @@ use Rattle.std.proofs.Common.{ℕ, refl}
 use Rattle.cordyceps_map.specs.Chains.{hash_of}
 use Rattle.cordyceps_map.proofs.Revalued.{revalued, seen_written, seen_held, seen_kept}
 use Rattle.cordyceps_map.proofs.Seen.{inner_has}
-use Rattle.cordyceps_map.proofs.ValueAt.{index_value}
+use Rattle.cordyceps_many.proofs.ValueAt.{index_value}
 use Rattle.cordyceps_map.proofs.stable_map.StableMap.value_at_mut.Goals as goal
 
 pub get_mut-entry-requires : goal.get_mut-entry-requires

@@ -8,13 +8,13 @@ pub invariant_of-self-2 : goal.invariant_of-self-2
 invariant_of-self-2 g c =
     let m = c.self.inside.map in let n = c.number_at.ensures in let a = c.in_ok-at.ensures in
     let there = sym (ap (λ ns. value_at ns c.in_ok-at.at) a.nodes) ∙ n.value in
-    run_table m c.lists_agree.ensures c.self.invariant c.in_ok-at.at n.entry there c.pop_front.new.self a.nodes a.popped a.others.lists
+    run_table m c.lists_agree.ensures c.self.invariant c.in_ok-at.at n.entry there c.unlink_front.new.self a.nodes a.popped a.others.lists
 
 pub returns-clause-answer : goal.returns-clause-answer
 returns-clause-answer g c =
     let m = c.self.inside.map in let n = c.number_at.ensures in let a = c.in_ok-at.ensures in
     let there = sym (ap (λ ns. value_at ns c.in_ok-at.at) a.nodes) ∙ n.value in
-    let is = first_ready m c.lists_agree.ensures c.self.invariant c.in_ok-at.at n.entry there c.pop_front.new.self a.nodes a.popped in
+    let is = first_ready m c.lists_agree.ensures c.self.invariant c.in_ok-at.at n.entry there c.unlink_front.new.self a.nodes a.popped in
     ap (λ k. Some k) (sym n.holds) ∙ sym (ap (λ (s : List (Entry _)). option_map (λ x. x.0) (slice_get s 0)) is)
     ∙ ap (λ (v : Tasks _). option_map (λ x. x.0) (slice_get v.ready 0)) c.self.view_is
 
@@ -22,5 +22,5 @@ pub returns-clause-left : goal.returns-clause-left
 returns-clause-left g c =
     let m = c.self.inside.map in let n = c.number_at.ensures in let a = c.in_ok-at.ensures in
     let there = sym (ap (λ ns. value_at ns c.in_ok-at.at) a.nodes) ∙ n.value in
-    let is = first_ready m c.lists_agree.ensures c.self.invariant c.in_ok-at.at n.entry there c.pop_front.new.self a.nodes a.popped in
+    let is = first_ready m c.lists_agree.ensures c.self.invariant c.in_ok-at.at n.entry there c.unlink_front.new.self a.nodes a.popped in
     sym (ap (drop 1) is) ∙ ap (λ (v : Tasks _). drop 1 v.ready) c.self.view_is

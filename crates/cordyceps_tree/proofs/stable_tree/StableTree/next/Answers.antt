@@ -1,0 +1,17 @@
+use Rattle.std.proofs.Common.{MatchOption, ap, subst}
+use Rattle.cordyceps_base.specs.BySpot.{IsLast, AreNext}
+use Rattle.cordyceps_base.specs.Nodes.{Nodes, spots}
+use Rattle.cordyceps_base.specs.Spots.{AreDistinct}
+use Rattle.cordyceps_stable.specs.Arranged.{Sorted}
+use Rattle.cordyceps_stable.proofs.Reached.{next_spot}
+use Rattle.cordyceps_stable.proofs.Valid.{next_apart}
+use Rattle.cordyceps_tree.proofs.stable_tree.StableTree.next.Goals as goal
+
+pub returns-clause-step : goal.returns-clause-step
+returns-clause-step g c = subst (λ (n : Nodes g.row.T.Denot). MatchOption c.next.result (IsLast n c.args.at) (λ z. AreNext n c.args.at z)) (ap (λ (s : Sorted g.row.T.Denot g.row.O.Denot). s.nodes) c.self.view_is) c.next.ensures
+
+pub returns-clause-there : goal.returns-clause-there
+returns-clause-there g c = next_spot _ _ _ (returns-clause-step g c)
+
+pub returns-clause-apart : goal.returns-clause-apart
+returns-clause-apart g c = next_apart _ _ _ (subst (λ (n : Nodes g.row.T.Denot). AreDistinct (spots n)) (ap (λ (s : Sorted g.row.T.Denot g.row.O.Denot). s.nodes) c.self.view_is) c.spots_are_distinct.ensures) (returns-clause-step g c)
