@@ -39,6 +39,7 @@ LITTLE = "a proof names what the edit took away, and no goal refuses it: change 
 SAFETY = "is not judged: only goals of safety are open, which an empty contract would have too: change the result"
 AT_HAND = "NOT REFUSED: `search` proves its goals where it has the right body's answers at hand"
 UNFIT = "is not judged: terms of the right body's answer do not fit: keep the names, and change another value"
+INNER = "is not judged: only an invariant is open: let a clause fail, or say in a line '# breaks:' how the body breaks it"
 LIMIT = "is not judged: `search` stopped at a limit, so the goal may hold: give it a form in which it does not"
 
 
@@ -341,6 +342,24 @@ def is_of_contract(goal):
     return asks in ("preserved", "init") or not asks and name in ("returns", "invariant_of")
 
 
+def is_promise(goal):
+    """Whether a goal is a clause of what the function ensures.
+
+    >>> is_promise("returns-then-x-clause-len"), is_promise("invariant_of-self"), is_promise("loop-at-preserved")
+    (True, False, False)
+    """
+    return kind_of(goal) == ("returns", None)
+
+
+def promises_first(goals):
+    """Goals in their order, but those first that are clauses of what the function ensures.
+
+    >>> promises_first(["loop-init", "returns"])
+    ['returns', 'loop-init']
+    """
+    return sorted(goals, key=lambda it: not is_promise(it))
+
+
 def searched_in(lines, text):
     """The goals that have a `search` as their answers in this text and that these lines of a check name as not proved,
     though every way was tried, each with its line.
@@ -405,8 +424,13 @@ def asking(text, goals, questions=()):
     head, answers = answers_of(text)
     holes = [f"pub {it} : goal.{it}\n{it} = ?\n" for it in dict.fromkeys([*answers, *goals])]
     own = [behind(it, answers[it]) for it in answers] if questions else []
+    return with_questions(head + "".join([*own, *holes]), questions)
+
+
+def with_questions(text, questions):
+    """The text of an Answers.antt with questions under other names, each as its name, its goal and its text."""
     named = [re.sub(rf"^(?:pub )?{re.escape(goal)}(?= )", name, it, flags=re.M) for name, goal, it in questions]
-    return importing(head, IMPORTS if questions else ()) + "".join([*own, *holes, *named])
+    return importing(text, IMPORTS if questions else ()) + "".join(named)
 
 
 def holes_in(lines, folder):
@@ -471,8 +495,9 @@ class Suspect:
 
     A goal refuses the body if it is about the result, if the `search` did not prove it, and if that proves the right
     body's. So it does where the right body's answer is at hand. Where the right body needs no answer, the goal is one
-    of the right body's, or none of the right body's answers holds under its name; and if `search` stopped at a limit, a
-    longer one did not prove it either."""
+    of the right body's, or none of the right body's answers about the result proves it; and if `search` stopped at a
+    limit, a longer one did not prove it either. An invariant may hold without a proof that is found, since callers
+    never see it. So it refuses the body only if the edit says how the body breaks it."""
 
     # The folder of the function's proof, the text of its answers, whether the edit leaves the paths as they are, the
     # functions that it calls in place of others, as pairs, whether it leaves calls out, and the variables of each
@@ -483,10 +508,14 @@ class Suspect:
     calls: list
     drops: bool
     binders: str
-    # The goal and the terms that the edit names, and whether what it names is trusted to prove the right body's.
+    # The goal and the terms that the edit names, whether what it names is trusted to prove the right body's, and whether
+    # terms are looked for where nothing is at hand.
     named: str = None
     named_terms: tuple = ()
     is_trusted: bool = True
+    looks: bool = False
+    # Whether the edit says how the body breaks an invariant.
+    is_explained: bool = False
     # The answers that are taken away, those of these whose goals are not there, the ways that were found to hold, the
     # goals at which none did, the one goal that is looked at, with the ways to answer it that are left, and how many
     # checks were asked for.
@@ -497,6 +526,11 @@ class Suspect:
     goal: str = None
     ways: list = field(default_factory=list)
     tries: int = 0
+    # The questions whether the right body's answers to other goals prove a goal that it has not, by their names, with
+    # that goal, and the goals of which all of these were asked.
+    others: dict = field(default_factory=dict)
+    others_for: str = None
+    others_tried: set = field(default_factory=set)
     # The goals that are asked for with the right body's answers at hand, the texts of the questions that are not the
     # first, and of these goals those that were proved, and those at which the right body's terms do not fit.
     beside: list = field(default_factory=list)
@@ -519,8 +553,8 @@ class Suspect:
     def __post_init__(self):
         # Whether the goal is asked for that the edit names, how the answers were before they got other functions'
         # names, and these names the other way round.
-        self.is_named, self.written, self.back = bool(self.named), self.text, [(new, old) for old, new in self.calls]
-        if not self.named:
+        self.is_named, self.written, self.back = self.asks_first(), self.text, [(new, old) for old, new in self.calls]
+        if not self.is_named:
             return
         self.beside = [self.named]
         self.terms = {self.named: [*self.named_terms]} if self.named_terms else {}
@@ -532,6 +566,18 @@ class Suspect:
             question = asked_of(self.named, answers_of(self.text)[1], self.binders)
             self.questions = {self.named: with_terms(question, self.named_terms)}
 
+    def asks_first(self):
+        """Whether the goal that the edit names is asked for before all others: where terms are at hand, or none are
+        looked for, and it can refuse the body."""
+        is_bare = self.named_terms == NOTHING and self.looks
+        has_terms = self.named_terms or self.named in answers_of(self.text)[1]
+        return bool(self.named) and self.may_refuse(self.named) and bool(has_terms) and not is_bare
+
+    def may_refuse(self, goal):
+        """Whether a goal can refuse the body: a clause of what the function ensures, or an invariant, if the edit says
+        how the body breaks it."""
+        return is_of_contract(goal) and (self.is_explained or is_promise(goal))
+
     def is_of_right(self, goal):
         """Whether one of the goals is known to be one of the right body's."""
         path = parts_of(goal)[0]
@@ -542,6 +588,8 @@ class Suspect:
         """Takes what a check said of the function, and judges it."""
         if self.goal and not self.has_way(lines):
             return self.goes_on()
+        if self.others:
+            return self.has_others(lines)
         if self.beside:
             return self.has_beside(lines)
         found = {**open_in(lines), **searched_in(lines, self.text)}
@@ -554,7 +602,7 @@ class Suspect:
             self.text, self.calls, self.is_renamed = with_calls(self.text, self.calls), (), True
             return self.asks()
         self.gone, self.absent = self.gone | new, self.absent | gone
-        asked = {it for it in new & fail if is_of_contract(it)} or {*self.at_limit()}
+        asked = {it for it in new & fail if self.may_refuse(it)} or {*self.at_limit()}
         self.beside = sorted(it for it in asked - self.proved - self.unfit if self.is_of_right(it))
         # (to take answers away whose goals are not there opens no goal, so the next way can be tried in the same check)
         return self.asks() if self.beside or new & fail or new and not self.open else self.chooses()
@@ -566,7 +614,7 @@ class Suspect:
         asked, text = self.beside, self.answers()
         found = at_hand.left_open(lines, text)
         about = {goal: line for line in lines for goal in named_in(line) or asked if " error: " in line}
-        for goal in asked:
+        for goal in promises_first(asked):
             if goal in found and (self.terms.get(goal) != NOTHING or has_ended(found[goal])):
                 question = answers_of(text)[1][goal]
                 self.asserted = goal, found[goal], with_calls(question, self.back) if self.is_renamed else question
@@ -617,7 +665,7 @@ class Suspect:
     def at_limit(self):
         """The open goals about the result at which `search` stopped at a limit, and that are not asked for yet."""
         known = self.proved | self.unfit
-        return [it for it in self.open if is_of_contract(it) and is_at_limit(self.open[it]) and it not in known]
+        return [it for it in self.open if self.may_refuse(it) and is_at_limit(self.open[it]) and it not in known]
 
     def has_way(self, lines):
         """Whether the way that was tried holds, as a check said."""
@@ -638,7 +686,7 @@ class Suspect:
 
     def chooses(self):
         """Chooses the goal that is looked at, if there is one, and judges the function if there is none."""
-        self.goal, self.ways = None, []
+        self.goal, self.ways, self.others, self.others_for = None, [], {}, None
         if self.refuses():
             return Verdict.REFUSED
         left = {it: self.ways_to(it) for it in self.open if it not in self.tried and not self.is_of_right(it)}
@@ -647,7 +695,31 @@ class Suspect:
         if order:
             self.goal, self.ways = order[0], left[order[0]]
             return self.asks()
+        unknown = next((it for it in self.open if self.counts(it) and not self.is_known(it)), None)
+        if unknown:
+            self.others, self.others_for = self.questions_for(unknown), unknown
+            return self.asks()
         return self.asks_beside()
+
+    def other_answers(self, goal):
+        """The right body's answers about the result that no way puts under a goal's name."""
+        put = {old for way in self.ways_to(goal) for old, _ in way}
+        return [it for it in answers_of(self.text)[1] if is_of_contract(it) and it not in put]
+
+    def questions_for(self, goal):
+        """Questions whether these prove the goal, by names of their own."""
+        answers = answers_of(self.text)[1]
+        texts = [renamed(answers[it], [(it, goal)]) for it in self.other_answers(goal)]
+        return {f"asked-{at}": asked_of(goal, {goal: it}, self.binders) for at, it in enumerate(texts)}
+
+    def has_others(self, lines):
+        """Takes what a check said of these questions: a goal that one of them proves is not open."""
+        failed = {name for line in lines if " error: " in line for name in named_in(line)}
+        if self.others.keys() - failed:
+            self.proved.add(self.others_for)
+            self.open.pop(self.others_for, None)
+        self.others_tried.add(self.others_for)
+        return self.chooses()
 
     def asks_beside(self):
         """Asks for the goals of the right body at which `search` stopped at a limit, with the right body's answers at
@@ -673,26 +745,37 @@ class Suspect:
 
     def counts(self, goal):
         """Whether an open goal can refuse the body."""
-        return is_of_contract(goal) and not is_at_limit(self.open[goal]) and goal not in self.unfit
+        return self.may_refuse(goal) and not is_at_limit(self.open[goal]) and goal not in self.unfit
+
+    def is_known(self, goal):
+        """Whether it is known that a goal is one of the right body's, or that none of the right body's answers proves
+        it."""
+        is_tried = goal in self.tried or not self.ways_to(goal)
+        are_others = goal in self.others_tried or not self.other_answers(goal)
+        return self.is_of_right(goal) or is_tried and are_others
 
     def refuses(self):
         """Whether an open goal refuses the body, as far as is known."""
-        for goal, line in self.open.items():
-            is_known = goal in self.tried or self.is_of_right(goal) or not self.ways_to(goal)
-            if self.counts(goal) and is_known:
-                self.refused = line
+        for goal in promises_first(self.open):
+            if self.counts(goal) and self.is_known(goal):
+                self.refused, self.by = self.open[goal], goal
                 return True
         return False
 
     def waits(self):
         """Whether it has to be known which goals the right body has, or what proves one, before the next way is
         tried."""
-        return bool(self.asserted) or self.goal is not None and self.right is None
+        return bool(self.asserted) or bool(self.goal or self.others) and self.right is None
 
     def answers(self):
         """The text of the answers with the next way, or None where none is left."""
         if self.beside:
             return asked_beside(self.text, self.beside, self.absent, self.binders, self.questions)
+        if self.others:
+            # (only a goal with an answer can be named)
+            goal = self.others_for
+            text = with_answers(self.text, self.held, self.gone) + f"pub {goal} : goal.{goal}\n{goal} = ?\n"
+            return with_questions(text, [(name, goal, it) for name, it in self.others.items()])
         ways = [*self.held, *self.ways[:1]]
         is_left = ways or not self.gone >= answers_of(self.text)[1].keys()
         return with_answers(self.text, ways, self.gone) if is_left else None
@@ -702,6 +785,9 @@ class Suspect:
         at_limit, unfit = self.at_limit(), sorted(it for it in self.unfit if it in self.open or it in self.gone)
         if at_limit or unfit:
             return f"{LIMIT} (`{at_limit[0]}`)" if at_limit else f"{UNFIT} (`{unfit[0]}`)"
+        inner = sorted(it for it in {*self.open, *self.gone} if is_of_contract(it) and not self.may_refuse(it))
+        if inner:
+            return f"{INNER} (`{inner[0]}`)"
         if self.proved:
             return f"{AT_HAND} (`{min(self.proved)}`)"
         return f"{SAFETY} (`{[*self.open][0]}`)" if self.open else LITTLE

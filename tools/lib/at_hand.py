@@ -8,8 +8,11 @@ WORD = re.compile(r"[\w.-]+|\S")
 # A term that is a call of a tactic, whose goal is known only where it stands, and one that rewrites its goal first.
 TACTIC = re.compile(r"(?:search|grind|omega|cc|assumption|first_of|hlevel)(?![\w.-])")
 REWRITES = re.compile(r"(?:rw|simp)(?![\w.-])")
-# A term that stays as it is: one that holds at any goal, and a value whose type is known only where it stands.
+# A term that stays as it is: one that holds at any goal, and a value whose type is known only where it stands. A value
+# of a function's run is the one that the goal speaks of, and no other would do.
 AS_IT_IS = re.compile(r"absurd(?![\w.-])|\d+$|\[\]$|_$")
+VALUE = re.compile(r"c(?:\.[\w+-]+)*\.(?:now|old|result|value|(?:new|args)\.\w+)$")
+SET = re.compile(r"(?<![\w.-])let ([\w+-]+) = ([\w.+-]+) in(?![\w.-])")
 # A term by which a goal holds whose sides compute to the same, and a name.
 COMPUTES = re.compile(r"refl|\?")
 NAME = re.compile(r"[\w+-]+")
@@ -42,6 +45,29 @@ def split_at(term, sign):
     """
     places = [-1, *(at for word, at, depth in words_of(term) if word == sign and not depth), len(term)]
     return [it for it in (term[one + 1 : other].strip() for one, other in zip(places, places[1:])) if it]
+
+
+def resolved(term, bound):
+    """A path with the one in the place of its first name that this is set to.
+
+    >>> resolved("tried.new.self", {"tried": "c.push"}), resolved("c.args.at", {"c": None})
+    ('c.push.new.self', 'c.args.at')
+    """
+    first, dot, rest = term.partition(".")
+    return f"{bound.get(first) or first}{dot}{rest}"
+
+
+def bound_in(text, bound):
+    """The variables that are bound behind a text, each with the path that it is set to, or None. Each name of the text
+    counts as one.
+
+    >>> bound_in("let tried = c.push in let e = f tried in", {})["tried"], bound_in("λ h.", {"a": "c.x"})
+    ('c.push', {'λ': None, 'h': None, 'a': 'c.x'})
+    """
+    known = {**{it: None for it in NAME.findall(text)}, **bound}
+    for name, term in SET.findall(text):
+        known[name] = resolved(term, known)
+    return known
 
 
 def let_of(term):
@@ -95,7 +121,7 @@ def is_closed(term, opens):
     return False
 
 
-def beside(term, bound=frozenset()):
+def beside(term, bound={}):
     """A term in which these variables are bound as a `search` that has it at hand: as `right`, where its type is known
     by itself. Each of its parts gets one.
 
@@ -110,11 +136,13 @@ def beside(term, bound=frozenset()):
     'let right = rw e at t in search rules'
     >>> shown("let a = b in (a, meets, [])")
     'let a = b in ((let right = a in search rules), ( search (rules, meets)), ([]))'
+    >>> shown("let a = c.push in (a.new.self, c.put.ensures)")
+    'let a = c.push in ((a.new.self), (let right = c.put.ensures in search rules))'
     """
     term = " ".join(term.split())
     in_front = let_of(term) or binders_of(term)
     if in_front:
-        return f"{in_front[0]} {beside(in_front[1], bound | {*NAME.findall(in_front[0])})}"
+        return f"{in_front[0]} {beside(in_front[1], bound_in(in_front[0], bound))}"
     if term.startswith("(") and is_closed(term, 0):
         return f"({', '.join(f'({beside(it, bound)})' for it in split_at(term[1:-1], ','))})"
     if re.match(r"elim (?!.*\belim\b)[^\[]*\[ *\|", term) and is_closed(term, term.index("[")):
@@ -128,19 +156,19 @@ def beside(term, bound=frozenset()):
 def in_branches(term, bound):
     """A term by cases with the term of each case at hand of a `search`.
 
-    >>> " ".join(in_branches("elim c.x [ | left a ↦ f a | right ↦ g c ]", set()).split())
+    >>> " ".join(in_branches("elim c.x [ | left a ↦ f a | right ↦ g c ]", {}).split())
     'elim c.x [ | left a ↦ (let right = f a in search rules) | right ↦ (let right = g c in search rules) ]'
     """
     head, _, rest = term.partition("[")
     cases = [it.partition("↦") for it in split_at(rest[:-1], "|")]
-    own = [f"| {of.strip()} ↦ ({beside(it, bound | {*NAME.findall(of)})})" for of, _, it in cases]
+    own = [f"| {of.strip()} ↦ ({beside(it, bound_in(of, bound))})" for of, _, it in cases]
     return f"{head}[ {' '.join(own)} ]"
 
 
 def leaf(term, bound):
     """A term that has no parts as a `search` that has it at hand. A name that is not bound is one of its lemmas, whose
     arguments need not be known."""
-    if AS_IT_IS.match(term):
+    if AS_IT_IS.match(term) or VALUE.match(resolved(term, bound)):
         return term
     if TACTIC.match(term):
         return LINE + (SEARCH if term == SEARCH else f"{FIRST} ({SEARCH}, {term})")
@@ -230,7 +258,9 @@ def finer(text, place):
     rows = text.split("\n")
     number, at, end = place
     row = rows[number]
-    rows[number] = f"{row[:at]}({beside(row[at:end], {*NAME.findall(row[:at])})}){row[end:]}"
+    # (a row above may set a variable too)
+    bound = bound_in(row[:at], dict(SET.findall("\n".join(rows[:number]))))
+    rows[number] = f"{row[:at]}({beside(row[at:end], bound)}){row[end:]}"
     return "\n".join(rows)
 
 

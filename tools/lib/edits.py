@@ -16,7 +16,8 @@ GOAL = re.compile(r"^# (?:goal|at hand): .*\n", re.M)
 @dataclass(frozen=True)
 class Edit:
     """A wrong body: its name, the lines that it changes, by file and number, the functions that these lie in, whether
-    it is tried alone, the goal that it names, and the terms of the right body's answer that are at hand there."""
+    it is tried alone, the goal that it names, the terms of the right body's answer that are at hand there, and whether
+    it says how the body breaks an invariant."""
 
     name: str
     lines: dict
@@ -24,6 +25,7 @@ class Edit:
     is_alone: bool
     goal: str = None
     terms: tuple = ()
+    is_explained: bool = False
 
 
 def faults_in(lines):
@@ -62,7 +64,7 @@ def has_fault(edit, twin, faults):
 
 def read_edit(crate, name):
     """A wrong body as its file says, or why it cannot be applied."""
-    path, old, named, goal, terms, texts, was = None, None, None, None, [], {}, {}
+    path, old, named, goal, terms, texts, was, is_explained = None, None, None, None, [], {}, {}, False
     for line in text_of(f"{crate.folder}/wrong_bodies/{name}").split("\n"):
         word, _, said = line.partition(": ") if not line.startswith("new:") else ("new", "", line[4:].removeprefix(" "))
         if word == "file":
@@ -75,6 +77,8 @@ def read_edit(crate, name):
             goal = said
         elif word == "# at hand":
             terms.append(said)
+        elif word == "# breaks":
+            is_explained = bool(said)
         elif word == "old" and path:
             old = said
         elif word == "new" and old:
@@ -93,4 +97,4 @@ def read_edit(crate, name):
         functions = [it for it in known if any(it.path == at and it.first <= n <= it.last for at, n in lines)]
     if not lines or not functions:
         return None, "it changes nothing, or changes no function and names none"
-    return Edit(name.removesuffix(".edit"), lines, frozenset(functions), bool(named), goal, terms), None
+    return Edit(name.removesuffix(".edit"), lines, frozenset(functions), bool(named), goal, terms, is_explained), None

@@ -31,10 +31,10 @@ class Judgement:
 
 class Judge:
     """Tries wrong bodies of one crate. It trusts a goal that an edit names to refuse no right body, unless it is to
-    write these names."""
+    write these names anew. If it writes names, it looks for terms where an edit has none at hand."""
 
-    def __init__(self, crate, edits, anew, trusts=True):
-        self.crate, self.edits, self.trusts, self.rounds = crate, edits, trusts, 0
+    def __init__(self, crate, edits, anew, names=False):
+        self.crate, self.edits, self.trusts, self.looks, self.rounds = crate, edits, not (names and anew), names, 0
         self.found = []
         # The functions of each edit that a check did not prove, by their names, as far as they are tried.
         self.suspects = {}
@@ -72,7 +72,7 @@ class Judge:
     def judge(self, edit, twin, said):
         """Judges an edit by what a check said."""
         found, fails = findings(self.crate, edit, said), Verdict.NOT_REFUSED
-        asks = any(it.beside for it in self.suspects.get(edit.name, {}).values())
+        asks = any(it.beside or it.others for it in self.suspects.get(edit.name, {}).values())
         if len(found) > len(edit.functions):
             return self.note(edit.name, fails, "its function cannot be told from others of the same name")
         if not said.verdicts:
@@ -134,6 +134,8 @@ class Judge:
             named=named,
             named_terms=terms,
             is_trusted=self.trusts,
+            looks=self.looks,
+            is_explained=edit.is_explained,
         )
 
     def waiting(self, name):
