@@ -31,6 +31,15 @@
  *   that divides its size.
  * - A payload is a number to these calls. The caller owns the memory that it points to, also where a collection is
  *   freed with the payload.
+ *
+ * What each type is called in Rust, which collection of the library it is, in which crate, and in which rows of the
+ * repository's docs/SPEED.md:
+ *
+ *     cordyceps_timers                        Timers  ClockQueue     cordyceps_clock   none
+ *     cordyceps_queue, cordyceps_node_queue   Queue   StableHeap     cordyceps_heap    none
+ *     cordyceps_list, cordyceps_node_list     List    StableList     cordyceps_stable  StableList
+ *     cordyceps_inbox                         Inbox   MpscQueue      cordyceps_queue   MpscQueue, queue
+ *     cordyceps_pile                          Pile    TransferStack  cordyceps_stack   TransferStack, transfer stack
  */
 #ifndef CORDYCEPS_H
 #define CORDYCEPS_H
