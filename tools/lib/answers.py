@@ -23,8 +23,10 @@ IMPORTS = {"rules": "std.proofs.Common", "arith": "std.proofs.Common", "common_s
 # What a goal is asked of there that the right body's proof has no answer to.
 LONGER = f"{at_hand.FIRST} ({SEARCH}, {SEARCH} depth 7 fits 3000, grind (arith, common_steps))"
 # How many checks are asked for at most before terms that do not fit are given up, and what is at hand then.
-MOST_TRIES = 5
+MOST_TRIES = 6
 NOTHING = ["nothing"]
+# Begins what is said of a term that names what the edit has not, and that is not at hand.
+ALL_BUT = "all but "
 # The words with which an answer is refused that names what is not there.
 NO_NAME = "has no field"
 # The words with which a `search` in an answer says that it tried all that it could, or that what it asked last did.
@@ -236,14 +238,19 @@ def asked_of(goal, answers, binders=""):
 
 
 def with_terms(question, terms):
-    """A question with these terms at hand where they stand, as far as it has them.
+    """A question with these terms at hand where they stand, or not at hand, as far as it has them.
 
     >>> with_terms("f c = let right = h d.x in\\n        search rules\\n", ["d.x", "e"])
     'f c = let right = h (let right = d.x in\\n        search rules) in\\n        search rules\\n'
+    >>> with_terms("f c = let right = h d.x in\\n        search rules\\n", ["all but h d.x"])
+    'f c = \\n        search rules\\n'
     """
     for term in terms:
         place = at_hand.place_of(question, term)
-        question = at_hand.finer(question, place) if place else question
+        if term.startswith(ALL_BUT):
+            question = question.replace(f"{at_hand.RIGHT}{term.removeprefix(ALL_BUT)} in\n", "\n")
+        elif place:
+            question = at_hand.finer(question, place)
     return question
 
 
@@ -635,16 +642,26 @@ class Suspect:
 
     def finer(self, goal, text, line):
         """The next question for a goal, after one in a text in which a line refuses a term: with this term at hand
-        where it stands, or else with none; and None after that."""
+        where it stands, or without the one that names what is not there, or else with none; and None after that."""
         place = at_hand.refused_in(text, line) if self.tries < MOST_TRIES else None
+        was = self.terms.get(goal, [])
+        other = at_hand.without(text, line) if self.tries < MOST_TRIES and was != NOTHING else None
+        if other and (not place or self.term_at(text, place) in was):
+            self.terms[goal] = [*was, ALL_BUT + other[1]]
+            return answers_of(other[0])[1][goal]
         # (what has another name is no evidence, but what the edit left out is)
-        if self.terms.get(goal) == NOTHING or not place and NO_NAME in line and not self.drops:
+        if was == NOTHING or not place and NO_NAME in line and not self.drops:
             return None
         if not place:
             self.terms[goal] = NOTHING
             return self.bare(goal)
-        self.terms[goal] = [*self.terms.get(goal, ()), text.split("\n")[place[0]][place[1] : place[2]]]
+        self.terms[goal] = [*was, self.term_at(text, place)]
         return answers_of(at_hand.finer(text, place))[1][goal]
+
+    @staticmethod
+    def term_at(text, place):
+        """The term at a place of a text: of its row, from one column to another."""
+        return text.split("\n")[place[0]][place[1] : place[2]]
 
     def bare(self, goal):
         """A question for a goal with nothing at hand."""

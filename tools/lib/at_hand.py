@@ -11,7 +11,9 @@ REWRITES = re.compile(r"(?:rw|simp)(?![\w.-])")
 # A term that stays as it is: one that holds at any goal, and a value whose type is known only where it stands. A value
 # of a function's run is the one that the goal speaks of, and no other would do.
 AS_IT_IS = re.compile(r"absurd(?![\w.-])|\d+$|\[\]$|_$")
-VALUE = re.compile(r"c(?:\.[\w+-]+)*\.(?:now|old|result|value|(?:new|args)\.\w+)$")
+VALUE = re.compile(r"c(?:\.(?!ensures\b|requires\b)[\w+-]+)*\.(?:now|old|result|value|(?:new|args)\.\w+)$")
+# A term of a sum, whose type is known only where it stands.
+MADE = re.compile(r"(in[lr]) *\(")
 SET = re.compile(r"(?<![\w.-])let ([\w+-]+) = ([\w.+-]+) in(?![\w.-])")
 # A term by which a goal holds whose sides compute to the same, and a name.
 COMPUTES = re.compile(r"refl|\?")
@@ -24,6 +26,8 @@ ASKED = re.compile(r" +(?:Prim\.first_of \()?")
 # (a lemma may have this name)
 FIRST = "Prim.first_of"
 FAILED = re.compile(r"\.antt:(\d+):(\d+): error: `([^`]+)`: (`(?:search|grind|omega|cc)`)?")
+# What puts a term at hand of a question.
+RIGHT = "let right = "
 # The words with which a term is refused whose type is not the one that is wanted where it stands.
 MISMATCH = "but this has type"
 
@@ -134,10 +138,12 @@ def beside(term, bound={}):
     'record { a = (let right = f c.x in search rules); b = (rw e ( search rules)) }'
     >>> shown("rw e at t")
     'let right = rw e at t in search rules'
+    >>> shown("inl (f c.x)")
+    'inl ((let right = f c.x in search rules))'
     >>> shown("let a = b in (a, meets, [])")
     'let a = b in ((let right = a in search rules), ( search (rules, meets)), ([]))'
-    >>> shown("let a = c.push in (a.new.self, c.put.ensures)")
-    'let a = c.push in ((a.new.self), (let right = c.put.ensures in search rules))'
+    >>> shown("let a = c.push in (a.new.self, a.ensures.value)")
+    'let a = c.push in ((a.new.self), (let right = a.ensures.value in search rules))'
     """
     term = " ".join(term.split())
     in_front = let_of(term) or binders_of(term)
@@ -145,6 +151,9 @@ def beside(term, bound={}):
         return f"{in_front[0]} {beside(in_front[1], bound_in(in_front[0], bound))}"
     if term.startswith("(") and is_closed(term, 0):
         return f"({', '.join(f'({beside(it, bound)})' for it in split_at(term[1:-1], ','))})"
+    made = MADE.match(term)
+    if made and is_closed(term, made.end() - 1):
+        return f"{made[1]} {beside(term[made.end() - 1 :], bound)}"
     if re.match(r"elim (?!.*\belim\b)[^\[]*\[ *\|", term) and is_closed(term, term.index("[")):
         return in_branches(term, bound)
     if re.match(r"record *\{", term) and is_closed(term, term.index("{")):
@@ -262,6 +271,27 @@ def finer(text, place):
     bound = bound_in(row[:at], dict(SET.findall("\n".join(rows[:number]))))
     rows[number] = f"{row[:at]}({beside(row[at:end], bound)}){row[end:]}"
     return "\n".join(rows)
+
+
+def without(text, line):
+    """A text of answers without the term at hand in which a line of a check finds fault with a name or a step, and that
+    term; None where it is the only one at hand, or none is at fault.
+
+    >>> text = "f c = (let right = h c.x in\\n        search rules, let right = d in\\n        search rules)"
+    >>> without(text, "./proofs/f/Answers.antt:1:24: error: `f`: record `p` has no field `x`")
+    ('f c = (\\n        search rules, let right = d in\\n        search rules)', 'h c.x')
+    """
+    it = FAILED.search(line)
+    if not it or text.count(RIGHT) < 2:
+        return None
+    number, at = int(it[1]) - 1, int(it[2]) - 1
+    rows = text.split("\n")
+    begins = rows[number].rfind(RIGHT, 0, at)
+    if begins < 0 or not rows[number].endswith(" in"):
+        return None
+    term = rows[number][begins + len(RIGHT) : -len(" in")]
+    rows[number] = rows[number][:begins]
+    return "\n".join(rows), term
 
 
 def place_of(text, term):
