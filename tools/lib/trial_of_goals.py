@@ -110,7 +110,9 @@ TRIED = {
 
 def faults(room):
     """What differs where these bodies are tried."""
-    files = {f"wrong_bodies/{name}.edit": f"{it[2]}file: src/lib.rt\nold: {it[0]}\nnew: {it[1]}\n" for name, it in TRIED.items()}
+    files = {
+        f"wrong_bodies/{name}.edit": f"{it[2]}file: src/lib.rt\nold: {it[0]}\nnew: {it[1]}\n" for name, it in TRIED.items()
+    }
     for path, text in {**KEPT, **files}.items():
         common.write(f"{room.top}/crates/kept/{path}", text)
     room.change("crates.txt", "low:\n", "low:\nkept:\n")
