@@ -41,7 +41,7 @@ LITTLE = "a proof names what the edit took away, and no goal refuses it: change 
 SAFETY = "is not judged: only goals of safety are open, which an empty contract would have too: change the result"
 AT_HAND = "NOT REFUSED: `search` proves its goals where it has the right body's answers at hand"
 UNFIT = "is not judged: terms of the right body's answer do not fit: keep the names, and change another value"
-INNER = "is not judged: only an invariant is open: let a clause fail, or say in a line '# breaks:' how the body breaks it"
+INNER = "is not judged: only an invariant is open: let a clause fail, or say in a line '# breaks:' how it is broken"
 LIMIT = "is not judged: `search` stopped at a limit, so the goal may hold: give it a form in which it does not"
 
 
@@ -622,7 +622,7 @@ class Suspect:
         found = at_hand.left_open(lines, text)
         about = {goal: line for line in lines for goal in named_in(line) or asked if " error: " in line}
         for goal in promises_first(asked):
-            if goal in found and (self.terms.get(goal) != NOTHING or has_ended(found[goal])):
+            if goal in found and self.is_enough(goal, text, found[goal]):
                 question = answers_of(text)[1][goal]
                 self.asserted = goal, found[goal], with_calls(question, self.back) if self.is_renamed else question
                 # (that the question proves the right body's goal was shown when the edit got the goal's name)
@@ -639,6 +639,13 @@ class Suspect:
         self.is_named = False
         self.open = {goal: line for goal, line in self.open.items() if goal not in self.proved}
         return self.asks()
+
+    def is_enough(self, goal, text, line):
+        """Whether a line tells of a question for a goal that is enough to refuse the body if it is left open: it has
+        what the right body's answer has there, or else `search` tried every way."""
+        terms = self.terms.get(goal, [])
+        is_part = any(it.startswith(ALL_BUT) for it in terms)
+        return has_ended(line) or terms != NOTHING and (not is_part or at_hand.has_term(text, line))
 
     def finer(self, goal, text, line):
         """The next question for a goal, after one in a text in which a line refuses a term: with this term at hand

@@ -294,6 +294,18 @@ def without(text, line):
     return "\n".join(rows), term
 
 
+def has_term(text, line):
+    """Whether the question in a text of answers that a line of a check leaves open has a term at hand.
+
+    >>> text = "f c = (let right = d in\\n        search rules, \\n        search rules)"
+    >>> lines = [f"p/Answers.antt:{at}:9: error: `f`: `search`: no proof of `x` was found." for at in (2, 3)]
+    >>> [has_term(text, it) for it in lines]
+    [True, False]
+    """
+    number = int(FAILED.search(line)[1]) - 1
+    return text.split("\n")[number - 1].endswith(" in")
+
+
 def place_of(text, term):
     """The last place in a text of answers at which a term stands, or None.
 

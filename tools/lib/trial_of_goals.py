@@ -38,6 +38,15 @@ pub fn double(x: u64) -> u64
     x + x
 }
 
+/// Returns the double twice.
+pub fn both(x: u64) -> (u64, u64)
+    requires { x < 1000 }
+    ensures { (result.0 ≡ twice x) × (result.1 ≡ twice x) }
+{
+    let twofold = double(x);
+    (twofold, x + x)
+}
+
 impl Pair {
     /// Sets the number, and promises nothing of it.
     pub fn set(&mut self, x: u64)
@@ -84,6 +93,12 @@ use Rattle.kept.proofs.double.Goals as goal
 pub returns : goal.returns
 returns c = twice_is c.args.x
 """,
+    "proofs/both/Answers.antt": """use Rattle.kept.proofs.TwiceIs.{twice_is}
+use Rattle.kept.proofs.both.Goals as goal
+
+pub returns : goal.returns
+returns c = (c.double-twofold.ensures, twice_is c.args.x)
+""",
     **{
         f"proofs/Pair/{it}/Answers.antt": f"""use Rattle.kept.proofs.TwiceIs.{{twice_is}}
 use Rattle.kept.proofs.Pair.{it}.Goals as goal
@@ -96,6 +111,7 @@ invariant_of-self c = twice_is c.args.x
 }
 SET = "        self.high = x + x;"
 BODY = "        double(x)"
+CALL = "    let twofold = double(x);"
 # The bodies that are tried, by their names: the line that changes, what stands in its place, what the edit says, and
 # what is said of it.
 INNER = "FAILED: is not judged: only an invariant is open"
@@ -104,6 +120,7 @@ TRIED = {
     "set_breaks_it": (SET, "        self.high = x;", "# breaks: After a call with 1 both numbers are 1.\n", "refused:"),
     "set_says_nothing": (SET, "        self.high = x;", "", INNER),
     "double_on_another_path": (BODY, "        if x > 5 { return x + x; } double(x)", "", "FAILED"),
+    "both_without_the_call": (CALL, "    let twofold = x;", "", "refused:"),
     "double_is_wrong_there": (BODY, "        if x > 5 { return x; } double(x)", "", "refused:"),
 }
 
@@ -118,4 +135,7 @@ def faults(room):
     room.change("crates.txt", "low:\n", "low:\nkept:\n")
     status, said = room.run("wrong_bodies", "--goals", "kept")
     missing = [name for name, it in TRIED.items() if f"kept: {name}: {it[3]}" not in said]
+    # (what is left of the answer is at hand of the rest)
+    edit = common.text_of(f"{room.top}/crates/kept/wrong_bodies/both_without_the_call.edit")
+    missing += [] if "# at hand: all but c.double-twofold.ensures\n" in edit else ["its terms"]
     return [f"it ended with status {status}, not as wanted at {missing}, and said {said}"] if missing else []
