@@ -1,5 +1,6 @@
 pub mod Answering
 pub mod Fitting
+pub mod HandleWalks
 pub mod Held
 pub mod NodeHandles
 pub mod NodesOut

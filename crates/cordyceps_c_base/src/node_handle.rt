@@ -1,14 +1,16 @@
 //! The handle of a node that C has.
-ghost use Rattle.std.specs.Prelude.{◌≡◌, Option, Some, None, true, false, MatchOption};
+ghost use Rattle.std.specs.Prelude.{◌≡◌, Option, Some, None, true, false, MatchBool, MatchOption};
 ghost use Rattle.cordyceps_base.specs.declared.node.Block.{Block};
 ghost use Rattle.cordyceps_c_base.specs.declared.carried.Carried.{Carried};
 ghost use Rattle.cordyceps_c_base.specs.Elements.{HoldsElement, HoldsNode};
+ghost use Rattle.cordyceps_c_base.specs.Held.{IsAt};
 
 use crate::carried::Carried;
 use crate::raw::RawBox;
 use cordyceps_base::boxes::homes::Home;
 use cordyceps_base::node::{Block, Kind, Node};
 use std::marker::Model;
+use std::ptr::NonNull;
 use std::{mem, ptr};
 
 /// A handle of a node, or of nothing. A contract sees what it holds.
@@ -59,6 +61,21 @@ impl NodeHandle {
         requires { self.held ≡ None }
     {
         let NodeHandle { at: _ } = self;
+    }
+
+    /// Returns where the handle is.
+    fn place(&mut self) -> *mut u8
+        ensures { (result ≡ self.old.at) × (self.new ≡ self.old) × IsAt self.old.at self.old.held }
+    {
+        self.at
+    }
+
+    /// Returns `true` if a node is held.
+    pub fn is_some(&mut self) -> bool
+        ensures same { self.new ≡ self.old }
+        ensures found { MatchBool result (HoldsNode self.old.held) (self.old.held ≡ None) }
+    {
+        NonNull::new(self.place()).is_some()
     }
 
     /// Takes what is held, which leaves nothing. Requires that something is held.

@@ -1,13 +1,16 @@
 //! The handle of a list of C's own nodes that C has.
-ghost use Rattle.std.specs.Prelude.{◌≡◌, Option, Some, None};
+ghost use Rattle.std.specs.Prelude.{◌≡◌, Option, Some, None, MatchBool};
+ghost use Rattle.std.specs.Borrow.{sem};
 ghost use Rattle.cordyceps_base.specs.Nodes.{Nodes};
 ghost use Rattle.cordyceps_c_base.specs.declared.carried.Carried.{Carried};
+ghost use Rattle.cordyceps_c_base.specs.Held.{IsAt};
 
 use cordyceps_base::boxes::homes::Home;
 use cordyceps_c_base::carried::Carried;
 use cordyceps_c_base::raw::RawBox;
 use cordyceps_stable::stable_list::StableList;
 use std::marker::Model;
+use std::ptr::NonNull;
 use std::{mem, ptr};
 
 /// A handle of a list of C's own nodes, or of nothing. A contract sees what it holds.
@@ -25,6 +28,8 @@ impl Model for NodeListHandle {
 }
 
 impl NodeListHandle {
+    ghost use Rattle.cordyceps_c_lists.specs.Lends.{lends_node_list};
+
     /// Returns the handle of nothing.
     fn none() -> NodeListHandle
         ensures { result.held ≡ None }
@@ -58,6 +63,31 @@ impl NodeListHandle {
         requires { self.held ≡ None }
     {
         let NodeListHandle { at: _ } = self;
+    }
+
+    /// Returns where the handle is.
+    fn place(&mut self) -> *mut u8
+        ensures { (result ≡ self.old.at) × (self.new ≡ self.old) × IsAt self.old.at self.old.held }
+    {
+        self.at
+    }
+
+    /// Returns `true` if a list is held.
+    pub fn is_some(&mut self) -> bool
+        ensures same { self.new ≡ self.old }
+        ensures found { MatchBool result ((x : Nodes Carried) × (self.old.held ≡ Some x)) (self.old.held ≡ None) }
+    {
+        NonNull::new(self.place()).is_some()
+    }
+
+    /// Returns a mutable reference to the list that is held. Requires that one is.
+    pub fn list_mut(&mut self) -> &mut StableList<Carried>
+        requires { (x : Nodes Carried) × (self.old.held ≡ Some x) }
+        ensures* writes_back { sem 𝓛 (lends_node_list self.entry result) }
+        ensures value { self.old.held ≡ Some result.now }
+    {
+        let at = self.at as *mut StableList<Carried>;
+        unsafe { &mut *at }
     }
 
     /// Takes what is held, which leaves nothing. Requires that something is held.

@@ -1,3 +1,4 @@
 pub mod Inboxes
+pub mod Lends
 pub mod Piles
 pub mod Rows

@@ -1,5 +1,6 @@
 //! The handle of a pile that C has.
-ghost use Rattle.std.specs.Prelude.{◌≡◌, Option, Some, None, MatchOption};
+ghost use Rattle.std.specs.Prelude.{◌≡◌, Option, Some, None, MatchBool, MatchOption};
+ghost use Rattle.std.specs.Borrow.{sem};
 ghost use Rattle.cordyceps_c_base.specs.Held.{IsAt};
 ghost use Rattle.cordyceps_c_shared.specs.declared.pile.Pile.{Pile};
 
@@ -28,6 +29,8 @@ impl Model for PileHandle {
 unsafe impl Send for PileHandle {}
 
 impl PileHandle {
+    ghost use Rattle.cordyceps_c_shared.specs.Lends.{lends_pile};
+
     /// Returns the handle of nothing.
     fn none() -> PileHandle
         ensures { result.held ≡ None }
@@ -56,14 +59,6 @@ impl PileHandle {
         RawBox { at, alloc }
     }
 
-    /// Returns where the handle is, and the handle.
-    fn located(self) -> (*mut u8, PileHandle)
-        ensures { (result.0 ≡ self.at) × (result.1 ≡ self) × IsAt self.at self.held }
-    {
-        let PileHandle { at } = self;
-        (at, PileHandle { at })
-    }
-
     /// Ends the handle of nothing.
     fn discard(self)
         requires { self.held ≡ None }
@@ -71,16 +66,40 @@ impl PileHandle {
         let PileHandle { at: _ } = self;
     }
 
+    /// Returns where the handle is.
+    fn place(&mut self) -> *mut u8
+        ensures { (result ≡ self.old.at) × (self.new ≡ self.old) × IsAt self.old.at self.old.held }
+    {
+        self.at
+    }
+
+    /// Returns `true` if a pile is held.
+    pub fn is_some(&mut self) -> bool
+        ensures same { self.new ≡ self.old }
+        ensures found { MatchBool result ((x : Pile) × (self.old.held ≡ Some x)) (self.old.held ≡ None) }
+    {
+        NonNull::new(self.place()).is_some()
+    }
+
+    /// Returns a mutable reference to the pile that is held. Requires that one is.
+    pub fn pile_mut(&mut self) -> &mut Pile
+        requires { (x : Pile) × (self.old.held ≡ Some x) }
+        ensures* writes_back { sem 𝓛 (lends_pile self.entry result) }
+        ensures value { self.old.held ≡ Some result.now }
+    {
+        let at = self.at as *mut Pile;
+        unsafe { &mut *at }
+    }
+
     /// Takes what is held, which leaves nothing.
     pub fn take(&mut self, alloc: Global) -> Option<Box<Pile>>
         ensures taken { MatchOption result (self.old.held ≡ None) (λ b. self.old.held ≡ Some b.value) }
         ensures none { self.new.held ≡ None }
     {
-        let (at, whole) = mem::replace(self, PileHandle::none()).located();
-        let Some(_) = NonNull::new(at) else {
-            whole.discard();
+        if !self.is_some() {
             return None;
-        };
+        }
+        let whole = mem::replace(self, PileHandle::none());
         Some(whole.into_raw(alloc).into_box())
     }
 

@@ -1,4 +1,5 @@
 pub mod Arranged
+pub mod Lends
 pub mod NodeQueues
 pub mod Queues
 pub mod Rows

@@ -1,12 +1,15 @@
 //! The handle of a priority queue of C's own nodes that C has.
-ghost use Rattle.std.specs.Prelude.{◌≡◌, Option, Some, None};
+ghost use Rattle.std.specs.Prelude.{◌≡◌, Option, Some, None, MatchBool};
+ghost use Rattle.std.specs.Borrow.{sem};
 ghost use Rattle.cordyceps_base.specs.Nodes.{Nodes};
 ghost use Rattle.cordyceps_c_base.specs.declared.carried.Carried.{Carried};
+ghost use Rattle.cordyceps_c_base.specs.Held.{IsAt};
 
 use crate::node_queue::NodeQueue;
 use cordyceps_base::boxes::homes::Home;
 use cordyceps_c_base::raw::RawBox;
 use std::marker::Model;
+use std::ptr::NonNull;
 use std::{mem, ptr};
 
 /// A handle of a priority queue of C's own nodes, or of nothing. A contract sees what it holds.
@@ -24,6 +27,8 @@ impl Model for NodeQueueHandle {
 }
 
 impl NodeQueueHandle {
+    ghost use Rattle.cordyceps_c_timers.specs.Lends.{lends_node_queue};
+
     /// Returns the handle of nothing.
     fn none() -> NodeQueueHandle
         ensures { result.held ≡ None }
@@ -57,6 +62,31 @@ impl NodeQueueHandle {
         requires { self.held ≡ None }
     {
         let NodeQueueHandle { at: _ } = self;
+    }
+
+    /// Returns where the handle is.
+    fn place(&mut self) -> *mut u8
+        ensures { (result ≡ self.old.at) × (self.new ≡ self.old) × IsAt self.old.at self.old.held }
+    {
+        self.at
+    }
+
+    /// Returns `true` if a queue is held.
+    pub fn is_some(&mut self) -> bool
+        ensures same { self.new ≡ self.old }
+        ensures found { MatchBool result ((x : Nodes Carried) × (self.old.held ≡ Some x)) (self.old.held ≡ None) }
+    {
+        NonNull::new(self.place()).is_some()
+    }
+
+    /// Returns a mutable reference to the queue that is held. Requires that one is.
+    pub fn queue_mut(&mut self) -> &mut NodeQueue
+        requires { (x : Nodes Carried) × (self.old.held ≡ Some x) }
+        ensures* writes_back { sem 𝓛 (lends_node_queue self.entry result) }
+        ensures value { self.old.held ≡ Some result.now }
+    {
+        let at = self.at as *mut NodeQueue;
+        unsafe { &mut *at }
     }
 
     /// Takes what is held, which leaves nothing. Requires that something is held.

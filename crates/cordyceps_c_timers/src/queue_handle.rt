@@ -1,5 +1,6 @@
 //! The handle of a priority queue that C has.
-ghost use Rattle.std.specs.Prelude.{◌≡◌, Option, Some, None, MatchOption};
+ghost use Rattle.std.specs.Prelude.{◌≡◌, Option, Some, None, MatchBool, MatchOption};
+ghost use Rattle.std.specs.Borrow.{sem};
 ghost use Rattle.cordyceps_c_base.specs.Held.{IsAt};
 ghost use Rattle.cordyceps_c_timers.specs.Queues.{Queued};
 
@@ -28,6 +29,8 @@ impl Model for QueueHandle {
 unsafe impl Send for QueueHandle {}
 
 impl QueueHandle {
+    ghost use Rattle.cordyceps_c_timers.specs.Lends.{lends_queue};
+
     /// Returns the handle of nothing.
     fn none() -> QueueHandle
         ensures { result.held ≡ None }
@@ -56,14 +59,6 @@ impl QueueHandle {
         RawBox { at, alloc }
     }
 
-    /// Returns where the handle is, and the handle.
-    fn located(self) -> (*mut u8, QueueHandle)
-        ensures { (result.0 ≡ self.at) × (result.1 ≡ self) × IsAt self.at self.held }
-    {
-        let QueueHandle { at } = self;
-        (at, QueueHandle { at })
-    }
-
     /// Ends the handle of nothing.
     fn discard(self)
         requires { self.held ≡ None }
@@ -71,16 +66,40 @@ impl QueueHandle {
         let QueueHandle { at: _ } = self;
     }
 
+    /// Returns where the handle is.
+    fn place(&mut self) -> *mut u8
+        ensures { (result ≡ self.old.at) × (self.new ≡ self.old) × IsAt self.old.at self.old.held }
+    {
+        self.at
+    }
+
+    /// Returns `true` if a queue is held.
+    pub fn is_some(&mut self) -> bool
+        ensures same { self.new ≡ self.old }
+        ensures found { MatchBool result ((x : Queued) × (self.old.held ≡ Some x)) (self.old.held ≡ None) }
+    {
+        NonNull::new(self.place()).is_some()
+    }
+
+    /// Returns a mutable reference to the queue that is held. Requires that one is.
+    pub fn queue_mut(&mut self) -> &mut Queue
+        requires { (x : Queued) × (self.old.held ≡ Some x) }
+        ensures* writes_back { sem 𝓛 (lends_queue self.entry result) }
+        ensures value { self.old.held ≡ Some result.now }
+    {
+        let at = self.at as *mut Queue;
+        unsafe { &mut *at }
+    }
+
     /// Takes what is held, which leaves nothing.
     pub fn take(&mut self, alloc: Global) -> Option<Box<Queue>>
         ensures taken { MatchOption result (self.old.held ≡ None) (λ b. self.old.held ≡ Some b.value) }
         ensures none { self.new.held ≡ None }
     {
-        let (at, whole) = mem::replace(self, QueueHandle::none()).located();
-        let Some(_) = NonNull::new(at) else {
-            whole.discard();
+        if !self.is_some() {
             return None;
-        };
+        }
+        let whole = mem::replace(self, QueueHandle::none());
         Some(whole.into_raw(alloc).into_box())
     }
 

@@ -1,11 +1,6 @@
-use Rattle.std.proofs.Common.{ap, ◌∙◌, subst}
-use denote.RawPtr.{InBlock}
+use Rattle.std.proofs.Common.{ap, ◌∙◌}
 use Rattle.cordyceps_c_timers.specs.declared.queue_handle.QueueHandle.{QueueHandle}
-use Rattle.cordyceps_c_base.proofs.Held.{held_some}
 use Rattle.cordyceps_c_timers.proofs.queue_handle.QueueHandle.take.Goals as goal
 
 pub into_raw-requires : goal.into_raw-requires
-into_raw-requires c =
-    let whole = c.replace.result in let (here, same, at) = c.located-at.ensures in
-    let (x, is) = held_some whole.at whole.held at (subst InBlock (c.in-Some.ensures.value ∙ here) c.in-Some.ensures.non_null) in
-    (x, ap (λ (h : QueueHandle). h.held) same ∙ is)
+into_raw-requires c = let (x, is) = c.if-not-is_some.ensures.found in (x, ap (λ (h : QueueHandle). h.held) (c.replace-whole.ensures.value ∙ c.is_some.ensures.same) ∙ is)
