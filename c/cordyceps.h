@@ -392,7 +392,7 @@ bool cordyceps_pile_free(cordyceps_pile *pile);
  *   is the caller's all the time. Once the node came out, its links are the caller's too, and can go into any
  *   collection as they are.
  * - A handle of a node, a list or a queue is of something where a call gets it, and of nothing, {NULL}, where the call
- *   has it as `out`.
+ *   has it as `out`. The calls that end in _free take both.
  * - A list or a queue in memory of the caller's has one handle, which begins as {&memory}. The memory is set from its
  *   macro before the first call, and then the caller does not read, write, move or free it, until the list or the queue
  *   is freed.
@@ -420,7 +420,8 @@ typedef struct {
 #define cordyceps_container(links, type, member) ((type *)(void *)((char *)(links) - offsetof(type, member)))
 
 /* Frees a node that cordyceps_inbox_send or cordyceps_pile_push made. A node in a struct of the caller's is not freed,
- * and is the caller's again. The handle is of nothing then. O(1), at most one free. */
+ * and is the caller's again. The handle is of nothing then. To the handle of nothing it does nothing. O(1), at most one
+ * free. */
 void cordyceps_node_free(cordyceps_node *node);
 
 /* ---- Lists of nodes */
@@ -444,7 +445,8 @@ typedef struct {
 bool cordyceps_node_list_new(cordyceps_node_list *out);
 
 /* Frees an empty list, or gives the memory back in which the caller made it. The handle is of nothing then. false: the
- * list has nodes; nothing has changed. O(1), and one free of a list that cordyceps_node_list_new made. */
+ * list has nodes, or the handle was of nothing; nothing has changed. O(1), and one free of a list that
+ * cordyceps_node_list_new made. */
 bool cordyceps_node_list_free(cordyceps_node_list *list);
 
 /* How many nodes there are. O(1). */
@@ -516,7 +518,8 @@ typedef struct {
 bool cordyceps_node_queue_new(cordyceps_node_queue *out);
 
 /* Frees an empty queue, or gives the memory back in which the caller made it. The handle is of nothing then. false: the
- * queue has nodes; nothing has changed. O(1), and one free of a queue that cordyceps_node_queue_new made. */
+ * queue has nodes, or the handle was of nothing; nothing has changed. O(1), and one free of a queue that
+ * cordyceps_node_queue_new made. */
 bool cordyceps_node_queue_free(cordyceps_node_queue *queue);
 
 /* How many nodes there are. O(1). */

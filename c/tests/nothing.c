@@ -112,6 +112,7 @@ static void inbox_made_twice(void) {
   CHECK(cordyceps_inbox_receive(&other, &payload) == CORDYCEPS_EMPTY);
   CHECK(cordyceps_inbox_free(&inbox) && cordyceps_inbox_free(&other));
   CHECK(!inbox.at && !other.at);
+  CHECK(!cordyceps_inbox_free(&inbox) && !inbox.at);
 }
 
 static void pile_of_nothing(void) {
@@ -141,6 +142,48 @@ static void pile_made_twice(void) {
   CHECK(!cordyceps_pile_pop(&other, &payload) && payload == 7);
   CHECK(cordyceps_pile_free(&pile) && cordyceps_pile_free(&other));
   CHECK(!pile.at && !other.at);
+  CHECK(!cordyceps_pile_free(&pile) && !pile.at);
+}
+
+static void nodes_of_nothing(void) {
+  cordyceps_node node = {NULL};
+  cordyceps_node_list list = {NULL};
+  cordyceps_node_queue queue = {NULL};
+  cordyceps_node_free(&node);
+  CHECK(!cordyceps_node_list_free(&list) && !cordyceps_node_queue_free(&queue));
+  CHECK(!node.at && !list.at && !queue.at);
+}
+
+static void nodes_freed_twice(void) {
+  cordyceps_links links = CORDYCEPS_LINKS_INIT;
+  cordyceps_node own = {&links}, made = {NULL};
+  cordyceps_inbox inbox = {0};
+  cordyceps_node_free(&own);
+  CHECK(!own.at);
+  cordyceps_node_free(&own);
+  CHECK(!own.at);
+  CHECK(cordyceps_inbox_new(1, &inbox) && cordyceps_inbox_send(&inbox, 5) == CORDYCEPS_DONE);
+  CHECK(cordyceps_inbox_receive_node(&inbox, &made) == CORDYCEPS_DONE && made.at && made.at->value == 5);
+  cordyceps_node_free(&made);
+  CHECK(!made.at);
+  cordyceps_node_free(&made);
+  CHECK(!made.at && cordyceps_inbox_free(&inbox));
+}
+
+static void node_lists_freed_twice(void) {
+  cordyceps_node_list_memory memory = CORDYCEPS_NODE_LIST_INIT;
+  cordyceps_node_list own = {&memory}, made = {NULL};
+  CHECK(cordyceps_node_list_free(&own) && !own.at && !cordyceps_node_list_free(&own) && !own.at);
+  CHECK(cordyceps_node_list_new(&made) && made.at);
+  CHECK(cordyceps_node_list_free(&made) && !made.at && !cordyceps_node_list_free(&made) && !made.at);
+}
+
+static void node_queues_freed_twice(void) {
+  cordyceps_node_queue_memory memory = CORDYCEPS_NODE_QUEUE_INIT;
+  cordyceps_node_queue own = {&memory}, made = {NULL};
+  CHECK(cordyceps_node_queue_free(&own) && !own.at && !cordyceps_node_queue_free(&own) && !own.at);
+  CHECK(cordyceps_node_queue_new(&made) && made.at);
+  CHECK(cordyceps_node_queue_free(&made) && !made.at && !cordyceps_node_queue_free(&made) && !made.at);
 }
 
 int main(void) {
@@ -154,5 +197,9 @@ int main(void) {
   inbox_made_twice();
   pile_of_nothing();
   pile_made_twice();
+  nodes_of_nothing();
+  nodes_freed_twice();
+  node_lists_freed_twice();
+  node_queues_freed_twice();
   return 0;
 }

@@ -1,5 +1,5 @@
 //! The calls of lists of C's own nodes.
-ghost use Rattle.std.specs.Prelude.{◌≡◌, ◌≢◌, ◌<◌, [], ◌∷◌, ◌++◌, length, Some, None, MatchBool};
+ghost use Rattle.std.specs.Prelude.{◌≡◌, ◌≢◌, ◌<◌, [], ◌∷◌, ◌++◌, length, false, Some, None, MatchBool, MatchOption};
 ghost use denote.RawPtr.{Ptr};
 ghost use Rattle.cordyceps_base.specs.Element.{Element};
 ghost use Rattle.cordyceps_base.specs.Nodes.{Nodes};
@@ -36,16 +36,20 @@ pub extern "C" fn cordyceps_node_list_new(alloc: Global, out: &mut NodeListHandl
 }
 
 /// Frees an empty list that `cordyceps_node_list_new` made, and returns `true`: the handle is of nothing then. Returns
-/// `false` if the list has nodes, and changes nothing then. A list in memory of the caller's only leaves its handle.
+/// `false` if the list has nodes, or if the handle is of nothing, and changes nothing then. A list in memory of the
+/// caller's only leaves its handle.
 ///
 /// # Complexity
 /// O(1).
 #[unsafe(no_mangle)]
 pub extern "C" fn cordyceps_node_list_free(alloc: Global, list: &mut NodeListHandle) -> bool
-    requires { (c : Nodes Carried) × (list.old.held ≡ Some c) }
-    ensures { (c : Nodes Carried) × (list.old.held ≡ Some c)
-        × MatchBool result ((c ≡ []) × (list.new.held ≡ None)) ((c ≢ []) × (list.new.held ≡ Some c)) }
+    ensures { MatchOption list.old.held
+        ((result ≡ false) × (list.new.held ≡ None))
+        (λ c. MatchBool result ((c ≡ []) × (list.new.held ≡ None)) ((c ≢ []) × (list.new.held ≡ Some c))) }
 {
+    if !list.is_some() {
+        return false;
+    }
     let held = list.take();
     if !held.is_empty() {
         list.put(held);

@@ -1,5 +1,5 @@
 //! The calls of priority queues of C's own nodes.
-ghost use Rattle.std.specs.Prelude.{◌≡◌, ◌≢◌, ◌<◌, ◌≤◌, [], length, Some, None, MatchBool};
+ghost use Rattle.std.specs.Prelude.{◌≡◌, ◌≢◌, ◌<◌, ◌≤◌, [], length, false, Some, None, MatchBool, MatchOption};
 ghost use Rattle.cordyceps_base.specs.Element.{Element};
 ghost use Rattle.cordyceps_base.specs.Nodes.{Nodes};
 ghost use Rattle.cordyceps_base.specs.BySpot.{HasSpot, IsTaken};
@@ -36,17 +36,20 @@ pub extern "C" fn cordyceps_node_queue_new(alloc: Global, out: &mut NodeQueueHan
 }
 
 /// Frees an empty queue that `cordyceps_node_queue_new` made, and returns `true`: the handle is of nothing then.
-/// Returns `false` if the queue has nodes, and changes nothing then. A queue in memory of the caller's only leaves its
-/// handle.
+/// Returns `false` if the queue has nodes, or if the handle is of nothing, and changes nothing then. A queue in memory
+/// of the caller's only leaves its handle.
 ///
 /// # Complexity
 /// O(1).
 #[unsafe(no_mangle)]
 pub extern "C" fn cordyceps_node_queue_free(alloc: Global, queue: &mut NodeQueueHandle) -> bool
-    requires { (c : Nodes Carried) × (queue.old.held ≡ Some c) }
-    ensures { (c : Nodes Carried) × (queue.old.held ≡ Some c)
-        × MatchBool result ((c ≡ []) × (queue.new.held ≡ None)) ((c ≢ []) × (queue.new.held ≡ Some c)) }
+    ensures { MatchOption queue.old.held
+        ((result ≡ false) × (queue.new.held ≡ None))
+        (λ c. MatchBool result ((c ≡ []) × (queue.new.held ≡ None)) ((c ≢ []) × (queue.new.held ≡ Some c))) }
 {
+    if !queue.is_some() {
+        return false;
+    }
     let held = queue.take();
     if held.len() > 0 {
         queue.put(held);
