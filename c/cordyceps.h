@@ -22,9 +22,14 @@
  * - A handle is zero before its first call. From then on only these calls write it. A copy is not used beside it: to
  *   move a handle, copy it and set the first one to zero.
  * - No pointer is null, and two pointers of a call lead to different memory.
- * - One call at a time is made on a handle. Another thread may make the next one, if a lock, the start or the join
- *   of a thread, or a sequentially consistent atomic lies between the two. Calls on different handles may run at the
- *   same time, also where these are of one inbox or one pile.
+ * - One call at a time is made on a handle, but for calls that only read. Another thread may make the next one, if a
+ *   lock, the start or the join of a thread, or a sequentially consistent atomic lies between the two. Calls on
+ *   different handles may run at the same time, also where these are of one inbox or one pile.
+ * - These calls only read: cordyceps_timers_len and cordyceps_timers_not_before, cordyceps_queue_len, of lists and of
+ *   lists of nodes those that end in _get, _front, _back, _next, _prev and _len, and cordyceps_node_queue_len. They
+ *   store nothing but *out. So threads may make them on one handle at the same time, as under a read lock, while no
+ *   other call is made on it. Tests show this, and no contract says it. cordyceps_queue_front and
+ *   cordyceps_node_queue_first put the queue in order, and are as all other calls.
  * - A spot is of the collection that gets it, and its element is still in it.
  * - No call is made from a signal handler, or in the child of a fork of a process with threads.
  * - malloc, realloc and free are of one allocator. malloc and realloc align a block to each power of two up to 16

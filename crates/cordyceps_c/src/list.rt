@@ -215,22 +215,16 @@ pub extern "C" fn cordyceps_list_remove(
 /// # Complexity
 /// O(1).
 #[unsafe(no_mangle)]
-pub extern "C" fn cordyceps_list_get(
-    alloc: Global,
-    list: &mut ListHandle,
-    at: Ticket,
-    out: &mut u64,
-) -> bool
+pub extern "C" fn cordyceps_list_get(list: &mut ListHandle, at: Ticket, out: &mut u64) -> bool
     ensures kept { list.new.held ≡ list.old.held }
     ensures found { MatchOption list.old.held
         ((result ≡ false) × (out.new ≡ out.old))
         (λ l. MatchBool result (Holds at out.new l) ((out.new ≡ out.old) × NamesNone l at)) }
 {
-    let Some(held) = list.take(alloc) else {
+    if !list.is_some() {
         return false;
-    };
-    let payload = held.get(at);
-    list.put(held);
+    }
+    let payload = list.list_mut().get(at);
     write_found(out, payload)
 }
 
@@ -240,21 +234,16 @@ pub extern "C" fn cordyceps_list_get(
 /// # Complexity
 /// O(1).
 #[unsafe(no_mangle)]
-pub extern "C" fn cordyceps_list_front(
-    alloc: Global,
-    list: &mut ListHandle,
-    out: &mut Ticket,
-) -> bool
+pub extern "C" fn cordyceps_list_front(list: &mut ListHandle, out: &mut Ticket) -> bool
     ensures kept { list.new.held ≡ list.old.held }
     ensures found { MatchOption list.old.held
         ((result ≡ false) × (out.new ≡ out.old))
         (λ l. MatchBool result (NamesFirst out.new l) ((out.new ≡ out.old) × (l.nodes ≡ []))) }
 {
-    let Some(held) = list.take(alloc) else {
+    if !list.is_some() {
         return false;
-    };
-    let ticket = held.front();
-    list.put(held);
+    }
+    let ticket = list.list_mut().front();
     write_found(out, ticket)
 }
 
@@ -263,21 +252,16 @@ pub extern "C" fn cordyceps_list_front(
 /// # Complexity
 /// O(1).
 #[unsafe(no_mangle)]
-pub extern "C" fn cordyceps_list_back(
-    alloc: Global,
-    list: &mut ListHandle,
-    out: &mut Ticket,
-) -> bool
+pub extern "C" fn cordyceps_list_back(list: &mut ListHandle, out: &mut Ticket) -> bool
     ensures kept { list.new.held ≡ list.old.held }
     ensures found { MatchOption list.old.held
         ((result ≡ false) × (out.new ≡ out.old))
         (λ l. MatchBool result (NamesLast out.new l) ((out.new ≡ out.old) × (l.nodes ≡ []))) }
 {
-    let Some(held) = list.take(alloc) else {
+    if !list.is_some() {
         return false;
-    };
-    let ticket = held.back();
-    list.put(held);
+    }
+    let ticket = list.list_mut().back();
     write_found(out, ticket)
 }
 
@@ -287,22 +271,16 @@ pub extern "C" fn cordyceps_list_back(
 /// # Complexity
 /// O(1).
 #[unsafe(no_mangle)]
-pub extern "C" fn cordyceps_list_next(
-    alloc: Global,
-    list: &mut ListHandle,
-    at: Ticket,
-    out: &mut Ticket,
-) -> bool
+pub extern "C" fn cordyceps_list_next(list: &mut ListHandle, at: Ticket, out: &mut Ticket) -> bool
     ensures kept { list.new.held ≡ list.old.held }
     ensures found { MatchOption list.old.held
         ((result ≡ false) × (out.new ≡ out.old))
         (λ l. MatchBool result (NamesNext at out.new l) ((out.new ≡ out.old) × (NamesNone l at ⊎ NamesLast at l))) }
 {
-    let Some(held) = list.take(alloc) else {
+    if !list.is_some() {
         return false;
-    };
-    let ticket = held.next(at);
-    list.put(held);
+    }
+    let ticket = list.list_mut().next(at);
     write_found(out, ticket)
 }
 
@@ -312,22 +290,16 @@ pub extern "C" fn cordyceps_list_next(
 /// # Complexity
 /// O(1).
 #[unsafe(no_mangle)]
-pub extern "C" fn cordyceps_list_prev(
-    alloc: Global,
-    list: &mut ListHandle,
-    at: Ticket,
-    out: &mut Ticket,
-) -> bool
+pub extern "C" fn cordyceps_list_prev(list: &mut ListHandle, at: Ticket, out: &mut Ticket) -> bool
     ensures kept { list.new.held ≡ list.old.held }
     ensures found { MatchOption list.old.held
         ((result ≡ false) × (out.new ≡ out.old))
         (λ l. MatchBool result (NamesNext out.new at l) ((out.new ≡ out.old) × (NamesNone l at ⊎ NamesFirst at l))) }
 {
-    let Some(held) = list.take(alloc) else {
+    if !list.is_some() {
         return false;
-    };
-    let ticket = held.prev(at);
-    list.put(held);
+    }
+    let ticket = list.list_mut().prev(at);
     write_found(out, ticket)
 }
 
@@ -409,15 +381,14 @@ pub extern "C" fn cordyceps_list_move_after(
 /// # Complexity
 /// O(1).
 #[unsafe(no_mangle)]
-pub extern "C" fn cordyceps_list_len(alloc: Global, list: &mut ListHandle) -> usize
+pub extern "C" fn cordyceps_list_len(list: &mut ListHandle) -> usize
     ensures len { MatchOption list.old.held (result ≡ 0) (λ l. result ≡ length l.nodes) }
     ensures kept { list.new.held ≡ list.old.held }
 {
-    let Some(held) = list.take(alloc) else {
+    if !list.is_some() {
         return 0;
-    };
-    let len = held.len();
-    list.put(held);
+    }
+    let len = list.list_mut().len();
     len
 }
 

@@ -68,9 +68,7 @@ pub extern "C" fn cordyceps_node_list_len(list: &mut NodeListHandle) -> usize
     requires { (c : Nodes Carried) × (list.old.held ≡ Some c) }
     ensures { (c : Nodes Carried) × (list.old.held ≡ Some c) × (list.new.held ≡ Some c) × (result ≡ length c) }
 {
-    let held = list.take();
-    let count = held.len();
-    list.put(held);
+    let count = list.list_mut().len();
     count
 }
 
@@ -243,9 +241,7 @@ pub extern "C" fn cordyceps_node_list_front(list: &mut NodeListHandle, out: &mut
     ensures { (c : Nodes Carried) × (list.old.held ≡ Some c) × (list.new.held ≡ Some c)
         × MatchBool result (IsFirst c out.new) ((c ≡ []) × (out.new ≡ out.old)) }
 {
-    let held = list.take();
-    let spot = held.front();
-    list.put(held);
+    let spot = list.list_mut().front();
     write_found(out, spot)
 }
 
@@ -260,9 +256,7 @@ pub extern "C" fn cordyceps_node_list_back(list: &mut NodeListHandle, out: &mut 
     ensures { (c : Nodes Carried) × (list.old.held ≡ Some c) × (list.new.held ≡ Some c)
         × MatchBool result (IsLast c out.new) ((c ≡ []) × (out.new ≡ out.old)) }
 {
-    let held = list.take();
-    let spot = held.back();
-    list.put(held);
+    let spot = list.list_mut().back();
     write_found(out, spot)
 }
 
@@ -282,9 +276,7 @@ pub extern "C" fn cordyceps_node_list_next(
     ensures { (c : Nodes Carried) × (list.old.held ≡ Some c) × (list.new.held ≡ Some c)
         × MatchBool result (AreNext c at out.new) (IsLast c at × (out.new ≡ out.old)) }
 {
-    let held = list.take();
-    let spot = held.next(at);
-    list.put(held);
+    let spot = list.list_mut().next(at);
     write_found(out, spot)
 }
 
@@ -304,9 +296,7 @@ pub extern "C" fn cordyceps_node_list_prev(
     ensures { (c : Nodes Carried) × (list.old.held ≡ Some c) × (list.new.held ≡ Some c)
         × MatchBool result (AreNext c out.new at) (IsFirst c at × (out.new ≡ out.old)) }
 {
-    let held = list.take();
-    let spot = held.prev(at);
-    list.put(held);
+    let spot = list.list_mut().prev(at);
     write_found(out, spot)
 }
 

@@ -68,9 +68,7 @@ pub extern "C" fn cordyceps_node_queue_len(queue: &mut NodeQueueHandle) -> usize
     requires { (c : Nodes Carried) × (queue.old.held ≡ Some c) }
     ensures { (c : Nodes Carried) × (queue.old.held ≡ Some c) × (queue.new.held ≡ Some c) × (result ≡ length c) }
 {
-    let held = queue.take();
-    let count = held.len();
-    queue.put(held);
+    let count = queue.queue_mut().len();
     count
 }
 

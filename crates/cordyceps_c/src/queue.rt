@@ -245,15 +245,14 @@ pub extern "C" fn cordyceps_queue_change_unchecked(
 /// # Complexity
 /// O(1).
 #[unsafe(no_mangle)]
-pub extern "C" fn cordyceps_queue_len(alloc: Global, queue: &mut QueueHandle) -> usize
+pub extern "C" fn cordyceps_queue_len(queue: &mut QueueHandle) -> usize
     ensures len { MatchOption queue.old.held (result ≡ 0) (λ q. result ≡ length q.nodes) }
     ensures kept { queue.new.held ≡ queue.old.held }
 {
-    let Some(held) = queue.take(alloc) else {
+    if !queue.is_some() {
         return 0;
-    };
-    let len = held.len();
-    queue.put(held);
+    }
+    let len = queue.queue_mut().len();
     len
 }
 

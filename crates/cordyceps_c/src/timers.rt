@@ -232,21 +232,16 @@ pub extern "C" fn cordyceps_timers_pop_due(
 /// # Complexity
 /// O(1).
 #[unsafe(no_mangle)]
-pub extern "C" fn cordyceps_timers_not_before(
-    alloc: Global,
-    timers: &mut TimersHandle,
-    out: &mut u64,
-) -> bool
+pub extern "C" fn cordyceps_timers_not_before(timers: &mut TimersHandle, out: &mut u64) -> bool
     ensures bound { MatchOption timers.old.held
         ((result ≡ false) × (out.new ≡ out.old))
         (λ t. MatchBool result (Bounds (Some out.new) t) ((out.new ≡ out.old) × Bounds None t)) }
     ensures kept { timers.new.held ≡ timers.old.held }
 {
-    let Some(held) = timers.take(alloc) else {
+    if !timers.is_some() {
         return false;
-    };
-    let bound = held.not_before();
-    timers.put(held);
+    }
+    let bound = timers.timers_mut().not_before();
     write_found(out, bound)
 }
 
@@ -255,15 +250,14 @@ pub extern "C" fn cordyceps_timers_not_before(
 /// # Complexity
 /// O(1).
 #[unsafe(no_mangle)]
-pub extern "C" fn cordyceps_timers_len(alloc: Global, timers: &mut TimersHandle) -> usize
+pub extern "C" fn cordyceps_timers_len(timers: &mut TimersHandle) -> usize
     ensures len { MatchOption timers.old.held (result ≡ 0) (λ t. result ≡ length t.nodes) }
     ensures kept { timers.new.held ≡ timers.old.held }
 {
-    let Some(held) = timers.take(alloc) else {
+    if !timers.is_some() {
         return 0;
-    };
-    let len = held.len();
-    timers.put(held);
+    }
+    let len = timers.timers_mut().len();
     len
 }
 

@@ -1,11 +1,12 @@
-use Rattle.std.proofs.Common.{◌⊎◌, Option, Some, MatchOption, sym, ◌∙◌}
+use Rattle.std.proofs.Common.{◌⊎◌, Option, MatchOption, sym, ap, ◌∙◌}
 use Rattle.cordyceps_c_base.specs.declared.tickets.Ticket.{Ticket}
 use Rattle.cordyceps_c_base.proofs.Answering.{written}
+use Rattle.cordyceps_c_lists.specs.declared.list_handle.ListHandle.{ListHandle}
 use Rattle.cordyceps_c_lists.specs.Lists.{NamesLast, NamesNext, NamesNone}
 use Rattle.cordyceps_c.proofs.list.cordyceps_list_next.Goals as goal
 
 pub returns-clause-found : goal.returns-clause-found
 returns-clause-found c =
-    let tried = c.next-ticket in let out = c.write_found in let l = c.deref.result.now in let at = c.args.at in
-    rw (c.in-Some.ensures.taken ∙ (λ i. Some (sym c.deref.ensures i)))
+    let tried = c.next-ticket in let out = c.write_found in let l = c.list_mut.result.now in let at = c.args.at in
+    rw (ap (λ (h : ListHandle). h.held) (sym c.is_some.ensures.same) ∙ c.list_mut.ensures.value)
     (written (λ (o : Option Ticket). MatchOption o (NamesNone l at ⊎ NamesLast at l) (λ x. NamesNext at x l)) tried.result out.result c.args.out.now out.new.out out.ensures tried.ensures)

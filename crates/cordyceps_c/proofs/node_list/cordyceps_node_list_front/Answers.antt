@@ -1,14 +1,9 @@
-use Rattle.std.proofs.Common.{◌≡◌, ◌<◌, [], ◌∷◌, ◌++◌, length, refl, ap, sym, ◌∙◌, subst, MatchOption}
-use denote.RawPtr.{Ptr}
-use Rattle.cordyceps_base.specs.Element.{Element}
-use Rattle.cordyceps_base.specs.Nodes.{Nodes}
+use Rattle.std.proofs.Common.{◌≡◌, [], refl}
 use Rattle.cordyceps_base.specs.BySpot.{IsFirst}
-use Rattle.cordyceps_c_base.specs.declared.carried.Carried.{Carried}
 use Rattle.cordyceps_c_base.proofs.Answering.{found}
 use Rattle.cordyceps_c.proofs.node_list.cordyceps_node_list_front.Goals as goal
 
 pub returns : goal.returns
 returns c =
-    let l = c.take-held.result.value in
-    let told = subst (λ (l : Nodes Carried). MatchOption c.front-spot.result (l ≡ []) (λ p. IsFirst l p)) c.deref.ensures c.front-spot.ensures.first in
-    (l, c.take-held.ensures.taken, c.put.ensures, found (l ≡ []) (λ p. IsFirst l p) c.front-spot.result c.write_found.result c.write_found.new.out c.args.out.now c.write_found.ensures told)
+    let l = c.list_mut.result.now in let tried = c.front-spot in let out = c.write_found in
+    (l, c.list_mut.ensures.value, refl, found (l ≡ []) (λ p. IsFirst l p) tried.result out.result out.new.out c.args.out.now out.ensures tried.ensures.first)
