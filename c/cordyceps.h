@@ -281,7 +281,8 @@ bool cordyceps_list_free(cordyceps_list *list);
 
 /* A handle of an inbox, or of nothing: {0}. Each thread has one of its own. A room is a permit to send one payload:
  * sending takes one of the handle, which first takes some of the inbox's pool if it has none, and receiving gives one
- * to the handle that receives. */
+ * to the handle that receives. This handle keeps at most 16, and none once it finds nothing: it gives the others to the
+ * pool. */
 typedef struct {
   void *at;
 } cordyceps_inbox;
@@ -310,8 +311,9 @@ bool cordyceps_inbox_split(cordyceps_inbox *inbox, cordyceps_inbox *out);
 uint32_t cordyceps_inbox_send(cordyceps_inbox *inbox, uint64_t payload);
 
 /* Receives the next payload into *out: CORDYCEPS_DONE. CORDYCEPS_EMPTY, CORDYCEPS_UNLINKED, CORDYCEPS_BUSY,
- * CORDYCEPS_NOTHING: *out is unchanged. Once all other handles of the inbox were absorbed, it is DONE or EMPTY.
- * O(1), one free. */
+ * CORDYCEPS_NOTHING: *out is unchanged. Once all other handles of the inbox were absorbed, it is DONE or EMPTY. If the
+ * handle has more than 16 rooms after DONE, or any after EMPTY, it gives all to the pool, as cordyceps_inbox_give_back
+ * does. O(1), one free. */
 uint32_t cordyceps_inbox_receive(cordyceps_inbox *inbox, uint64_t *out);
 
 /* Takes over the rooms of *other, which is of the same inbox, and frees that handle, which is of nothing then.

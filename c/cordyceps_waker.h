@@ -16,6 +16,9 @@
  * it has armed the waker, or the sender finds the waker armed. The receiving thread may also sleep where it found
  * CORDYCEPS_UNLINKED or CORDYCEPS_BUSY: the thread that is between two steps disarms the waker afterwards.
  *
+ * The rooms of what was received go back to the pool of the inbox as the receiving thread finds CORDYCEPS_EMPTY, so the
+ * threads that send find them there.
+ *
  * A waker that is still armed when the receiving thread is awake costs one wake-up for nothing. */
 #ifndef CORDYCEPS_WAKER_H
 #define CORDYCEPS_WAKER_H

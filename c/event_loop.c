@@ -20,7 +20,8 @@
 #include "cordyceps.h"
 #include "cordyceps_waker.h"
 
-/* An inbox has more rooms than there are connections, and a worker has at most one line of each. */
+/* A worker has at most one line of each connection. An inbox has rooms for all of these, beside the 16 that a handle
+ * keeps that receives. */
 enum { CONNECTIONS = 6, WORKERS = 2, ROOMS = 64, TEXT = 64, IDLE_MS = 300, MESSAGES = 30 };
 
 /* What a thread sleeps on, and whether it has to be woken. */
@@ -67,7 +68,7 @@ static uint64_t now_ms(void) {
   return (uint64_t)it.tv_sec * 1000 + (uint64_t)it.tv_nsec / 1000000;
 }
 
-/* Gives the rooms of a handle back, so that no other thread lacks them. */
+/* Gives the rooms of a handle that sent back, so that no other thread that sends lacks them. */
 static void give_back(cordyceps_inbox *it) {
   while (!cordyceps_inbox_give_back(it))
     sched_yield();
@@ -89,7 +90,6 @@ static bool take(cordyceps_inbox *from, struct connection **out) {
   uint64_t payload;
   if (cordyceps_inbox_receive(from, &payload) != CORDYCEPS_DONE)
     return false;
-  give_back(from);
   *out = (struct connection *)(uintptr_t)payload;
   return true;
 }
@@ -134,7 +134,6 @@ static void make_loop(struct loop *it) {
   *it = (struct loop){.sleep = {.fd = eventfd(0, EFD_NONBLOCK | EFD_CLOEXEC)}, .poll = epoll_create1(EPOLL_CLOEXEC)};
   ends_unless(epoll_ctl(it->poll, EPOLL_CTL_ADD, it->sleep.fd, &event) == 0, "there is no epoll of an eventfd");
   ends_unless(cordyceps_inbox_new(ROOMS, &it->inbox) && cordyceps_timers_new(0, &it->timers), "memory was refused");
-  give_back(&it->inbox);
 }
 
 /* Has epoll report once that there is text of a connection, or its end. */

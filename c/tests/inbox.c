@@ -43,7 +43,11 @@ static void rooms_of_handles(void) {
   CHECK(cordyceps_inbox_give_back(&inbox));
   CHECK(fill(&other) == ROOMS);
   CHECK(drain(&inbox) == ROOMS);
-  /* the rooms are with the handle that received, and come back as it gives them, is absorbed or is freed */
+  /* the handle that received has given the rooms back, since it found nothing */
+  CHECK(fill(&other) == ROOMS);
+  for (uint64_t i = 0, payload; i < ROOMS; i++)
+    CHECK(cordyceps_inbox_receive(&inbox, &payload) == CORDYCEPS_DONE && payload == i);
+  /* it has them until then, and they come back too as it gives them, is absorbed or is freed */
   CHECK(fill(&other) == 0);
   CHECK(cordyceps_inbox_give_back(&inbox) && fill(&other) == ROOMS && drain(&other) == ROOMS);
   CHECK(cordyceps_inbox_absorb(&inbox, &other) && !other.at);
@@ -53,8 +57,23 @@ static void rooms_of_handles(void) {
   CHECK(fill(&other) == ROOMS && cordyceps_inbox_free(&other) && !other.at);
 }
 
+/* A handle that receives keeps 16 rooms at most, also where it finds something each time. */
+static void rooms_that_are_kept(void) {
+  cordyceps_inbox inbox = {0}, other = {0};
+  uint64_t payload;
+  CHECK(cordyceps_inbox_new(64, &inbox) && cordyceps_inbox_split(&inbox, &other));
+  CHECK(cordyceps_inbox_give_back(&inbox) && fill(&other) == 64);
+  for (uint64_t i = 0; i < 16; i++)
+    CHECK(cordyceps_inbox_receive(&inbox, &payload) == CORDYCEPS_DONE && payload == i);
+  CHECK(fill(&other) == 0);
+  CHECK(cordyceps_inbox_receive(&inbox, &payload) == CORDYCEPS_DONE && payload == 16);
+  CHECK(fill(&other) == 17);
+  CHECK(cordyceps_inbox_free(&other) && cordyceps_inbox_free(&inbox));
+}
+
 int main(void) {
   rooms();
+  rooms_that_are_kept();
   rooms_of_handles();
   return 0;
 }

@@ -50,8 +50,6 @@ static uint64_t receive_all(cordyceps_inbox *inbox, struct sleeper *of, uint64_t
     cordyceps_waker_arm(&of->waker);
     while (cordyceps_inbox_receive(inbox, &payload) == CORDYCEPS_DONE)
       received++;
-    while (!cordyceps_inbox_give_back(inbox))
-      sched_yield();
     if (received == count)
       return slept;
     CHECK(eventfd_read(of->fd, &woken) == 0 && woken >= 1);
@@ -70,7 +68,6 @@ static void sleep_between(uint64_t count) {
     senders[i] = (struct sender){{0}, &sleeper, count, 0};
     CHECK(cordyceps_inbox_split(&inbox, &senders[i].inbox));
   }
-  CHECK(cordyceps_inbox_give_back(&inbox));
   for (uint64_t i = 0; i < SENDERS; i++)
     CHECK(!pthread_create(&threads[i], NULL, send_all, &senders[i]));
   uint64_t slept = receive_all(&inbox, &sleeper, SENDERS * count);
@@ -93,8 +90,30 @@ static void one_wakes(void) {
   CHECK(!cordyceps_waker_disarm(&waker));
 }
 
+/* The pattern of the header, for many more payloads than there are rooms. */
+static void rooms_come_back(void) {
+  cordyceps_inbox inbox = {0}, sender = {0};
+  struct sleeper sleeper = {{0}, eventfd(0, EFD_CLOEXEC)};
+  uint64_t payload;
+  eventfd_t count;
+  CHECK(sleeper.fd >= 0 && cordyceps_inbox_new(ROOMS, &inbox) && cordyceps_inbox_split(&inbox, &sender));
+  CHECK(cordyceps_inbox_receive(&inbox, &payload) == CORDYCEPS_EMPTY);
+  for (uint64_t i = 0; i < 20 * ROOMS; i++) {
+    cordyceps_waker_arm(&sleeper.waker);
+    CHECK(cordyceps_inbox_send(&sender, i) == CORDYCEPS_DONE);
+    if (cordyceps_waker_disarm(&sleeper.waker))
+      CHECK(eventfd_write(sleeper.fd, 1) == 0);
+    while (cordyceps_inbox_receive(&inbox, &payload) == CORDYCEPS_DONE)
+      CHECK(payload == i);
+    CHECK(eventfd_read(sleeper.fd, &count) == 0 && count == 1);
+  }
+  close(sleeper.fd);
+  CHECK(cordyceps_inbox_free(&sender) && cordyceps_inbox_free(&inbox));
+}
+
 int main(int count, char **words) {
   one_wakes();
+  rooms_come_back();
   sleep_between(count > 1 ? strtoull(words[1], NULL, 10) : 20000);
   return 0;
 }

@@ -22,7 +22,8 @@ pub const MAX_ROOMS: usize = 1 << 20;
 ///
 /// A room is a permit to send one value, so the rooms bound how many values are in the inbox. Sending takes a room of
 /// the handle, which first takes some of the inbox's pool if it has none, and receiving gives one to the handle that
-/// receives. So the receiver calls [`give_back`] now and then, at the latest when it finds nothing.
+/// receives. This handle keeps at most 16, and none once it finds nothing: it gives the others to the pool. A thread
+/// that sends no more for a while calls [`give_back`].
 ///
 /// Each value takes one block of memory of the library, and one of its own. The values that are left in the inbox are
 /// dropped with its last handle. A handle that is dropped takes a lock of the inbox for a moment, as no other call
@@ -48,7 +49,6 @@ pub const MAX_ROOMS: usize = 1 << 20;
 ///     assert_eq!(inbox.receive(), Ok(number));
 /// }
 /// assert!(inbox.receive().is_err());
-/// inbox.give_back();
 /// # Ok::<(), Box<dyn std::error::Error>>(())
 /// ```
 ///

@@ -42,7 +42,6 @@ fn values_of_four_threads_come_in_their_order() {
             }
             Err(why) => {
                 assert_ne!(why, ReceiveError::Busy);
-                inbox.give_back();
                 thread::yield_now();
             }
         }

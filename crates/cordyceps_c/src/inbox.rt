@@ -3,10 +3,10 @@ ghost use Rattle.std.specs.Prelude.{◌≡◌, true, false, Some, None, MatchBoo
 ghost use Rattle.cordyceps_base.specs.Element.{Element};
 ghost use Rattle.cordyceps_shared.specs.Shares.{whole};
 ghost use Rattle.cordyceps_queue.specs.declared.cores.steps.TryDequeueError.{TryDequeueError};
-ghost use Rattle.cordyceps_queue.specs.Shared.Calls.{Dequeues, IsCertain};
+ghost use Rattle.cordyceps_queue.specs.Shared.Calls.{IsCertain};
 ghost use Rattle.cordyceps_c_shared.specs.Inboxes.{IsNew, SplitsOff, TakesOver, KeepsOrRejoins, TriesToSend};
 ghost use Rattle.cordyceps_c_shared.specs.Inboxes.{HoldsTried, SendsNode, letter_of};
-ghost use Rattle.cordyceps_c_shared.specs.Inboxes.{GivesRooms};
+ghost use Rattle.cordyceps_c_shared.specs.Inboxes.{GivesRooms, Receives};
 ghost use Rattle.cordyceps_c_shared.specs.Inboxes.{number_of_sent, number_of_try, payload_after};
 ghost use Rattle.cordyceps_c_shared.specs.declared.inbox.Inbox.{Inbox};
 ghost use Rattle.cordyceps_c_base.specs.declared.carried.Carried.{Carried};
@@ -117,6 +117,9 @@ pub extern "C" fn cordyceps_inbox_send(alloc: Global, inbox: &mut InboxHandle, p
 /// if there is none, `UNLINKED` if the next is not linked yet, `BUSY` if another handle receives, and `NOTHING` if the
 /// handle is of nothing; `*out` is unchanged then.
 ///
+/// If this handle has more than `KEPT` rooms after `DONE`, or any after `EMPTY`, it gives all to the pool of the inbox,
+/// as `cordyceps_inbox_give_back` does.
+///
 /// # Complexity
 /// O(1). Frees one block.
 #[unsafe(no_mangle)]
@@ -128,9 +131,8 @@ pub extern "C" fn cordyceps_inbox_receive(
     ensures { MatchOption inbox.old.held
         ((result ≡ NOTHING) × (inbox.new.held ≡ None) × (out.new ≡ out.old))
         (λ i. (j : Inbox) × (tried : Result (Element Carried) TryDequeueError)
-        × (inbox.new.held ≡ Some j) × (j.queue ≡ i.queue)
-        × (result ≡ number_of_try tried) × (out.new ≡ payload_after out.old tried)
-        × Dequeues tried i.party j.party × (i.party.share ≡ whole → IsCertain tried)) }
+        × (inbox.new.held ≡ Some j) × (result ≡ number_of_try tried) × (out.new ≡ payload_after out.old tried)
+        × Receives tried i j × (i.party.share ≡ whole → IsCertain tried)) }
 {
     let Some(mut held) = inbox.take(alloc) else {
         return NOTHING;
@@ -193,9 +195,8 @@ pub extern "C" fn cordyceps_inbox_receive_node(
     ensures { MatchOption inbox.old.held
         ((result ≡ NOTHING) × (inbox.new.held ≡ None) × (out.new.held ≡ None))
         (λ i. (j : Inbox) × (tried : Result (Element Carried) TryDequeueError)
-        × (inbox.new.held ≡ Some j) × (j.queue ≡ i.queue)
-        × (result ≡ number_of_try tried) × HoldsTried out.new.held tried
-        × Dequeues tried i.party j.party × (i.party.share ≡ whole → IsCertain tried)) }
+        × (inbox.new.held ≡ Some j) × (result ≡ number_of_try tried) × HoldsTried out.new.held tried
+        × Receives tried i j × (i.party.share ≡ whole → IsCertain tried)) }
 {
     let Some(mut held) = inbox.take(alloc) else {
         return NOTHING;

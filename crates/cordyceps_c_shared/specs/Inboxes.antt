@@ -1,15 +1,16 @@
 -- What calls do to the handle of an inbox, which is i before and j after.
-use Rattle.std.specs.Prelude.{◌≡◌, ℕ, [], Bool, true, Option, None, MatchOption, ◌⊎◌, Result, Ok, Err}
+use Rattle.std.specs.Prelude.{◌≡◌, ℕ, ◌<◌, ◌≤◌, [], Bool, true, Option, None, MatchOption, ◌⊎◌, Result, Ok, Err}
 use Rattle.std.specs.Arc.{arc_value}
 use Rattle.cordyceps_base.specs.Element.{Element}
 use Rattle.cordyceps_shared.specs.Shares.{whole}
 use Rattle.cordyceps_shared.specs.Standings.{new_party, keeping, giving, Absorbs}
 use Rattle.cordyceps_queue.specs.declared.cores.steps.TryDequeueError.{TryDequeueError}
 use Rattle.cordyceps_queue.specs.declared.cores.steps.TryDequeueError.TheVariants.{Empty as FindsEmpty, Inconsistent as FindsInconsistent, Busy as FindsBusy}
-use Rattle.cordyceps_queue.specs.Shared.Calls.{Legal, capacity, EnqueuesRefilled, FindsFull, HasAllRooms}
+use Rattle.cordyceps_queue.specs.Shared.Calls.{Legal, capacity, Dequeues, EnqueuesRefilled, FindsFull, HasAllRooms}
 use Rattle.cordyceps_queue.specs.Shared.Moves.{Moves}
 use Rattle.cordyceps_c_shared.specs.declared.answers.TheConstants.{DONE, EMPTY, UNLINKED, BUSY, FULL, NO_MEMORY}
 use Rattle.cordyceps_c_shared.specs.declared.inbox.Inbox.{Inbox}
+use Rattle.cordyceps_c_shared.specs.declared.inbox.TheConstants.{KEPT}
 use Rattle.cordyceps_base.specs.declared.node.Block.{Block}
 use Rattle.cordyceps_c_base.specs.declared.carried.Carried.{Carried}
 use Rattle.cordyceps_c_base.specs.Elements.{HoldsElement}
@@ -69,6 +70,21 @@ abbrev pub GivesRooms : Bool → Inbox → Inbox → Type 0
 GivesRooms given i j =
     (j.queue ≡ i.queue) × Moves payload_of [] [] i.party j.party × (given ≡ true → j.party.rooms ≡ 0)
     × (i.party.share ≡ whole → given ≡ true)
+
+-- it had at most so many rooms, or it gave all to the pool, unless other handles gave rooms back each time that it tried
+abbrev pub KeepsAtMost : ℕ → Inbox → Inbox → Type 0
+KeepsAtMost most i j = ((i.party.rooms ≤ most) × (j ≡ i)) ⊎ ((most < i.party.rooms) × ((given : Bool) × GivesRooms given i j))
+
+-- it tried once to take an element out
+abbrev pub Finds : Result (Element Carried) TryDequeueError → Inbox → Inbox → Type 0
+Finds tried i j = (j.queue ≡ i.queue) × Dequeues tried i.party j.party
+
+-- the same, and then it kept only some rooms, or none where no element was there
+abbrev pub Receives : Result (Element Carried) TryDequeueError → Inbox → Inbox → Type 0
+Receives (Ok e) i j = (k : Inbox) × Finds (Ok e) i k × KeepsAtMost KEPT k j
+Receives (Err FindsEmpty) i j = (k : Inbox) × Finds (Err FindsEmpty) i k × KeepsAtMost 0 k j
+Receives (Err FindsInconsistent) i j = Finds (Err FindsInconsistent) i j
+Receives (Err FindsBusy) i j = Finds (Err FindsBusy) i j
 
 -- the numbers that C gets
 abbrev pub number_of_sent : Sent → ℕ

@@ -18,6 +18,9 @@ pub enum Sent {
     NoMemory,
 }
 
+/// How many rooms a handle has at most once it has received.
+pub const KEPT: usize = 16;
+
 /// A party at its queue, which it owns with others.
 #[derive(Drop)]
 pub struct Inbox {

@@ -1,11 +1,12 @@
 //! The calls of an inbox: many threads send, and one at a time receives.
 ghost use Rattle.std.specs.Prelude.{◌≡◌, ◌≤◌, IfSome, MatchResult};
-ghost use Rattle.cordyceps_queue.specs.Shared.Calls.{Dequeues, IsCertain};
+ghost use Rattle.cordyceps_queue.specs.Shared.Calls.{IsCertain};
 ghost use Rattle.cordyceps_shared.specs.Shares.{whole};
-ghost use Rattle.cordyceps_c_shared.specs.Inboxes.{GivesRooms, IsNew, TriesToSend, TriesToSplit, TakesOver, letter_of};
+ghost use Rattle.cordyceps_c_shared.specs.Inboxes.{GivesRooms, IsNew, KeepsAtMost, Receives, TakesOver};
+ghost use Rattle.cordyceps_c_shared.specs.Inboxes.{TriesToSend, TriesToSplit, letter_of};
 ghost use Rattle.cordyceps_c_shared.specs.declared.inbox.Sent.TheVariants.{Done, Full};
 
-use crate::inbox::{Inbox, Sent};
+use crate::inbox::{Inbox, KEPT, Sent};
 use cordyceps_base::node::Node;
 use cordyceps_c_base::carried::{Carried, Letter};
 use cordyceps_queue::mpsc_queue::{MAX_ROOMS, MpscQueue, TryDequeueError};
@@ -63,13 +64,34 @@ impl Inbox {
         self.queue.try_enqueue(&mut self.party, letter)
     }
 
-    /// Tries once to receive.
+    /// Tries once to receive. The handle keeps at most `KEPT` rooms then, or none if nothing was there, and gives others
+    /// to the pool.
     pub fn receive(&mut self) -> Result<Letter, TryDequeueError>
-        ensures queue { self.new.queue ≡ self.old.queue }
-        ensures tried { Dequeues result self.old.party self.new.party }
+        ensures tried { Receives result self.old self.new }
         ensures whole { self.old.party.share ≡ whole → IsCertain result }
     {
-        self.queue.try_dequeue(&mut self.party)
+        match self.queue.try_dequeue(&mut self.party) {
+            Ok(letter) => {
+                self.keep_at_most(KEPT);
+                Ok(letter)
+            }
+            Err(TryDequeueError::Empty) => {
+                self.keep_at_most(0);
+                Err(TryDequeueError::Empty)
+            }
+            Err(TryDequeueError::Inconsistent) => Err(TryDequeueError::Inconsistent),
+            Err(TryDequeueError::Busy) => Err(TryDequeueError::Busy),
+        }
+    }
+
+    /// Gives the rooms of the handle, if it has more than `most`, to the pool, with those that are there. It keeps them
+    /// if other handles gave rooms back each time that it tried.
+    fn keep_at_most(&mut self, most: usize)
+        ensures { KeepsAtMost most self.old self.new }
+    {
+        if self.party.rooms() > most {
+            let _given = self.give_back();
+        }
     }
 
     /// Takes over the rooms and the history of another handle of the same inbox.

@@ -1,8 +1,9 @@
 use Rattle.std.proofs.Common.{◌≡◌, Ok, Err, refl, ap, subst}
 use Rattle.cordyceps_base.specs.Element.{Element}
 use Rattle.cordyceps_shared.specs.Shares.{whole}
-use Rattle.cordyceps_queue.specs.Shared.Calls.{Dequeues, IsCertain}
+use Rattle.cordyceps_queue.specs.Shared.Calls.{IsCertain}
 use Rattle.cordyceps_c_shared.specs.declared.inbox.Inbox.{Inbox}
+use Rattle.cordyceps_c_shared.specs.Inboxes.{Receives}
 use Rattle.cordyceps_c_base.specs.declared.carried.Carried.{Carried}
 use Rattle.cordyceps_c.proofs.inbox.cordyceps_inbox_receive_node.Goals as goal
 
@@ -13,10 +14,9 @@ returns-in-Ok c =
       new,
       Ok c.in-Ok.letter,
       c.put.ensures,
-      subst (λ (i : Inbox). new.queue ≡ i.queue) is told.queue,
       refl,
       c.put_node.ensures,
-      subst (λ (i : Inbox). Dequeues (Ok c.in-Ok.letter) i.party new.party) is told.tried,
+      subst (λ (i : Inbox). Receives (Ok c.in-Ok.letter) i new) is told.tried,
       subst (λ (i : Inbox). i.party.share ≡ whole → IsCertain (Ok c.in-Ok.letter)) is told.whole,
     )
 
@@ -27,9 +27,8 @@ returns-in-Err c =
       new,
       Err c.in-Err.why,
       c.put.ensures,
-      subst (λ (i : Inbox). new.queue ≡ i.queue) is told.queue,
       c.number_of.ensures,
       c.requires,
-      subst (λ (i : Inbox). Dequeues (Err c.in-Err.why) i.party new.party) is told.tried,
+      subst (λ (i : Inbox). Receives (Err c.in-Err.why) i new) is told.tried,
       subst (λ (i : Inbox). i.party.share ≡ whole → IsCertain {E = Element Carried} (Err c.in-Err.why)) is told.whole,
     )
