@@ -105,11 +105,10 @@ pub extern "C" fn cordyceps_inbox_send(alloc: Global, inbox: &mut InboxHandle, p
         (λ i. (j : Inbox) × (sent : Sent) × (inbox.new.held ≡ Some j) × (result ≡ number_of_sent sent)
         × TriesToSend (letter_of payload) sent i j) }
 {
-    let Some(mut held) = inbox.take(alloc) else {
+    if !inbox.is_some() {
         return NOTHING;
-    };
-    let sent = held.send(alloc, payload);
-    inbox.put(held);
+    }
+    let sent = inbox.inbox_mut().send(alloc, payload);
     sent.number()
 }
 
@@ -123,22 +122,17 @@ pub extern "C" fn cordyceps_inbox_send(alloc: Global, inbox: &mut InboxHandle, p
 /// # Complexity
 /// O(1). Frees one block.
 #[unsafe(no_mangle)]
-pub extern "C" fn cordyceps_inbox_receive(
-    alloc: Global,
-    inbox: &mut InboxHandle,
-    out: &mut u64,
-) -> u32
+pub extern "C" fn cordyceps_inbox_receive(inbox: &mut InboxHandle, out: &mut u64) -> u32
     ensures { MatchOption inbox.old.held
         ((result ≡ NOTHING) × (inbox.new.held ≡ None) × (out.new ≡ out.old))
         (λ i. (j : Inbox) × (tried : Result (Element Carried) TryDequeueError)
         × (inbox.new.held ≡ Some j) × (result ≡ number_of_try tried) × (out.new ≡ payload_after out.old tried)
         × Receives tried i j × (i.party.share ≡ whole → IsCertain tried)) }
 {
-    let Some(mut held) = inbox.take(alloc) else {
+    if !inbox.is_some() {
         return NOTHING;
-    };
-    let tried = held.receive();
-    inbox.put(held);
+    }
+    let tried = inbox.inbox_mut().receive();
     match tried {
         Ok(letter) => {
             *out = letter.into_value().value;
@@ -155,22 +149,17 @@ pub extern "C" fn cordyceps_inbox_receive(
 /// # Complexity
 /// O(1). Allocates nothing.
 #[unsafe(no_mangle)]
-pub extern "C" fn cordyceps_inbox_send_node(
-    alloc: Global,
-    inbox: &mut InboxHandle,
-    node: &mut NodeHandle,
-) -> u32
+pub extern "C" fn cordyceps_inbox_send_node(inbox: &mut InboxHandle, node: &mut NodeHandle) -> u32
     requires { HoldsNode node.old.held }
     ensures { MatchOption inbox.old.held
         ((result ≡ NOTHING) × (inbox.new.held ≡ None) × (node.new.held ≡ node.old.held))
         (λ i. (j : Inbox) × (e : Element Carried) × (inbox.new.held ≡ Some j) × HoldsElement node.old.held e
         × SendsNode e result node.new.held i j) }
 {
-    let Some(mut held) = inbox.take(alloc) else {
+    if !inbox.is_some() {
         return NOTHING;
-    };
-    let sent = held.send_node(node.take_node());
-    inbox.put(held);
+    }
+    let sent = inbox.inbox_mut().send_node(node.take_node());
     match sent {
         Ok(()) => DONE,
         Err(letter) => {
@@ -186,11 +175,7 @@ pub extern "C" fn cordyceps_inbox_send_node(
 /// # Complexity
 /// O(1).
 #[unsafe(no_mangle)]
-pub extern "C" fn cordyceps_inbox_receive_node(
-    alloc: Global,
-    inbox: &mut InboxHandle,
-    out: &mut NodeHandle,
-) -> u32
+pub extern "C" fn cordyceps_inbox_receive_node(inbox: &mut InboxHandle, out: &mut NodeHandle) -> u32
     requires { out.old.held ≡ None }
     ensures { MatchOption inbox.old.held
         ((result ≡ NOTHING) × (inbox.new.held ≡ None) × (out.new.held ≡ None))
@@ -198,11 +183,10 @@ pub extern "C" fn cordyceps_inbox_receive_node(
         × (inbox.new.held ≡ Some j) × (result ≡ number_of_try tried) × HoldsTried out.new.held tried
         × Receives tried i j × (i.party.share ≡ whole → IsCertain tried)) }
 {
-    let Some(mut held) = inbox.take(alloc) else {
+    if !inbox.is_some() {
         return NOTHING;
-    };
-    let tried = held.receive();
-    inbox.put(held);
+    }
+    let tried = inbox.inbox_mut().receive();
     match tried {
         Ok(letter) => {
             out.put_node(letter);
@@ -251,16 +235,15 @@ pub extern "C" fn cordyceps_inbox_absorb(
 /// # Complexity
 /// O(1).
 #[unsafe(no_mangle)]
-pub extern "C" fn cordyceps_inbox_give_back(alloc: Global, inbox: &mut InboxHandle) -> bool
+pub extern "C" fn cordyceps_inbox_give_back(inbox: &mut InboxHandle) -> bool
     ensures { MatchOption inbox.old.held
         ((result ≡ false) × (inbox.new.held ≡ None))
         (λ i. (j : Inbox) × (inbox.new.held ≡ Some j) × GivesRooms result i j) }
 {
-    let Some(mut held) = inbox.take(alloc) else {
+    if !inbox.is_some() {
         return false;
-    };
-    let is_given = held.give_back();
-    inbox.put(held);
+    }
+    let is_given = inbox.inbox_mut().give_back();
     is_given
 }
 

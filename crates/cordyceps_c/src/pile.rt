@@ -104,11 +104,10 @@ pub extern "C" fn cordyceps_pile_push(alloc: Global, pile: &mut PileHandle, payl
         (λ i. (j : Pile) × (pushed : Pushed) × (pile.new.held ≡ Some j) × (result ≡ number_of_pushed pushed)
         × TriesToPush (letter_of payload) pushed i j) }
 {
-    let Some(mut held) = pile.take(alloc) else {
+    if !pile.is_some() {
         return NOTHING;
-    };
-    let pushed = held.push(alloc, payload);
-    pile.put(held);
+    }
+    let pushed = pile.pile_mut().push(alloc, payload);
     pushed.number()
 }
 
@@ -119,17 +118,16 @@ pub extern "C" fn cordyceps_pile_push(alloc: Global, pile: &mut PileHandle, payl
 /// # Complexity
 /// O(1), or O(n) if it takes n payloads. Frees one block.
 #[unsafe(no_mangle)]
-pub extern "C" fn cordyceps_pile_pop(alloc: Global, pile: &mut PileHandle, out: &mut u64) -> bool
+pub extern "C" fn cordyceps_pile_pop(pile: &mut PileHandle, out: &mut u64) -> bool
     ensures { MatchOption pile.old.held
         ((result ≡ false) × (pile.new.held ≡ None) × (out.new ≡ out.old))
         (λ i. (j : Pile) × (popped : Option (Element Carried)) × (pile.new.held ≡ Some j)
         × (result ≡ is_some popped) × (out.new ≡ payload_after out.old popped) × Pops popped i j) }
 {
-    let Some(mut held) = pile.take(alloc) else {
+    if !pile.is_some() {
         return false;
-    };
-    let popped = held.pop();
-    pile.put(held);
+    }
+    let popped = pile.pile_mut().pop();
     match popped {
         Some(sheet) => {
             *out = sheet.into_value().value;
@@ -145,11 +143,7 @@ pub extern "C" fn cordyceps_pile_pop(alloc: Global, pile: &mut PileHandle, out: 
 /// # Complexity
 /// O(1). Allocates nothing.
 #[unsafe(no_mangle)]
-pub extern "C" fn cordyceps_pile_push_node(
-    alloc: Global,
-    pile: &mut PileHandle,
-    node: &mut NodeHandle,
-) -> u32
+pub extern "C" fn cordyceps_pile_push_node(pile: &mut PileHandle, node: &mut NodeHandle) -> u32
     requires { HoldsNode node.old.held }
     ensures { MatchOption pile.old.held
         ((result ≡ NOTHING) × (pile.new.held ≡ None) × (node.new.held ≡ node.old.held))
@@ -157,11 +151,10 @@ pub extern "C" fn cordyceps_pile_push_node(
         × HoldsElement node.old.held e × (result ≡ number_of_pushed pushed)
         × HoldsUnless pushed e node.new.held × TriesToPush e pushed i j) }
 {
-    let Some(mut held) = pile.take(alloc) else {
+    if !pile.is_some() {
         return NOTHING;
-    };
-    let pushed = held.push_node(node.take_node());
-    pile.put(held);
+    }
+    let pushed = pile.pile_mut().push_node(node.take_node());
     match pushed {
         Ok(_) => DONE,
         Err(TryPushError::Full(sheet)) => {
@@ -181,22 +174,17 @@ pub extern "C" fn cordyceps_pile_push_node(
 /// # Complexity
 /// O(1), or O(n) if it takes n nodes.
 #[unsafe(no_mangle)]
-pub extern "C" fn cordyceps_pile_pop_node(
-    alloc: Global,
-    pile: &mut PileHandle,
-    out: &mut NodeHandle,
-) -> bool
+pub extern "C" fn cordyceps_pile_pop_node(pile: &mut PileHandle, out: &mut NodeHandle) -> bool
     requires { out.old.held ≡ None }
     ensures { MatchOption pile.old.held
         ((result ≡ false) × (pile.new.held ≡ None) × (out.new.held ≡ None))
         (λ i. (j : Pile) × (popped : Option (Element Carried)) × (pile.new.held ≡ Some j)
         × (result ≡ is_some popped) × HoldsPopped out.new.held popped × Pops popped i j) }
 {
-    let Some(mut held) = pile.take(alloc) else {
+    if !pile.is_some() {
         return false;
-    };
-    let popped = held.pop();
-    pile.put(held);
+    }
+    let popped = pile.pile_mut().pop();
     out.put_found(popped)
 }
 
@@ -245,16 +233,15 @@ pub extern "C" fn cordyceps_pile_absorb(
 /// # Complexity
 /// O(1).
 #[unsafe(no_mangle)]
-pub extern "C" fn cordyceps_pile_give_back(alloc: Global, pile: &mut PileHandle) -> bool
+pub extern "C" fn cordyceps_pile_give_back(pile: &mut PileHandle) -> bool
     ensures { MatchOption pile.old.held
         ((result ≡ false) × (pile.new.held ≡ None))
         (λ i. (j : Pile) × (pile.new.held ≡ Some j) × GivesRooms result i j) }
 {
-    let Some(mut held) = pile.take(alloc) else {
+    if !pile.is_some() {
         return false;
-    };
-    let is_given = held.give_back();
-    pile.put(held);
+    }
+    let is_given = pile.pile_mut().give_back();
     is_given
 }
 

@@ -1,10 +1,12 @@
-use Rattle.std.proofs.Common.{subst}
-use Rattle.cordyceps_c_shared.specs.Inboxes.{GivesRooms}
-use Rattle.cordyceps_c_shared.specs.declared.inbox.Inbox.{Inbox}
+use Rattle.std.proofs.Common.{refl, sym, ap, ◌∙◌}
+use Rattle.cordyceps_c_shared.specs.declared.inbox_handle.InboxHandle.{InboxHandle}
 use Rattle.cordyceps_c.proofs.inbox.cordyceps_inbox_give_back.Goals as goal
+
+pub inbox_mut-requires : goal.inbox_mut-requires
+inbox_mut-requires c = let (x, is) = c.if-not-is_some.ensures.found in (x, ap (λ (h : InboxHandle). h.held) c.is_some.ensures.same ∙ is)
 
 pub returns : goal.returns
 returns c =
     let gave = c.give_back-is_given in
-    rw c.in-Some.ensures.taken
-    (gave.new.self, c.put.ensures, subst (λ (i : Inbox). GivesRooms gave.result i gave.new.self) c.deref_mut.ensures.value gave.ensures)
+    rw (ap (λ (h : InboxHandle). h.held) (sym c.is_some.ensures.same) ∙ c.inbox_mut.ensures.value)
+    (gave.new.self, refl, gave.ensures)

@@ -1,34 +1,33 @@
-use Rattle.std.proofs.Common.{◌≡◌, Ok, Err, refl, ap, subst}
-use Rattle.cordyceps_base.specs.Element.{Element}
-use Rattle.cordyceps_shared.specs.Shares.{whole}
-use Rattle.cordyceps_queue.specs.Shared.Calls.{IsCertain}
-use Rattle.cordyceps_c_shared.specs.declared.inbox.Inbox.{Inbox}
-use Rattle.cordyceps_c_shared.specs.Inboxes.{Receives}
+use Rattle.std.proofs.Common.{Ok, Err, refl, ap, sym, ◌∙◌}
 use Rattle.cordyceps_c_base.specs.declared.carried.Carried.{Carried}
+use Rattle.cordyceps_c_shared.specs.declared.inbox_handle.InboxHandle.{InboxHandle}
 use Rattle.cordyceps_c.proofs.inbox.cordyceps_inbox_receive.Goals as goal
+
+pub inbox_mut-requires : goal.inbox_mut-requires
+inbox_mut-requires c = let (x, is) = c.if-not-is_some.ensures.found in (x, ap (λ (h : InboxHandle). h.held) c.is_some.ensures.same ∙ is)
 
 pub returns-in-Ok : goal.returns-in-Ok
 returns-in-Ok c =
-    let new = c.receive-tried.new.self in let is = c.deref_mut.ensures.value in let told = c.in-Ok.ensures in
-    rw c.in-Some.ensures.taken (
+    let new = c.receive-tried.new.self in let told = c.in-Ok.ensures in
+    rw (ap (λ (h : InboxHandle). h.held) (sym c.is_some.ensures.same) ∙ c.inbox_mut.ensures.value) (
       new,
       Ok c.in-Ok.letter,
-      c.put.ensures,
+      refl,
       refl,
       ap (λ (m : Carried). m.value) c.into_value.ensures,
-      subst (λ (i : Inbox). Receives (Ok c.in-Ok.letter) i new) is told.tried,
-      subst (λ (i : Inbox). i.party.share ≡ whole → IsCertain (Ok c.in-Ok.letter)) is told.whole,
+      told.tried,
+      told.whole,
     )
 
 pub returns-in-Err : goal.returns-in-Err
 returns-in-Err c =
-    let new = c.receive-tried.new.self in let is = c.deref_mut.ensures.value in let told = c.in-Err.ensures in
-    rw c.in-Some.ensures.taken (
+    let new = c.receive-tried.new.self in let told = c.in-Err.ensures in
+    rw (ap (λ (h : InboxHandle). h.held) (sym c.is_some.ensures.same) ∙ c.inbox_mut.ensures.value) (
       new,
       Err c.in-Err.why,
-      c.put.ensures,
+      refl,
       c.number_of.ensures,
       refl,
-      subst (λ (i : Inbox). Receives (Err c.in-Err.why) i new) is told.tried,
-      subst (λ (i : Inbox). i.party.share ≡ whole → IsCertain {E = Element Carried} (Err c.in-Err.why)) is told.whole,
+      told.tried,
+      told.whole,
     )

@@ -1,10 +1,12 @@
-use Rattle.std.proofs.Common.{subst}
-use Rattle.cordyceps_c_shared.specs.Inboxes.{TriesToSend, letter_of}
-use Rattle.cordyceps_c_shared.specs.declared.inbox.Inbox.{Inbox}
+use Rattle.std.proofs.Common.{refl, sym, ap, ◌∙◌}
+use Rattle.cordyceps_c_shared.specs.declared.inbox_handle.InboxHandle.{InboxHandle}
 use Rattle.cordyceps_c.proofs.inbox.cordyceps_inbox_send.Goals as goal
+
+pub inbox_mut-requires : goal.inbox_mut-requires
+inbox_mut-requires c = let (x, is) = c.if-not-is_some.ensures.found in (x, ap (λ (h : InboxHandle). h.held) c.is_some.ensures.same ∙ is)
 
 pub returns : goal.returns
 returns c =
     let sent = c.send-sent in
-    rw c.in-Some.ensures.taken
-    (sent.new.self, sent.result, c.put.ensures, c.number.ensures, subst (λ (i : Inbox). TriesToSend (letter_of c.args.payload) sent.result i sent.new.self) c.deref_mut.ensures.value sent.ensures)
+    rw (ap (λ (h : InboxHandle). h.held) (sym c.is_some.ensures.same) ∙ c.inbox_mut.ensures.value)
+    (sent.new.self, sent.result, refl, c.number.ensures, sent.ensures)

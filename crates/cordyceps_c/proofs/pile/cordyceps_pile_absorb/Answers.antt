@@ -1,4 +1,4 @@
-use Rattle.std.proofs.Common.{◌≡◌, [], ◌∷◌, length, refl, ap, ◌∙◌, subst, arith}
+use Rattle.std.proofs.Common.{◌≡◌, [], subst, arith}
 use Rattle.std.proofs.lemmas.List.{nil_from_length}
 use Rattle.cordyceps_c_shared.specs.Piles.{TakesOver}
 use Rattle.cordyceps_c_shared.specs.declared.pile.Pile.{Pile}

@@ -1,11 +1,12 @@
-use Rattle.std.proofs.Common.{subst}
-use Rattle.cordyceps_c_shared.specs.Inboxes.{letter_of}
-use Rattle.cordyceps_c_shared.specs.Piles.{TriesToPush}
-use Rattle.cordyceps_c_shared.specs.declared.pile.Pile.{Pile}
+use Rattle.std.proofs.Common.{refl, sym, ap, ◌∙◌}
+use Rattle.cordyceps_c_shared.specs.declared.pile_handle.PileHandle.{PileHandle}
 use Rattle.cordyceps_c.proofs.pile.cordyceps_pile_push.Goals as goal
+
+pub pile_mut-requires : goal.pile_mut-requires
+pile_mut-requires c = let (x, is) = c.if-not-is_some.ensures.found in (x, ap (λ (h : PileHandle). h.held) c.is_some.ensures.same ∙ is)
 
 pub returns : goal.returns
 returns c =
     let pushed = c.push-pushed in
-    rw c.in-Some.ensures.taken
-    (pushed.new.self, pushed.result, c.put.ensures, c.number.ensures, subst (λ (i : Pile). TriesToPush (letter_of c.args.payload) pushed.result i pushed.new.self) c.deref_mut.ensures.value pushed.ensures)
+    rw (ap (λ (h : PileHandle). h.held) (sym c.is_some.ensures.same) ∙ c.pile_mut.ensures.value)
+    (pushed.new.self, pushed.result, refl, c.number.ensures, pushed.ensures)
