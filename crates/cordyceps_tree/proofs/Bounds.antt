@@ -12,7 +12,7 @@ use Rattle.cordyceps_base.specs.Element.{Element}
 use Rattle.cordyceps_base.specs.Nodes.{Nodes, spots}
 use Rattle.cordyceps_base.specs.Spots.{AreDistinct}
 use Rattle.cordyceps_single.specs.Preorder.{IsPreorder}
-use Rattle.cordyceps_single.proofs.Arrangement.{Ascends, ascends_after, ascends_from_sorted, all_back}
+use Rattle.cordyceps_single.proofs.Arrangement.{Ascends, ascends_after, ascends_from_sorted}
 use Rattle.cordyceps_single.proofs.Preorder.{ranks, by_test}
 use Rattle.cordyceps_stable.specs.Arranged.{precedes, AllGreater, LastNotGreater}
 use Rattle.cordyceps_stable.proofs.Arranged.{all_high}

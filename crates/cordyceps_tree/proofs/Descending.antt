@@ -22,35 +22,35 @@ module _ (f : Ptr → Hook) (ps : List Ptr) (d : Bool) (far : List Ptr) (h : Ptr
   down_on solid = go u.shape u.order u.linked where
     go : (t : Shape) → flat (plug u.steps t) ≡ ps → Linked f u.up u.side h t → IsDown f ps d far (kid (f h) d).ptr × (height_at f (kid (f h) d).ptr < height_at f h)
     go leaf o w = absurd (subst InBlock w solid)
-    go (node x p y) o w = subst (λ z. IsDown f ps d far (kid (f z) d).ptr × (height_at f (kid (f z) d).ptr < height_at f z)) (sym w.0) (at_p d u.ahead) where
+    go (node x p y) o w = subst (λ z. IsDown f ps d far (kid (f z) d).ptr × (height_at f (kid (f z) d).ptr < height_at f z)) (sym w.at) (at_p d u.ahead) where
       hp : height_at f p ≡ suc (max (height x) (height y))
-      hp = height_known f u.up u.side p (node x p y) (refl, w.1, w.2, w.3, w.4, w.5, w.6)
+      hp = height_known f u.up u.side p (node x p y) (record { at = refl; solid = w.solid; up = w.up; side = w.side; tall = w.tall; left = w.left; right = w.right })
 
       at_p : (e : Bool) → beyond e u.steps ≡ far → IsDown f ps e far (kid (f p) e).ptr × (height_at f (kid (f p) e).ptr < height_at f p)
       at_p false a = (
-        record { steps = (false, p, y) ∷ u.steps; shape = x; up = p; side = false; order = o; linked = w.5; ahead = a },
-        (let k = height_known f p false (f p).left.ptr x w.5 in omega (arith, k, hp)),
+        record { steps = (false, p, y) ∷ u.steps; shape = x; up = p; side = false; order = o; linked = w.left; ahead = a },
+        (let k = height_known f p false (f p).left.ptr x w.left in omega (arith, k, hp)),
       )
       at_p true a = (
-        record { steps = (true, p, x) ∷ u.steps; shape = y; up = p; side = true; order = o; linked = w.6; ahead = a },
-        (let k = height_known f p true (f p).right.ptr y w.6 in omega (arith, k, hp)),
+        record { steps = (true, p, x) ∷ u.steps; shape = y; up = p; side = true; order = o; linked = w.right; ahead = a },
+        (let k = height_known f p true (f p).right.ptr y w.right in omega (arith, k, hp)),
       )
 
   pub down_end : InBlock h → (kid (f h) d).ptr ≡ null_ptr → IsOutermost ps d far h
   down_end solid low = go u.shape u.order u.linked where
     none : (x : Shape) (q k : Ptr) (s : Bool) → Linked f q s k x → k ≡ null_ptr → flat x ≡ []
     none leaf q k s w e = refl
-    none (node l p r) q k s w e = absurd (subst InBlock (sym w.0 ∙ e) w.1)
+    none (node l p r) q k s w e = absurd (subst InBlock (sym w.at ∙ e) w.solid)
 
     go : (t : Shape) → flat (plug u.steps t) ≡ ps → Linked f u.up u.side h t → IsOutermost ps d far h
     go leaf o w = absurd (subst InBlock w solid)
-    go (node x p y) o w = subst (IsOutermost ps d far) (sym w.0) (at_p d u.ahead (subst (λ z. (kid (f z) d).ptr ≡ null_ptr) w.0 low)) where
+    go (node x p y) o w = subst (IsOutermost ps d far) (sym w.at) (at_p d u.ahead (subst (λ z. (kid (f z) d).ptr ≡ null_ptr) w.at low)) where
       at_p : (e : Bool) → beyond e u.steps ≡ far → (kid (f p) e).ptr ≡ null_ptr → IsOutermost ps e far p
       at_p false a k =
-          let e : flat x ≡ [] = none x p (f p).left.ptr false w.5 k in
+          let e : flat x ≡ [] = none x p (f p).left.ptr false w.left k in
           (flat y ++ after u.steps, sym o ∙ flat_plug u.steps (node x p y) ∙ ap (λ z. before u.steps ++ ((z ++ p ∷ flat y) ++ after u.steps)) e ∙ (λ i. a i ++ (p ∷ (flat y ++ after u.steps))))
       at_p true a k =
-          let e : flat y ≡ [] = none y p (f p).right.ptr true w.6 k in (
+          let e : flat y ≡ [] = none y p (f p).right.ptr true w.right k in (
             before u.steps ++ flat x,
             sym o ∙ flat_plug u.steps (node x p y) ∙ ap (λ z. before u.steps ++ ((flat x ++ p ∷ z) ++ after u.steps)) e ∙ ap (λ z. before u.steps ++ z) (append_assoc (flat x) (p ∷ []) (after u.steps))
                 ∙ sym (append_assoc (before u.steps) (flat x) (p ∷ after u.steps)) ∙ (λ i. (before u.steps ++ flat x) ++ p ∷ a i),
@@ -63,8 +63,8 @@ across {p = p} true u = before u.steps ++ (flat u.left ++ p ∷ [])
 
 module _ (f : Ptr → Hook) (root : Ptr) (whole : Shape) (p : Ptr) (ps : List Ptr) (u : Opened f root whole p) (o : flat whole ≡ ps) where
   pub kid_down : (d : Bool) → IsDown f ps (not d) (across d u) (kid (f p) d).ptr
-  kid_down false = record { steps = (false, p, u.right) ∷ u.steps; shape = u.left; up = p; side = false; order = ap flat u.is ∙ o; linked = u.linked.5; ahead = refl }
-  kid_down true = record { steps = (true, p, u.left) ∷ u.steps; shape = u.right; up = p; side = true; order = ap flat u.is ∙ o; linked = u.linked.6; ahead = refl }
+  kid_down false = record { steps = (false, p, u.right) ∷ u.steps; shape = u.left; up = p; side = false; order = ap flat u.is ∙ o; linked = u.linked.left; ahead = refl }
+  kid_down true = record { steps = (true, p, u.left) ∷ u.steps; shape = u.right; up = p; side = true; order = ap flat u.is ∙ o; linked = u.linked.right; ahead = refl }
 
   pub next_is : (q : Ptr) (rest : List Ptr) → ps ≡ (before u.steps ++ (flat u.left ++ p ∷ [])) ++ q ∷ rest → ps ≡ (before u.steps ++ flat u.left) ++ p ∷ q ∷ rest
   next_is q rest e = e ∙ ap (λ z. z ++ q ∷ rest) (sym (append_assoc (before u.steps) (flat u.left) (p ∷ []))) ∙ append_assoc (before u.steps ++ flat u.left) (p ∷ []) (q ∷ rest)

@@ -284,15 +284,15 @@ module _ (f : Ptr → Hook) (q : Ptr) (s : Bool) (x : Shape) (p : Ptr) (y : Shap
       record {
         shape = node x p y;
         order = refl;
-        linked = (
-          refl,
-          w.solid,
-          ap (λ (z : Hook). z.up.ptr) e.here ∙ w.up,
-          ap (λ (z : Hook). z.side) e.here ∙ w.side,
-          ap (λ (z : Hook). z.height) e.here ∙ tall,
-          subst (λ (z : Hook). Linked g p false z.left.ptr x) (sym e.here) (linked_keep f g p false (f p).left.ptr x w.here (keep x o.0)),
-          subst (λ (z : Hook). Linked g p true z.right.ptr y) (sym e.here) (linked_keep f g p true (f p).right.ptr y w.there (keep y o.1)),
-        );
+        linked = record {
+          at = refl;
+          solid = w.solid;
+          up = ap (λ (z : Hook). z.up.ptr) e.here ∙ w.up;
+          side = ap (λ (z : Hook). z.side) e.here ∙ w.side;
+          tall = ap (λ (z : Hook). z.height) e.here ∙ tall;
+          left = subst (λ (z : Hook). Linked g p false z.left.ptr x) (sym e.here) (linked_keep f g p false (f p).left.ptr x w.here (keep x o.0));
+          right = subst (λ (z : Hook). Linked g p true z.right.ptr y) (sym e.here) (linked_keep f g p true (f p).right.ptr y w.there (keep y o.1));
+        };
         balanced = ((lo, hi), bx, by);
         low = omega arith;
         high = omega arith;

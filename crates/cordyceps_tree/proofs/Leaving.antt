@@ -20,7 +20,7 @@ use Rattle.cordyceps_tree.proofs.Putting.{put_nodes}
 
 leaf_of : (f : Ptr → Hook) (q : Ptr) (s : Bool) (h : Ptr) (t : Shape) → Linked f q s h t → h ≡ null_ptr → t ≡ leaf
 leaf_of f q s h leaf w e = refl
-leaf_of f q s h (node l p r) w e = absurd (subst InBlock (sym w.0 ∙ e) w.1)
+leaf_of f q s h (node l p r) w e = absurd (subst InBlock (sym w.at ∙ e) w.solid)
 
 -- the one child, and what is left without the node
 pub record Only (f : Ptr → Hook) (p : Ptr) (l r : Shape) (h : Ptr) : Type 0 where
@@ -87,7 +87,7 @@ module _ {X : Type 0} (ns : List (Held X)) (root p : Ptr) (t : IsTree root ns) (
     leave_order = sym order_at ∙ flat_plug u.steps sub ∙ ap (λ z. before u.steps ++ z) (append_assoc (flat u.left) (p ∷ flat u.right) (after u.steps)) ∙ sym (append_assoc (before u.steps) (flat u.left) (p ∷ (flat u.right ++ after u.steps)))
 
     pub leave_left : Reaches (f p).left.ptr (box_addresses ns)
-    leave_left = tree_reaches f p false (f p).left.ptr u.left (box_addresses ns) t.comparable u.linked.5 (λ z i. in_row (plug u.steps sub) (box_addresses ns) order_at z (in_plug u.steps sub z (inr (inl i))))
+    leave_left = tree_reaches f p false (f p).left.ptr u.left (box_addresses ns) t.comparable u.linked.left (λ z i. in_row (plug u.steps sub) (box_addresses ns) order_at z (in_plug u.steps sub z (inr (inl i))))
 
     sole_at : Sole (plug u.steps sub)
     sole_at = row_sole (plug u.steps sub) (box_addresses ns) order_at t.distinct
@@ -112,7 +112,7 @@ module _ {X : Type 0} (ns : List (Held X)) (root p : Ptr) (t : IsTree root ns) (
       leave_up = go u.steps u.around left_order where
         go : (cs : List Step) → Around f root (f p).up.ptr (f p).side p cs → flat (plug cs o.t) ≡ box_addresses ms → Reaches (f p).up.ptr (box_addresses ms)
         go [] w k = subst (λ z. Reaches z (box_addresses ms)) (sym w.1) (null_reaches (box_addresses ms))
-        go ((s, q, y) ∷ cs) w k = subst (λ z. Reaches z (box_addresses ms)) (sym w.0) (in_reaches q (box_addresses ms) c (in_row (plug ((s, q, y) ∷ cs) o.t) (box_addresses ms) k q (steps_plug ((s, q, y) ∷ cs) o.t q (inl refl))))
+        go ((s, q, y) ∷ cs) w k = subst (λ z. Reaches z (box_addresses ms)) (sym w.at) (in_reaches q (box_addresses ms) c (in_row (plug ((s, q, y) ∷ cs) o.t) (box_addresses ms) k q (steps_plug ((s, q, y) ∷ cs) o.t q (inl refl))))
 
       away : (z : Ptr) → InSteps z u.steps → In z o.t → ⊥
       away z i k = inner.apart z (o.part z k) i

@@ -17,8 +17,8 @@ use Rattle.cordyceps_tree.proofs.Parting.{addresses_join, hooks_joined}
 
 pub gap_beside : (f : Ptr → Hook) (root q : Ptr) (s : Bool) (h : Ptr) (cs : List Step) → Around f root q s h cs → IsBeside q s (before cs) (after cs)
 gap_beside f root q s h [] a = subst (λ z. IsBeside q z [] []) (sym a.2) (inr (refl, refl))
-gap_beside f root q s h ((false, p, y) ∷ cs) a = subst (λ z. IsBeside q z (before cs) (p ∷ (flat y ++ after cs))) (sym a.1) (inl (flat y ++ after cs, ap (λ z. z ∷ (flat y ++ after cs)) (sym a.0)))
-gap_beside f root q s h ((true, p, y) ∷ cs) a = subst (λ z. IsBeside q z (before cs ++ (flat y ++ p ∷ [])) (after cs)) (sym a.1) (inl (before cs ++ flat y, sym (append_assoc (before cs) (flat y) (p ∷ [])) ∙ ap (λ z. (before cs ++ flat y) ++ z ∷ []) (sym a.0)))
+gap_beside f root q s h ((false, p, y) ∷ cs) a = subst (λ z. IsBeside q z (before cs) (p ∷ (flat y ++ after cs))) (sym a.side) (inl (flat y ++ after cs, ap (λ z. z ∷ (flat y ++ after cs)) (sym a.at)))
+gap_beside f root q s h ((true, p, y) ∷ cs) a = subst (λ z. IsBeside q z (before cs ++ (flat y ++ p ∷ [])) (after cs)) (sym a.side) (inl (before cs ++ flat y, sym (append_assoc (before cs) (flat y) (p ∷ [])) ∙ ap (λ z. (before cs ++ flat y) ++ z ∷ []) (sym a.at)))
 
 pub gap_order : (cs : List Step) (ps : List Ptr) → flat (plug cs leaf) ≡ ps → ps ≡ before cs ++ after cs
 gap_order cs ps e = sym e ∙ flat_plug cs leaf
@@ -71,7 +71,7 @@ module _ {X : Type 0} where
     put_reaches = go cs put_order u.around where
       go : (cs : List Step) → flat (plug cs one) ≡ box_addresses ms → Around (hook_at ns) root q s null_ptr cs → Reaches q (box_addresses ms)
       go [] o a = subst (λ z. Reaches z (box_addresses ms)) (sym a.1) (null_reaches (box_addresses ms))
-      go ((k, p, y) ∷ cs) o a = subst (λ z. Reaches z (box_addresses ms)) (sym a.0) (in_reaches p (box_addresses ms) c (in_row (plug ((k, p, y) ∷ cs) one) (box_addresses ms) o p (steps_plug ((k, p, y) ∷ cs) one p (inl refl))))
+      go ((k, p, y) ∷ cs) o a = subst (λ z. Reaches z (box_addresses ms)) (sym a.at) (in_reaches p (box_addresses ms) c (in_row (plug ((k, p, y) ∷ cs) one) (box_addresses ms) o p (steps_plug ((k, p, y) ∷ cs) one p (inl refl))))
 
     module _ (g g2 : Ptr → Hook) (hook : Hook) (up rt res : Address) (eu : up.ptr ≡ q) (er : rt.ptr ≡ root) (el : hook.left.ptr ≡ null_ptr) (eg : hook.right.ptr ≡ null_ptr) (ep : hook.up ≡ up) (es : hook.side ≡ s) (eh : hook.height ≡ 1) (wrote : Wrote (hook_at ms) at.ptr hook g) (hung : IsHung g up.ptr s at rt g2 res) where
       keep : (a : Ptr) → InSteps a cs → g a ≡ hook_at ns a
@@ -96,15 +96,15 @@ module _ {X : Type 0} where
         at = at.ptr;
         was = 0;
         order = put_order;
-        linked = (
-          refl,
-          (comparable_in (box_addresses ms) at.ptr c put_in_row).0,
-          ap (λ (z : Hook). z.up.ptr) here ∙ ap (λ (z : Address). z.ptr) ep ∙ eu,
-          ap (λ (z : Hook). z.side) here ∙ es,
-          ap (λ (z : Hook). z.height) here ∙ eh,
-          ap (λ (z : Hook). z.left.ptr) here ∙ el,
-          ap (λ (z : Hook). z.right.ptr) here ∙ eg,
-        );
+        linked = record {
+          at = refl;
+          solid = (comparable_in (box_addresses ms) at.ptr c put_in_row).0;
+          up = ap (λ (z : Hook). z.up.ptr) here ∙ ap (λ (z : Address). z.ptr) ep ∙ eu;
+          side = ap (λ (z : Hook). z.side) here ∙ es;
+          tall = ap (λ (z : Hook). z.height) here ∙ eh;
+          left = ap (λ (z : Hook). z.left.ptr) here ∙ el;
+          right = ap (λ (z : Hook). z.right.ptr) here ∙ eg;
+        };
         balanced = ((omega arith, omega arith), tt, tt);
         around = hung_around g g2 root q s null_ptr cs up at rt res eu er around1 less hung;
         stands = hung_stands g g2 root q s null_ptr cs up at rt res 0 eu around1 less hung (stands_keep (hook_at ns) g 0 cs u.stands keep);

@@ -52,15 +52,15 @@ pub next_of : (f : Ptr → Hook) (ps : List Ptr) (root q : Ptr) → IsUnsettled 
 next_of f ps root q u solid = go u.steps u.order u.around u.stands where
   go : (cs : List Step) → flat (plug cs u.shape) ≡ ps → Around f root q u.side u.at cs → Stands f u.was cs → Next f ps root q
   go [] order a st = absurd (subst InBlock a.1 solid)
-  go ((d, p, y) ∷ cs) order (up, side, sol, leads, other, rest) (tall, close, fine, more) = subst (Next f ps root) (sym up) (record {
+  go ((d, p, y) ∷ cs) order a (tall, close, fine, more) = subst (Next f ps root) (sym a.at) (record {
     d = d;
     t = u.shape;
     y = y;
     cs = cs;
     was = u.was;
     order = order;
-    hangs = record { solid = sol; up = refl; side = refl; here = subst (λ z. Linked f p d z u.shape) (sym leads) (subst (λ z. Linked f p z u.at u.shape) side (subst (λ z. Linked f z u.side u.at u.shape) up u.linked)); there = other };
-    around = rest;
+    hangs = record { solid = a.solid; up = refl; side = refl; here = subst (λ z. Linked f p d z u.shape) (sym a.leads) (subst (λ z. Linked f p z u.at u.shape) a.side (subst (λ z. Linked f z u.side u.at u.shape) a.at u.linked)); there = a.other };
+    around = a.above;
     tall = tall;
     close = close;
     near = u.near;
@@ -74,21 +74,21 @@ pub at_top : (f : Ptr → Hook) (ps : List Ptr) (root q : Ptr) → IsUnsettled f
 at_top f ps root q u null = go u.steps u.order u.around where
   go : (cs : List Step) → flat (plug cs u.shape) ≡ ps → Around f root q u.side u.at cs → IsSettled f ps root
   go [] order a = let w = close_up f root q u.side u.at [] u.shape a tt u.linked u.balanced in record { shape = u.shape; order = order; linked = w.0; balanced = w.1 }
-  go ((d, p, y) ∷ cs) order a = absurd (subst InBlock (sym a.0 ∙ null) a.2)
+  go ((d, p, y) ∷ cs) order a = absurd (subst InBlock (sym a.at ∙ null) a.solid)
 
 pub unsettled_reaches : (f : Ptr → Hook) (ps : List Ptr) (root q : Ptr) → AreNullComparable ps → IsUnsettled f ps root q → Reaches q ps
 unsettled_reaches f ps root q c u = go u.steps u.order u.around where
   go : (cs : List Step) → flat (plug cs u.shape) ≡ ps → Around f root q u.side u.at cs → Reaches q ps
   go [] order a = subst (λ z. Reaches z ps) (sym a.1) (null_reaches ps)
-  go ((d, p, y) ∷ cs) order a = subst (λ z. Reaches z ps) (sym a.0) (in_reaches p ps c (in_row (plug ((d, p, y) ∷ cs) u.shape) ps order p (steps_plug ((d, p, y) ∷ cs) u.shape p (inl refl))))
+  go ((d, p, y) ∷ cs) order a = subst (λ z. Reaches z ps) (sym a.at) (in_reaches p ps c (in_row (plug ((d, p, y) ∷ cs) u.shape) ps order p (steps_plug ((d, p, y) ∷ cs) u.shape p (inl refl))))
 
 pub climb_is : (f : Ptr → Hook) (root q : Ptr) (s : Bool) (h : Ptr) (cs : List Step) (n : ℕ) → Around f root q s h cs → length cs ≤ n → climb f n q ≡ length cs
 climb_is f root q s h [] zero a k = refl
 climb_is f root q s h [] (suc n) a k = ap (climb f (suc n)) a.1
 climb_is f root q s h ((d, p, y) ∷ cs) zero a k = absurd (omega (arith, k))
-climb_is f root q s h ((d, p, y) ∷ cs) (suc n) a k = go q a.0 (climb_is f root (f p).up.ptr (f p).side p cs n a.5 (omega (arith, k))) where
+climb_is f root q s h ((d, p, y) ∷ cs) (suc n) a k = go q a.at (climb_is f root (f p).up.ptr (f p).side p cs n a.above (omega (arith, k))) where
   go : (v : Ptr) → v ≡ p → climb f n (f p).up.ptr ≡ length cs → climb f (suc n) v ≡ suc (length cs)
-  go null_ptr e ih = absurd (subst InBlock (sym e) a.2)
+  go null_ptr e ih = absurd (subst InBlock (sym e) a.solid)
   go (block_ptr b o) e ih = ap suc (ap (λ (z : Ptr). climb f n (f z).up.ptr) e ∙ ih)
 
 -- ---- tests
@@ -171,7 +171,7 @@ module _ (f : Ptr → Hook) (ps : List Ptr) (root p : Ptr) (n : Next f ps root p
   up_reaches c = go n.cs n.order n.around where
     go : (cs : List Step) → flat (plug cs (join n.d n.t p n.y)) ≡ ps → Around f root (f p).up.ptr (f p).side p cs → Reaches (f p).up.ptr ps
     go [] order a = subst (λ z. Reaches z ps) (sym a.1) (null_reaches ps)
-    go ((d, r, y) ∷ cs) order a = subst (λ z. Reaches z ps) (sym a.0) (in_reaches r ps c (in_row (plug ((d, r, y) ∷ cs) (join n.d n.t p n.y)) ps order r (steps_plug ((d, r, y) ∷ cs) (join n.d n.t p n.y) r (inl refl))))
+    go ((d, r, y) ∷ cs) order a = subst (λ z. Reaches z ps) (sym a.at) (in_reaches r ps c (in_row (plug ((d, r, y) ∷ cs) (join n.d n.t p n.y)) ps order r (steps_plug ((d, r, y) ∷ cs) (join n.d n.t p n.y) r (inl refl))))
 
   module _ (g1 g2 : Ptr → Hook) (up top rt res : Address) (side : Bool) (eu : up.ptr ≡ (f p).up.ptr) (es : side ≡ (f p).side) (er : rt.ptr ≡ root) (k : (q : Ptr) (s : Bool) (x y : Shape) → Hangs f q s false x p y → Sole (join false x p y) → Balanced x → Balanced y → Mended f q s false x p y g1 top.ptr) (hung : IsHung g1 up.ptr side top rt g2 res) where
     m : Mended f (f p).up.ptr (f p).side n.d n.t p n.y g1 top.ptr
@@ -205,7 +205,7 @@ module _ (f : Ptr → Hook) (ps : List Ptr) (root p : Ptr) (n : Next f ps root p
     top_reaches c = go m.shape linked2 order2 where
       go : (t : Shape) → Linked g2 (f p).up.ptr (f p).side top.ptr t → flat (plug n.cs t) ≡ ps → Reaches top.ptr ps
       go leaf w o = subst (λ z. Reaches z ps) (sym w) (null_reaches ps)
-      go (node l r y) w o = subst (λ z. Reaches z ps) (sym w.0) (in_reaches r ps c (in_row (plug n.cs (node l r y)) ps o r (in_plug n.cs (node l r y) r (inl refl))))
+      go (node l r y) w o = subst (λ z. Reaches z ps) (sym w.at) (in_reaches r ps c (in_row (plug n.cs (node l r y)) ps o r (in_plug n.cs (node l r y) r (inl refl))))
 
     pub step_more : IsUnsettled g2 ps res.ptr up.ptr
     step_more = subst (IsUnsettled g2 ps res.ptr) (sym eu) (record {
@@ -232,6 +232,6 @@ module _ (f : Ptr → Hook) (ps : List Ptr) (root p : Ptr) (n : Next f ps root p
     step_nearer =
         let a = size_plug n.cs (join n.d n.t p n.y) in let b = size_join n.d n.t p n.y in let l = long in
         let x : climb g2 (length ps) up.ptr ≡ length n.cs = ap (climb g2 (length ps)) eu ∙ climb_is g2 res.ptr (f p).up.ptr (f p).side top.ptr n.cs (length ps) around2 (omega (arith, a, b, l)) in
-        let here : Around f root p n.d (kid (f p) n.d).ptr ((n.d, p, n.y) ∷ n.cs) = (refl, refl, n.hangs.solid, refl, n.hangs.there, n.around) in
+        let here : Around f root p n.d (kid (f p) n.d).ptr ((n.d, p, n.y) ∷ n.cs) = record { at = refl; side = refl; solid = n.hangs.solid; leads = refl; other = n.hangs.there; above = n.around } in
         let y : climb f (length ps) p ≡ suc (length n.cs) = climb_is f root p n.d (kid (f p) n.d).ptr ((n.d, p, n.y) ∷ n.cs) (length ps) here (omega (arith, a, b, l)) in
         omega (arith, x, y)

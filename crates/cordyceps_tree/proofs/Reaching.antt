@@ -27,7 +27,7 @@ in_reaches p ps a e = record { testable = (comparable_in ps p a e).1; there = λ
 -- the root of a tree of such nodes
 pub tree_reaches : (f : Ptr → Hook) (q : Ptr) (s : Bool) (h : Ptr) (t : Shape) (ps : List Ptr) → AreNullComparable ps → Linked f q s h t → ((z : Ptr) → In z t → is_in z ps ≡ true) → Reaches h ps
 tree_reaches f q s h leaf ps a w k = subst (λ z. Reaches z ps) (sym w) (null_reaches ps)
-tree_reaches f q s h (node l p r) ps a w k = subst (λ z. Reaches z ps) (sym w.0) (in_reaches p ps a (k p (inl refl)))
+tree_reaches f q s h (node l p r) ps a w k = subst (λ z. Reaches z ps) (sym w.at) (in_reaches p ps a (k p (inl refl)))
 
 -- ---- a rotation
 module _ (f : Ptr → Hook) (ps : List Ptr) (at : Ptr) (d : Bool) (a : AreNullComparable ps) (u : CanTurn f ps at d) where

@@ -55,18 +55,18 @@ module _ {X : Type 0} (ns ms old more : List (Held X)) (root p : Ptr) (next : Ad
   trade_in = in_row (plug u.steps sub) (box_addresses ms) order_at n (in_plug u.steps sub n (inl refl))
 
   pub trade_left : Reaches (f p).left.ptr (box_addresses ms)
-  trade_left = go u.left u.linked.5 (λ z i. in_row (plug u.steps sub) (box_addresses ms) order_at z (in_plug u.steps sub z (inr (inl i)))) where
+  trade_left = go u.left u.linked.left (λ z i. in_row (plug u.steps sub) (box_addresses ms) order_at z (in_plug u.steps sub z (inr (inl i)))) where
     go : (l : Shape) → Linked f p false (f p).left.ptr l → ((z : Ptr) → In z l → is_in z (box_addresses ms) ≡ true) → Reaches (f p).left.ptr (box_addresses ms)
     go l w i = tree_reaches f p false (f p).left.ptr l (box_addresses ms) c w i
 
   pub trade_right : Reaches (f p).right.ptr (box_addresses ms)
-  trade_right = tree_reaches f p true (f p).right.ptr u.right (box_addresses ms) c u.linked.6 (λ z i. in_row (plug u.steps sub) (box_addresses ms) order_at z (in_plug u.steps sub z (inr (inr i))))
+  trade_right = tree_reaches f p true (f p).right.ptr u.right (box_addresses ms) c u.linked.right (λ z i. in_row (plug u.steps sub) (box_addresses ms) order_at z (in_plug u.steps sub z (inr (inr i))))
 
   pub trade_up : Reaches (f p).up.ptr (box_addresses ms)
   trade_up = go u.steps u.around order_at where
     go : (cs : List Step) → Around f root (f p).up.ptr (f p).side p cs → flat (plug cs sub) ≡ box_addresses ms → Reaches (f p).up.ptr (box_addresses ms)
     go [] w o = subst (λ z. Reaches z (box_addresses ms)) (sym w.1) (null_reaches (box_addresses ms))
-    go ((s, q, y) ∷ cs) w o = subst (λ z. Reaches z (box_addresses ms)) (sym w.0) (in_reaches q (box_addresses ms) c (in_row (plug ((s, q, y) ∷ cs) sub) (box_addresses ms) o q (steps_plug ((s, q, y) ∷ cs) sub q (inl refl))))
+    go ((s, q, y) ∷ cs) w o = subst (λ z. Reaches z (box_addresses ms)) (sym w.at) (in_reaches q (box_addresses ms) c (in_row (plug ((s, q, y) ∷ cs) sub) (box_addresses ms) o q (steps_plug ((s, q, y) ∷ cs) sub q (inl refl))))
 
   module _ (g1 g2 g3 g4 : Ptr → Hook) (rt res : Address) (er : rt.ptr ≡ root) (w1 : Wrote (hook_at ms) n (f p) g1) (w2 : IsUnder g1 (f p).left.ptr next false g2) (w3 : IsUnder g2 (f p).right.ptr next true g3) (hung : IsHung g3 (f p).up.ptr (f p).side next rt g4 res) where
     first : (z : Ptr) → (z ≡ n → ⊥) → (z ≡ p → ⊥) → g1 z ≡ f z
@@ -79,7 +79,7 @@ module _ {X : Type 0} (ns ms old more : List (Held X)) (root p : Ptr) (next : Ad
     in_right z i = first z (λ e. inner.sole.1 (subst (λ y. In y u.right) e i)) (λ e. was_inner.sole.1 (subst (λ y. In y u.right) e i))
 
     left1 : Linked g1 p false (f p).left.ptr u.left
-    left1 = linked_keep f g1 p false (f p).left.ptr u.left u.linked.5 in_left
+    left1 = linked_keep f g1 p false (f p).left.ptr u.left u.linked.left in_left
 
     left2 : Linked g2 n false (f p).left.ptr u.left
     left2 = linked_under g1 g2 p false (f p).left.ptr u.left next false left1 inner.sole.3 w2
@@ -88,7 +88,7 @@ module _ {X : Type 0} (ns ms old more : List (Held X)) (root p : Ptr) (next : Ad
     second z out = under_keep g1 g2 p false (f p).left.ptr u.left next false left1 w2 z out
 
     right2 : Linked g2 p true (f p).right.ptr u.right
-    right2 = linked_keep f g2 p true (f p).right.ptr u.right u.linked.6 (λ z i. second z (λ j. inner.sole.2 z j i) ∙ in_right z i)
+    right2 = linked_keep f g2 p true (f p).right.ptr u.right u.linked.right (λ z i. second z (λ j. inner.sole.2 z j i) ∙ in_right z i)
 
     right3 : Linked g3 n true (f p).right.ptr u.right
     right3 = linked_under g2 g3 p true (f p).right.ptr u.right next true right2 inner.sole.4 w3
@@ -118,15 +118,15 @@ module _ {X : Type 0} (ns ms old more : List (Held X)) (root p : Ptr) (next : Ad
     here4 = stays n (inl refl) ∙ here3
 
     linked4 : Linked g4 (f p).up.ptr (f p).side n sub
-    linked4 = (
-      refl,
-      (comparable_in (box_addresses ms) n c trade_in).0,
-      ap (λ (z : Hook). z.up.ptr) here4,
-      ap (λ (z : Hook). z.side) here4,
-      ap (λ (z : Hook). z.height) here4 ∙ u.linked.4,
-      subst (λ (z : Hook). Linked g4 n false z.left.ptr u.left) (sym here4) (linked_keep g3 g4 n false (f p).left.ptr u.left left3 (λ z i. stays z (inr (inl i)))),
-      subst (λ (z : Hook). Linked g4 n true z.right.ptr u.right) (sym here4) (linked_keep g3 g4 n true (f p).right.ptr u.right right3 (λ z i. stays z (inr (inr i)))),
-    )
+    linked4 = record {
+      at = refl;
+      solid = (comparable_in (box_addresses ms) n c trade_in).0;
+      up = ap (λ (z : Hook). z.up.ptr) here4;
+      side = ap (λ (z : Hook). z.side) here4;
+      tall = ap (λ (z : Hook). z.height) here4 ∙ u.linked.tall;
+      left = subst (λ (z : Hook). Linked g4 n false z.left.ptr u.left) (sym here4) (linked_keep g3 g4 n false (f p).left.ptr u.left left3 (λ z i. stays z (inr (inl i))));
+      right = subst (λ (z : Hook). Linked g4 n true z.right.ptr u.right) (sym here4) (linked_keep g3 g4 n true (f p).right.ptr u.right right3 (λ z i. stays z (inr (inr i))));
+    }
 
     pub trade_settled : IsSettled g4 (box_addresses ms) res.ptr
     trade_settled =

@@ -64,7 +64,7 @@ module _ {X : Type 0} where
   root_solid root ns t some = go t.settled.shape t.settled.order t.settled.linked where
     go : (u : Shape) → flat u ≡ box_addresses ns → Linked (hook_at ns) null_ptr false root u → InBlock root
     go leaf o w = let n = none_there ns (sym o) in absurd (omega (arith, n, some))
-    go (node x p y) o w = subst InBlock (sym w.0) w.1
+    go (node x p y) o w = subst InBlock (sym w.at) w.solid
 
   pub root_down : (root : Ptr) (ns : List (Held X)) (d : Bool) → IsTree root ns → IsDown (hook_at ns) (box_addresses ns) d [] root
   root_down root ns d t = all_down (hook_at ns) root t.settled.shape (box_addresses ns) d t.settled.order t.settled.linked

@@ -65,7 +65,7 @@ module _ {X : Type 0} where
         outer = u.outer;
         next = u.next;
       }
-      go (node x p y) o l st = absurd (subst InBlock (sym l.0 ∙ e) l.1)
+      go (node x p y) o l st = absurd (subst InBlock (sym l.at ∙ e) l.solid)
 
     pub search_reaches : (w : Place) (h : Ptr) → AreNullComparable (box_addresses ns) → IsSearched says ns root w h → Reaches h (box_addresses ns)
     search_reaches w h c u = tree_reaches (hook_at ns) w.up.ptr w.side h u.shape (box_addresses ns) c u.linked (λ z i. in_row (plug u.steps u.shape) (box_addresses ns) u.order z (in_plug u.steps u.shape z i))
@@ -83,7 +83,7 @@ module _ {X : Type 0} where
         p = h.ptr
 
         is : q ≡ p
-        is = sym l.0
+        is = sym l.at
 
         order_p : flat (plug u.steps (node x p y)) ≡ box_addresses ns
         order_p = subst (λ z. flat (plug u.steps (node x z y)) ≡ box_addresses ns) is o
@@ -92,25 +92,25 @@ module _ {X : Type 0} where
         solid_p = solid
 
         height_p : (f p).height ≡ suc (max (height x) (height y))
-        height_p = subst (λ z. (f z).height ≡ suc (max (height x) (height y))) is l.4
+        height_p = subst (λ z. (f z).height ≡ suc (max (height x) (height y))) is l.tall
 
         left_p : Linked f p false (f p).left.ptr x
-        left_p = subst (λ z. Linked f z false (f z).left.ptr x) is l.5
+        left_p = subst (λ z. Linked f z false (f z).left.ptr x) is l.left
 
         right_p : Linked f p true (f p).right.ptr y
-        right_p = subst (λ z. Linked f z true (f z).right.ptr y) is l.6
+        right_p = subst (λ z. Linked f z true (f z).right.ptr y) is l.right
 
         up_p : (f p).up.ptr ≡ w.up.ptr
-        up_p = subst (λ z. (f z).up.ptr ≡ w.up.ptr) is l.2
+        up_p = subst (λ z. (f z).up.ptr ≡ w.up.ptr) is l.up
 
         side_p : (f p).side ≡ w.side
-        side_p = subst (λ z. (f z).side ≡ w.side) is l.3
+        side_p = subst (λ z. (f z).side ≡ w.side) is l.side
 
         around_p : Around f root (f p).up.ptr (f p).side p u.steps
         around_p = subst (λ z. Around f root (f p).up.ptr z p u.steps) (sym side_p) (subst (λ z. Around f root z w.side p u.steps) (sym up_p) u.around)
 
         hp : height_at f p ≡ suc (max (height x) (height y))
-        hp = height_known f (f p).up.ptr (f p).side p (node x p y) (refl, solid, refl, refl, height_p, left_p, right_p)
+        hp = height_known f (f p).up.ptr (f p).side p (node x p y) (record { at = refl; solid = solid; up = refl; side = refl; tall = height_p; left = left_p; right = right_p })
 
         at_h : (d : Bool) → IsSaidAt says ns p d → IsSearched says ns root (below w h d) (kid (f p) d).ptr × (height_at f (kid (f p) d).ptr < height_at f p)
         at_h false said = (
@@ -120,7 +120,7 @@ module _ {X : Type 0} where
             order = order_p;
             linked = left_p;
             balanced = b.1;
-            around = (refl, refl, solid, refl, right_p, around_p);
+            around = record { at = refl; side = refl; solid = solid; leads = refl; other = right_p; above = around_p };
             stands = (height_p, b.0, b.2, st);
             goes = record { low = u.goes.low; high = inr (p, flat y ++ after u.steps, refl, said) };
             outer = u.outer;
@@ -135,7 +135,7 @@ module _ {X : Type 0} where
             order = order_p;
             linked = right_p;
             balanced = b.2;
-            around = (refl, refl, solid, refl, left_p, around_p);
+            around = record { at = refl; side = refl; solid = solid; leads = refl; other = left_p; above = around_p };
             stands = (height_p ∙ ap suc (swap (height x) (height y)), (b.0.1, b.0.0), b.1, subst (λ z. Stands f (suc z) u.steps) (swap (height x) (height y)) st);
             goes = record { low = inr (before u.steps ++ flat x, p, sym (append_assoc (before u.steps) (flat x) (p ∷ [])), said); high = u.goes.high };
             outer = not_none (before u.steps) (flat x) p;

@@ -51,15 +51,16 @@ within ((d, p, y) ∷ cs) t o =
 -- ---- hooks that stay
 pub around_keep : (f g : Ptr → Hook) (root q : Ptr) (s : Bool) (h : Ptr) (cs : List Step) → Around f root q s h cs → ((a : Ptr) → InSteps a cs → g a ≡ f a) → Around g root q s h cs
 around_keep f g root q s h [] w k = w
-around_keep f g root q s h ((d, p, y) ∷ cs) (up, side, solid, leads, other, rest) k =
-    let e : g p ≡ f p = k p (inl refl) in (
-      up,
-      side,
-      solid,
-      ap (λ (z : Hook). (kid z d).ptr) e ∙ leads,
-      subst (λ (z : Hook). Linked g p (not d) (kid z (not d)).ptr y) (sym e) (linked_keep f g p (not d) (kid (f p) (not d)).ptr y other (λ a i. k a (inr (inl i)))),
-      subst (λ (z : Hook). Around g root z.up.ptr z.side p cs) (sym e) (around_keep f g root (f p).up.ptr (f p).side p cs rest (λ a i. k a (inr (inr i)))),
-    )
+around_keep f g root q s h ((d, p, y) ∷ cs) w k =
+    let e : g p ≡ f p = k p (inl refl) in
+    record {
+      at = w.at;
+      side = w.side;
+      solid = w.solid;
+      leads = ap (λ (z : Hook). (kid z d).ptr) e ∙ w.leads;
+      other = subst (λ (z : Hook). Linked g p (not d) (kid z (not d)).ptr y) (sym e) (linked_keep f g p (not d) (kid (f p) (not d)).ptr y w.other (λ a i. k a (inr (inl i))));
+      above = subst (λ (z : Hook). Around g root z.up.ptr z.side p cs) (sym e) (around_keep f g root (f p).up.ptr (f p).side p cs w.above (λ a i. k a (inr (inr i))));
+    }
 
 pub stands_keep : (f g : Ptr → Hook) (n : ℕ) (cs : List Step) → Stands f n cs → ((a : Ptr) → InSteps a cs → g a ≡ f a) → Stands g n cs
 stands_keep f g n [] w k = tt
@@ -70,17 +71,17 @@ stands_keep f g n ((d, p, y) ∷ cs) (tall, close, fine, rest) k =
 -- a tree at the place fits what is around it
 pub close_up : (f : Ptr → Hook) (root q : Ptr) (s : Bool) (h : Ptr) (cs : List Step) (t : Shape) → Around f root q s h cs → Stands f (height t) cs → Linked f q s h t → Balanced t → Linked f null_ptr false root (plug cs t) × Balanced (plug cs t)
 close_up f root q s h [] t (at, up, side) st l b = (subst (λ z. Linked f null_ptr false z t) at (subst (λ z. Linked f z false h t) up (subst (λ z. Linked f q z h t) side l)), b)
-close_up f root q s h ((d, p, y) ∷ cs) t (up, side, solid, leads, other, rest) (tall, close, fine, more) l b =
+close_up f root q s h ((d, p, y) ∷ cs) t w (tall, close, fine, more) l b =
     let tree = rejoin f (f p).up.ptr (f p).side p d t p y (record {
       at = refl;
-      solid = solid;
+      solid = w.solid;
       up = refl;
       side = refl;
       tall = tall;
-      here = subst (λ z. Linked f p d z t) (sym leads) (subst (λ z. Linked f z d h t) up (subst (λ z. Linked f q z h t) side l));
-      there = other;
+      here = subst (λ z. Linked f p d z t) (sym w.leads) (subst (λ z. Linked f z d h t) w.at (subst (λ z. Linked f q z h t) w.side l));
+      there = w.other;
     }) in
-    close_up f root (f p).up.ptr (f p).side p cs (join d t p y) rest (subst (λ z. Stands f z cs) (sym (height_join d t p y)) more) tree (unweighed d t p y (record { low = close.0; high = close.1; here = b; there = fine }))
+    close_up f root (f p).up.ptr (f p).side p cs (join d t p y) w.above (subst (λ z. Stands f z cs) (sym (height_join d t p y)) more) tree (unweighed d t p y (record { low = close.0; high = close.1; here = b; there = fine }))
 
 -- where a spot of a tree stands
 pub record Opened (f : Ptr → Hook) (root : Ptr) (whole : Shape) (p : Ptr) : Type 0 where
@@ -95,26 +96,29 @@ pub record Opened (f : Ptr → Hook) (root : Ptr) (whole : Shape) (p : Ptr) : Ty
 
 pub opened : (f : Ptr → Hook) (root : Ptr) (q : Ptr) (s : Bool) (h : Ptr) (cs : List Step) (t : Shape) (p : Ptr) → In p t → Around f root q s h cs → Stands f (height t) cs → Linked f q s h t → Balanced t → Opened f root (plug cs t) p
 opened f root q s h cs leaf p i a st l b = absurd i
-opened f root q s h cs (node x r y) p i a st (at, solid, up, side, tall, left, right) (close, bx, by) = elim i [
+opened f root q s h cs (node x r y) p i a st w (close, bx, by) = elim i [
   | inl is ↦ subst (Opened f root (plug cs (node x r y))) (sym is) (record {
     steps = cs;
     left = x;
     right = y;
     is = refl;
-    around = subst (λ z. Around f root (f r).up.ptr (f r).side z cs) at (subst (λ z. Around f root (f r).up.ptr z h cs) (sym side) (subst (λ z. Around f root z s h cs) (sym up) a));
+    around = above;
     stands = st;
-    linked = (refl, solid, refl, refl, tall, left, right);
+    linked = record { at = refl; solid = w.solid; up = refl; side = refl; tall = w.tall; left = w.left; right = w.right };
     balanced = (close, bx, by);
   })
   | inr j ↦ elim j [
     | inl k ↦ opened f root r false (f r).left.ptr ((false, r, y) ∷ cs) x p k
-        (refl, refl, solid, refl, right, subst (λ z. Around f root (f r).up.ptr (f r).side z cs) at (subst (λ z. Around f root (f r).up.ptr z h cs) (sym side) (subst (λ z. Around f root z s h cs) (sym up) a)))
-        (tall, close, by, st) left bx
+        (record { at = refl; side = refl; solid = w.solid; leads = refl; other = w.right; above = above })
+        (w.tall, close, by, st) w.left bx
     | inr k ↦ opened f root r true (f r).right.ptr ((true, r, x) ∷ cs) y p k
-        (refl, refl, solid, refl, left, subst (λ z. Around f root (f r).up.ptr (f r).side z cs) at (subst (λ z. Around f root (f r).up.ptr z h cs) (sym side) (subst (λ z. Around f root z s h cs) (sym up) a)))
-        (tall ∙ ap suc (swap (height x) (height y)), (close.1, close.0), bx, subst (λ z. Stands f (suc z) cs) (swap (height x) (height y)) st) right by
+        (record { at = refl; side = refl; solid = w.solid; leads = refl; other = w.left; above = above })
+        (w.tall ∙ ap suc (swap (height x) (height y)), (close.1, close.0), bx, subst (λ z. Stands f (suc z) cs) (swap (height x) (height y)) st) w.right by
   ]
 ] where
+  above : Around f root (f r).up.ptr (f r).side r cs
+  above = subst (λ z. Around f root (f r).up.ptr (f r).side z cs) w.at (subst (λ z. Around f root (f r).up.ptr z h cs) (sym w.side) (subst (λ z. Around f root z s h cs) (sym w.up) a))
+
   swap : (a b : ℕ) → max a b ≡ max b a
   swap a b = omega arith
 
@@ -125,20 +129,21 @@ hung_around f g root q s h cs u at rt res eu er w o e = go u.ptr eu e cs w o whe
   go : (v : Ptr) → v ≡ q → IsHung f v s at rt g res → (cs : List Step) → Around f root q s h cs → Sole (plug cs leaf) → Around g res.ptr q s at.ptr cs
   go null_ptr ev (same, is) [] (a, b, c) o = (sym (ap (λ (z : Address). z.ptr) is), b, c)
   go (block_ptr b k) ev wrote [] (a, b2, c) o = let no : block_ptr b k ≡ null_ptr = ev ∙ b2 in absurd cc
-  go null_ptr ev (same, is) ((d, p, y) ∷ cs) w o = absurd (subst InBlock (sym (ev ∙ w.0)) w.2)
-  go (block_ptr b k) ev (wrote, is) ((d, p, y) ∷ cs) (up, side, solid, leads, other, rest) o =
+  go null_ptr ev (same, is) ((d, p, y) ∷ cs) w o = absurd (subst InBlock (sym (ev ∙ w.at)) w.solid)
+  go (block_ptr b k) ev (wrote, is) ((d, p, y) ∷ cs) w o =
       let v = within cs (join d leaf p y) o in let r = parted d leaf p y v.sole in
-      let here : block_ptr b k ≡ p = ev ∙ up in
-      let e : g p ≡ with_kid (f p) d at = subst (λ z. g z ≡ with_kid (f z) d at) here (subst (λ z. g (block_ptr b k) ≡ with_kid (f (block_ptr b k)) z at) side wrote.here) in
-      let keep : (a : Ptr) → (a ≡ p → ⊥) → g a ≡ f a = λ a n. wrote.others a (λ m. n (m ∙ here)) in (
-        up,
-        side,
-        solid,
-        ap (λ (z : Hook). (kid z d).ptr) e ∙ ap (λ (z : Address). z.ptr) (kid_set (f p) d at),
-        subst (λ (z : Address). Linked g p (not d) z.ptr y) (sym (ap (λ (z : Hook). kid z (not d)) e ∙ kid_kept (f p) d at)) (linked_keep f g p (not d) (kid (f p) (not d)).ptr y other (λ a i. keep a (λ m. r.not_there (subst (λ z. In z y) m i)))),
-        subst (λ (z : Address). Around g res.ptr z.ptr (g p).side p cs) (sym (ap (λ (z : Hook). z.up) e ∙ up_with (f p) d at)) (subst (λ z. Around g res.ptr (f p).up.ptr z p cs) (sym (ap (λ (z : Hook). z.side) e ∙ side_with (f p) d at))
-            (subst (λ (z : Address). Around g z.ptr (f p).up.ptr (f p).side p cs) (sym is) (subst (λ z. Around g z (f p).up.ptr (f p).side p cs) (sym er) (around_keep f g root (f p).up.ptr (f p).side p cs rest (λ a i. keep a (λ m. v.apart p (in_top d leaf p y) (subst (λ z. InSteps z cs) m i))))))),
-      )
+      let here : block_ptr b k ≡ p = ev ∙ w.at in
+      let e : g p ≡ with_kid (f p) d at = subst (λ z. g z ≡ with_kid (f z) d at) here (subst (λ z. g (block_ptr b k) ≡ with_kid (f (block_ptr b k)) z at) w.side wrote.here) in
+      let keep : (a : Ptr) → (a ≡ p → ⊥) → g a ≡ f a = λ a n. wrote.others a (λ m. n (m ∙ here)) in
+      record {
+        at = w.at;
+        side = w.side;
+        solid = w.solid;
+        leads = ap (λ (z : Hook). (kid z d).ptr) e ∙ ap (λ (z : Address). z.ptr) (kid_set (f p) d at);
+        other = subst (λ (z : Address). Linked g p (not d) z.ptr y) (sym (ap (λ (z : Hook). kid z (not d)) e ∙ kid_kept (f p) d at)) (linked_keep f g p (not d) (kid (f p) (not d)).ptr y w.other (λ a i. keep a (λ m. r.not_there (subst (λ z. In z y) m i))));
+        above = subst (λ (z : Address). Around g res.ptr z.ptr (g p).side p cs) (sym (ap (λ (z : Hook). z.up) e ∙ up_with (f p) d at)) (subst (λ z. Around g res.ptr (f p).up.ptr z p cs) (sym (ap (λ (z : Hook). z.side) e ∙ side_with (f p) d at))
+            (subst (λ (z : Address). Around g z.ptr (f p).up.ptr (f p).side p cs) (sym is) (subst (λ z. Around g z (f p).up.ptr (f p).side p cs) (sym er) (around_keep f g root (f p).up.ptr (f p).side p cs w.above (λ a i. keep a (λ m. v.apart p (in_top d leaf p y) (subst (λ z. InSteps z cs) m i)))))));
+      }
 
 -- no hook of a tree at the place changes then
 pub hung_others : (f g : Ptr → Hook) (root q : Ptr) (s : Bool) (h : Ptr) (cs : List Step) (u at rt res : Address) → u.ptr ≡ q → Around f root q s h cs → IsHung f u.ptr s at rt g res → (a : Ptr) → (InSteps a cs → ⊥) → g a ≡ f a
@@ -146,7 +151,7 @@ hung_others f g root q s h cs u at rt res eu w e a out = go u.ptr eu e cs w out 
   go : (v : Ptr) → v ≡ q → IsHung f v s at rt g res → (cs : List Step) → Around f root q s h cs → (InSteps a cs → ⊥) → g a ≡ f a
   go null_ptr ev e cs w out = ap (λ (z : Ptr → Hook). z a) e.0
   go (block_ptr b k) ev e [] w out = let no : block_ptr b k ≡ null_ptr = ev ∙ w.1 in absurd cc
-  go (block_ptr b k) ev e ((d, p, y) ∷ cs) w out = e.0.others a (λ m. out (inl (m ∙ ev ∙ w.0)))
+  go (block_ptr b k) ev e ((d, p, y) ∷ cs) w out = e.0.others a (λ m. out (inl (m ∙ ev ∙ w.at)))
 
 -- the heights around stay
 pub hung_stands : (f g : Ptr → Hook) (root q : Ptr) (s : Bool) (h : Ptr) (cs : List Step) (u at rt res : Address) (n : ℕ) → u.ptr ≡ q → Around f root q s h cs → Sole (plug cs leaf) → IsHung f u.ptr s at rt g res → Stands f n cs → Stands g n cs
@@ -156,6 +161,6 @@ hung_stands f g root q s h cs u at rt res n eu w o e st = go u.ptr eu e cs w o s
   go (block_ptr b k) ev e [] w o st = tt
   go (block_ptr b k) ev e ((d, p, y) ∷ cs) w o (tall, close, fine, rest) =
       let v = within cs (join d leaf p y) o in
-      let here : block_ptr b k ≡ p = ev ∙ w.0 in
+      let here : block_ptr b k ≡ p = ev ∙ w.at in
       let is : g p ≡ with_kid (f p) s at = subst (λ z. g z ≡ with_kid (f z) s at) here e.0.here in
       (ap (λ (z : Hook). z.height) is ∙ height_with (f p) s at ∙ tall, close, fine, stands_keep f g (suc (max n (height y))) cs rest (λ a i. e.0.others a (λ m. v.apart p (in_top d leaf p y) (subst (λ z. InSteps z cs) (m ∙ here) i))))

@@ -71,12 +71,12 @@ pub record Joined (f : Ptr → Hook) (q : Ptr) (s : Bool) (h : Ptr) (d : Bool) (
   pub there : Linked f p (not d) (kid (f p) (not d)).ptr y
 
 pub unjoin : (f : Ptr → Hook) (q : Ptr) (s : Bool) (h : Ptr) (d : Bool) (x : Shape) (p : Ptr) (y : Shape) → Linked f q s h (join d x p y) → Joined f q s h d x p y
-unjoin f q s h false x p y (at, solid, up, side, tall, l, r) = record { at = at; solid = solid; up = up; side = side; tall = tall; here = l; there = r }
-unjoin f q s h true x p y (at, solid, up, side, tall, l, r) = record { at = at; solid = solid; up = up; side = side; tall = tall ∙ ap suc (over_swap (height y) (height x)); here = r; there = l }
+unjoin f q s h false x p y w = record { at = w.at; solid = w.solid; up = w.up; side = w.side; tall = w.tall; here = w.left; there = w.right }
+unjoin f q s h true x p y w = record { at = w.at; solid = w.solid; up = w.up; side = w.side; tall = w.tall ∙ ap suc (over_swap (height y) (height x)); here = w.right; there = w.left }
 
 pub rejoin : (f : Ptr → Hook) (q : Ptr) (s : Bool) (h : Ptr) (d : Bool) (x : Shape) (p : Ptr) (y : Shape) → Joined f q s h d x p y → Linked f q s h (join d x p y)
-rejoin f q s h false x p y j = (j.at, j.solid, j.up, j.side, j.tall, j.here, j.there)
-rejoin f q s h true x p y j = (j.at, j.solid, j.up, j.side, j.tall ∙ ap suc (over_swap (height x) (height y)), j.there, j.here)
+rejoin f q s h false x p y j = record { at = j.at; solid = j.solid; up = j.up; side = j.side; tall = j.tall; left = j.here; right = j.there }
+rejoin f q s h true x p y j = record { at = j.at; solid = j.solid; up = j.up; side = j.side; tall = j.tall ∙ ap suc (over_swap (height x) (height y)); left = j.there; right = j.here }
 
 pub join_flip : (d : Bool) (x : Shape) (p : Ptr) (y : Shape) → join (not d) x p y ≡ join d y p x
 join_flip false x p y = refl
@@ -130,16 +130,17 @@ unweighed true x p y w = ((w.high, w.low), w.there, w.here)
 -- ---- hooks that stay
 pub linked_keep : (f g : Ptr → Hook) (q : Ptr) (s : Bool) (h : Ptr) (t : Shape) → Linked f q s h t → ((a : Ptr) → In a t → g a ≡ f a) → Linked g q s h t
 linked_keep f g q s h leaf w k = w
-linked_keep f g q s h (node l p r) (at, solid, up, side, tall, x, y) k =
-    let e : g p ≡ f p = k p (inl refl) in (
-      at,
-      solid,
-      ap (λ (z : Hook). z.up.ptr) e ∙ up,
-      ap (λ (z : Hook). z.side) e ∙ side,
-      ap (λ (z : Hook). z.height) e ∙ tall,
-      subst (λ (z : Hook). Linked g p false z.left.ptr l) (sym e) (linked_keep f g p false (f p).left.ptr l x (λ a i. k a (inr (inl i)))),
-      subst (λ (z : Hook). Linked g p true z.right.ptr r) (sym e) (linked_keep f g p true (f p).right.ptr r y (λ a i. k a (inr (inr i)))),
-    )
+linked_keep f g q s h (node l p r) w k =
+    let e : g p ≡ f p = k p (inl refl) in
+    record {
+      at = w.at;
+      solid = w.solid;
+      up = ap (λ (z : Hook). z.up.ptr) e ∙ w.up;
+      side = ap (λ (z : Hook). z.side) e ∙ w.side;
+      tall = ap (λ (z : Hook). z.height) e ∙ w.tall;
+      left = subst (λ (z : Hook). Linked g p false z.left.ptr l) (sym e) (linked_keep f g p false (f p).left.ptr l w.left (λ a i. k a (inr (inl i))));
+      right = subst (λ (z : Hook). Linked g p true z.right.ptr r) (sym e) (linked_keep f g p true (f p).right.ptr r w.right (λ a i. k a (inr (inr i))));
+    }
 
 -- a hook outside of a tree was written
 pub linked_wrote : (f g : Ptr → Hook) (q : Ptr) (s : Bool) (h : Ptr) (t : Shape) (p : Ptr) (v : Hook) → Linked f q s h t → Wrote f p v g → (In p t → ⊥) → Linked g q s h t
@@ -148,28 +149,29 @@ linked_wrote f g q s h t p v w e out = linked_keep f g q s h t w (λ a i. e.othe
 -- the root of a tree got another parent
 pub linked_under : (f g : Ptr → Hook) (q : Ptr) (s : Bool) (h : Ptr) (t : Shape) (u : Address) (d : Bool) → Linked f q s h t → Sole t → IsUnder f h u d g → Linked g u.ptr d h t
 linked_under f g q s h leaf u d w o e = w
-linked_under f g q s null_ptr (node l p r) u d (at, solid, up, side, tall, x, y) o e = absurd (subst InBlock (sym at) solid)
-linked_under f g q s (block_ptr b k) (node l p r) u d (at, solid, up, side, tall, x, y) o e =
-    let is : g p ≡ under (f p) u d = subst (λ z. g z ≡ under (f z) u d) at e.here in
-    let other : (a : Ptr) → (a ≡ p → ⊥) → g a ≡ f a = λ a n. e.others a (λ m. n (m ∙ at)) in (
-      at,
-      solid,
-      ap (λ (z : Hook). z.up.ptr) is,
-      ap (λ (z : Hook). z.side) is,
-      ap (λ (z : Hook). z.height) is ∙ tall,
-      subst (λ (z : Hook). Linked g p false z.left.ptr l) (sym is) (linked_keep f g p false (f p).left.ptr l x (λ a i. other a (λ m. o.0 (subst (λ z. In z l) m i)))),
-      subst (λ (z : Hook). Linked g p true z.right.ptr r) (sym is) (linked_keep f g p true (f p).right.ptr r y (λ a i. other a (λ m. o.1 (subst (λ z. In z r) m i)))),
-    )
+linked_under f g q s null_ptr (node l p r) u d w o e = absurd (subst InBlock (sym w.at) w.solid)
+linked_under f g q s (block_ptr b k) (node l p r) u d w o e =
+    let is : g p ≡ under (f p) u d = subst (λ z. g z ≡ under (f z) u d) w.at e.here in
+    let other : (a : Ptr) → (a ≡ p → ⊥) → g a ≡ f a = λ a n. e.others a (λ m. n (m ∙ w.at)) in
+    record {
+      at = w.at;
+      solid = w.solid;
+      up = ap (λ (z : Hook). z.up.ptr) is;
+      side = ap (λ (z : Hook). z.side) is;
+      tall = ap (λ (z : Hook). z.height) is ∙ w.tall;
+      left = subst (λ (z : Hook). Linked g p false z.left.ptr l) (sym is) (linked_keep f g p false (f p).left.ptr l w.left (λ a i. other a (λ m. o.0 (subst (λ z. In z l) m i))));
+      right = subst (λ (z : Hook). Linked g p true z.right.ptr r) (sym is) (linked_keep f g p true (f p).right.ptr r w.right (λ a i. other a (λ m. o.1 (subst (λ z. In z r) m i))));
+    }
 
 -- and no hook outside of it changed
 pub under_keep : (f g : Ptr → Hook) (q : Ptr) (s : Bool) (h : Ptr) (t : Shape) (u : Address) (d : Bool) → Linked f q s h t → IsUnder f h u d g → (a : Ptr) → (In a t → ⊥) → g a ≡ f a
 under_keep f g q s null_ptr t u d w e a out = ap (λ (z : Ptr → Hook). z a) e
 under_keep f g q s (block_ptr b k) leaf u d w e a out = absurd cc
-under_keep f g q s (block_ptr b k) (node l p r) u d w e a out = e.others a (λ m. out (inl (m ∙ w.0)))
+under_keep f g q s (block_ptr b k) (node l p r) u d w e a out = e.others a (λ m. out (inl (m ∙ w.at)))
 
 -- the height that the root of a tree knows
 pub height_known : (f : Ptr → Hook) (q : Ptr) (s : Bool) (h : Ptr) (t : Shape) → Linked f q s h t → height_at f h ≡ height t
 height_known f q s null_ptr leaf w = refl
 height_known f q s (block_ptr b k) leaf w = absurd cc
-height_known f q s null_ptr (node l p r) w = absurd (subst InBlock (sym w.0) w.1)
-height_known f q s (block_ptr b k) (node l p r) (at, solid, up, side, tall, x, y) = subst (λ z. (f z).height ≡ suc (max (height l) (height r))) (sym at) tall
+height_known f q s null_ptr (node l p r) w = absurd (subst InBlock (sym w.at) w.solid)
+height_known f q s (block_ptr b k) (node l p r) w = subst (λ z. (f z).height ≡ suc (max (height l) (height r))) (sym w.at) w.tall

@@ -82,12 +82,22 @@ Balanced leaf = Unit {0}
 Balanced (node l p r) = Close (height l) (height r) × Balanced l × Balanced r
 
 -- ---- hooks that lead through a shape
+-- h leads to p, a node on side s of q that knows the height n; L and R are said of its children
+pub record LeadsTo (f : Ptr → Hook) (q : Ptr) (s : Bool) (h p : Ptr) (n : ℕ) (L R : Type 0) : Type 0 where
+  pub at : h ≡ p
+  pub solid : InBlock p
+  pub up : (f p).up.ptr ≡ q
+  pub side : (f p).side ≡ s
+  pub tall : (f p).height ≡ n
+  pub left : L
+  pub right : R
+
 -- h leads to the root, which is on side s of q; each node leads to its children and its parent, and knows its height
 abbrev pub Linked : (Ptr → Hook) → Ptr → Bool → Ptr → Shape → Type 0
 Linked f q s h leaf = h ≡ null_ptr
 Linked f q s h (node l p r) =
-    (h ≡ p) × InBlock p × ((f p).up.ptr ≡ q) × ((f p).side ≡ s) × ((f p).height ≡ suc (max (height l) (height r)))
-    × Linked f p false (f p).left.ptr l × Linked f p true (f p).right.ptr r
+    LeadsTo f q s h p (suc (max (height l) (height r)))
+    (Linked f p false (f p).left.ptr l) (Linked f p true (f p).right.ptr r)
 
 -- the node p is on side s of q, with x on side d, and y on the other; its height may be any
 pub record Hangs (f : Ptr → Hook) (q : Ptr) (s : Bool) (d : Bool) (x : Shape) (p : Ptr) (y : Shape) : Type 0 where
@@ -144,12 +154,21 @@ after [] = []
 after ((false, p, y) ∷ cs) = p ∷ (flat y ++ after cs)
 after ((true, p, y) ∷ cs) = after cs
 
+-- the place on side s of q, which q leads to as h, is on side d of p, and y on the other; A is said of what is above p
+pub record IsBelow (f : Ptr → Hook) (q : Ptr) (s : Bool) (h : Ptr) (d : Bool) (p : Ptr) (y : Shape) (A : Type 0)
+    : Type 0 where
+  pub at : q ≡ p
+  pub side : s ≡ d
+  pub solid : InBlock p
+  pub leads : (kid (f p) d).ptr ≡ h
+  pub other : Linked f p (not d) (kid (f p) (not d)).ptr y
+  pub above : A
+
 -- the hooks lead up from the place on side s of q, which the parent, or the root, leads to as h
 abbrev pub Around : (Ptr → Hook) → Ptr → Ptr → Bool → Ptr → List Step → Type 0
 Around f root q s h [] = (h ≡ root) × (q ≡ null_ptr) × (s ≡ false)
 Around f root q s h ((d, p, y) ∷ cs) =
-    (q ≡ p) × (s ≡ d) × InBlock p × ((kid (f p) d).ptr ≡ h) × Linked f p (not d) (kid (f p) (not d)).ptr y
-    × Around f root (f p).up.ptr (f p).side p cs
+    IsBelow f q s h d p y (Around f root (f p).up.ptr (f p).side p cs)
 
 -- the nodes around are balanced, and know their heights, if the tree at the place has the height n
 abbrev pub Stands : (Ptr → Hook) → ℕ → List Step → Type 0

@@ -31,7 +31,7 @@ set_up-requires g c =
     let d = c.lifted-one.ensures.distinct in let k = c.lifted-one.ensures.comparable in
     let x = c.only_kid-only.result in
     let which : (InBlock (f p).left.ptr × (x ≡ (f p).left)) ⊎ (((f p).left.ptr ≡ null_ptr) × (x ≡ (f p).right)) = subst (λ (h : Hook). (InBlock h.left.ptr × (x ≡ h.left)) ⊎ ((h.left.ptr ≡ null_ptr) × (x ≡ h.right))) is c.only_kid-only.ensures in
-    let o = only f p u.left u.right x u.linked.5 u.linked.6 u.balanced c.requires.single which in
+    let o = only f p u.left u.right x u.linked.left u.linked.right u.balanced c.requires.single which in
     leave_only ns r p t there u ms e j d k x o
 
 pub hung-root-requires : goal.hung-root-requires
@@ -44,7 +44,7 @@ hung-root-requires g c =
     let d = c.lifted-one.ensures.distinct in let k = c.lifted-one.ensures.comparable in
     let x = c.only_kid-only.result in
     let which : (InBlock (f p).left.ptr × (x ≡ (f p).left)) ⊎ (((f p).left.ptr ≡ null_ptr) × (x ≡ (f p).right)) = subst (λ (h : Hook). (InBlock h.left.ptr × (x ≡ h.left)) ⊎ ((h.left.ptr ≡ null_ptr) × (x ≡ h.right))) is c.only_kid-only.ensures in
-    let o = only f p u.left u.right x u.linked.5 u.linked.6 u.balanced c.requires.single which in
+    let o = only f p u.left u.right x u.linked.left u.linked.right u.balanced c.requires.single which in
     subst (λ s. Reaches c.hook_of-hook.result.up.ptr s) (sym c.set_up.ensures.rest.addresses) (subst (λ (h : Hook). Reaches h.up.ptr (box_addresses ms)) (sym is) (leave_up ns r p t there u ms e j d k x o))
 
 pub settled-root-requires-clause-tree : goal.settled-root-requires-clause-tree
@@ -57,7 +57,7 @@ settled-root-requires-clause-tree g c =
     let d = c.lifted-one.ensures.distinct in let k = c.lifted-one.ensures.comparable in
     let x = c.only_kid-only.result in
     let which : (InBlock (f p).left.ptr × (x ≡ (f p).left)) ⊎ (((f p).left.ptr ≡ null_ptr) × (x ≡ (f p).right)) = subst (λ (h : Hook). (InBlock h.left.ptr × (x ≡ h.left)) ⊎ ((h.left.ptr ≡ null_ptr) × (x ≡ h.right))) is c.only_kid-only.ensures in
-    let o = only f p u.left u.right x u.linked.5 u.linked.6 u.balanced c.requires.single which in
+    let o = only f p u.left u.right x u.linked.left u.linked.right u.balanced c.requires.single which in
     let g1 = hook_at c.set_up.new.row.boxes.blocks in let g2 = hook_at c.hung-root.new.row.boxes.blocks in
     let under = subst (λ (h : Hook). IsUnder (hook_at ms) x.ptr h.up h.side g1) is c.set_up.ensures.set in
     let hung = subst (λ (h : Hook). IsHung g1 h.up.ptr h.side x c.args.root g2 c.hung-root.result) is c.hung-root.ensures.hung in

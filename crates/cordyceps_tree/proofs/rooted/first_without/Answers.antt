@@ -27,7 +27,7 @@ returns-then-is_not_null g c = λ a b is.
     let ns = c.args.row.now.boxes.blocks in let r = c.args.root.ptr in let p = c.args.at.ptr in let t = c.requires.tree in let u = at_place ns r p t c.requires.there in
     let solid = subst (λ (h : Hook). InBlock h.left.ptr) c.hook_of.ensures (if_so _ c.is_not_null.result c.is_not_null.ensures c.if-is_not_null.true) in
     first_stays (box_addresses ns) p t.distinct a b is c.args.first.ptr (before u.steps ++ flat u.left) (flat u.right ++ after u.steps) c.requires.front (leave_order ns r p t c.requires.there u)
-    (some_left (hook_at ns) p (hook_at ns p).left.ptr u.left (before u.steps) u.linked.5 solid)
+    (some_left (hook_at ns) p (hook_at ns p).left.ptr u.left (before u.steps) u.linked.left solid)
 
 pub returns-then-is_not_null-2 : goal.returns-then-is_not_null-2
 returns-then-is_not_null-2 g c = λ a b is.
