@@ -25,7 +25,8 @@ module _ {X : Type 0} where
 
   -- a guide said that the place is after the last value before it, and not after the first one behind it
   pub record GoesAt (says : X → Bool → Type 0) (ns : List (Held X)) (steps : List Step) : Type 0 where
-    pub low : (before steps ≡ []) ⊎ ((a : List Ptr) × (p : Ptr) × (before steps ≡ a ++ p ∷ []) × IsSaidAt says ns p true)
+    pub low : (before steps ≡ [])
+        ⊎ ((a : List Ptr) × (p : Ptr) × (before steps ≡ a ++ p ∷ []) × IsSaidAt says ns p true)
     pub high : (after steps ≡ []) ⊎ ((p : Ptr) × (b : List Ptr) × (after steps ≡ p ∷ b) × IsSaidAt says ns p false)
 
   -- the place to which a guide leads

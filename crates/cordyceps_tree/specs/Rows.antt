@@ -42,7 +42,8 @@ module _ {X : Type 0} where
     pub comparable : AreNullComparable (box_addresses ns)
 
   -- a node e came to p, between those at a and those at b; ms is the row then
-  pub record IsJoined (ns : List (Held X)) (a b : List Ptr) (p : Ptr) (e : Element X) (ms : List (Held X)) : Type 0 where
+  pub record IsJoined (ns : List (Held X)) (a b : List Ptr) (p : Ptr) (e : Element X) (ms : List (Held X))
+      : Type 0 where
     pub front : List (Held X)
     pub back : List (Held X)
     pub alloc : Home
@@ -103,7 +104,8 @@ module _ {X : Type 0} where
     pub alone : one ≡ (p, alloc, block) ∷ []
 
   -- the node e, at q, took the place of that at p in c, which is alone in `one`
-  pub record IsSwapped (c : Nodes X) (p : Ptr) (one : List (Held X)) (q : Ptr) (e : Element X) (d : Nodes X) : Type 0 where
+  pub record IsSwapped (c : Nodes X) (p : Ptr) (one : List (Held X)) (q : Ptr) (e : Element X) (d : Nodes X)
+      : Type 0 where
     pub front : Nodes X
     pub back : Nodes X
     pub alloc : Home

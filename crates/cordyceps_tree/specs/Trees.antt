@@ -112,13 +112,15 @@ abbrev pub turned : Bool → Shape → Ptr → Shape → Ptr → Shape → Shape
 turned d a c m p e = join d a c (join d m p e)
 
 -- the tree at p was turned, and its root is at r now
-pub record Turned (f : Ptr → Hook) (q : Ptr) (s d : Bool) (a : Shape) (c : Ptr) (m : Shape) (p : Ptr) (e : Shape) (g : Ptr → Hook) (r : Ptr) : Type 0 where
+pub record Turned (f : Ptr → Hook) (q : Ptr) (s d : Bool) (a : Shape) (c : Ptr) (m : Shape) (p : Ptr) (e : Shape)
+    (g : Ptr → Hook) (r : Ptr) : Type 0 where
   pub at : r ≡ c
   pub linked : Linked g q s c (turned d a c m p e)
   pub others : (z : Ptr) → (In z (join d (join d a c m) p e) → ⊥) → g z ≡ f z
 
 -- the tree with x on side d of p, and y on the other, got another shape and is balanced, and its root is at r now
-pub record Mended (f : Ptr → Hook) (q : Ptr) (s d : Bool) (x : Shape) (p : Ptr) (y : Shape) (g : Ptr → Hook) (r : Ptr) : Type 0 where
+pub record Mended (f : Ptr → Hook) (q : Ptr) (s d : Bool) (x : Shape) (p : Ptr) (y : Shape) (g : Ptr → Hook) (r : Ptr)
+    : Type 0 where
   pub shape : Shape
   pub order : flat shape ≡ flat (join d x p y)
   pub linked : Linked g q s r shape
@@ -226,7 +228,8 @@ pub record CanTurnTwice (f : Ptr → Hook) (ps : List Ptr) (p c : Ptr) (d : Bool
   pub fits : height (join d (join d outer c (join (not d) x inner y)) p other) ≤ 245
 
 -- the inner grandchild i went up
-pub record TurnedTwice (f : Ptr → Hook) (q : Ptr) (s d : Bool) (a : Shape) (c : Ptr) (x : Shape) (i : Ptr) (y : Shape) (p : Ptr) (e : Shape) (g : Ptr → Hook) (r : Ptr) : Type 0 where
+pub record TurnedTwice (f : Ptr → Hook) (q : Ptr) (s d : Bool) (a : Shape) (c : Ptr) (x : Shape) (i : Ptr) (y : Shape)
+    (p : Ptr) (e : Shape) (g : Ptr → Hook) (r : Ptr) : Type 0 where
   pub linked : Linked g q s r (join d (join (not d) y c a) i (join d x p e))
   pub others : (z : Ptr) → (In z (join d (join d a c (join (not d) x i y)) p e) → ⊥) → g z ≡ f z
 

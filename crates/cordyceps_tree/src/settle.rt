@@ -54,7 +54,8 @@ fn raised<T>(row: &mut Row<T>, at: Address, root: Address) -> StepUp
     requires few { length (box_addresses row.old.boxes.blocks) < 2 ^ 64 }
     ensures tree { MatchBool result.is_done
         (IsSettled (hook_at row.new.boxes.blocks) (box_addresses row.old.boxes.blocks) result.root.ptr)
-        (IsUnsettled (hook_at row.new.boxes.blocks) (box_addresses row.old.boxes.blocks) result.root.ptr result.up.ptr) }
+        (IsUnsettled (hook_at row.new.boxes.blocks) (box_addresses row.old.boxes.blocks) result.root.ptr
+        result.up.ptr) }
     ensures nearer { climb (hook_at row.new.boxes.blocks) (length (box_addresses row.old.boxes.blocks)) result.up.ptr
         < climb (hook_at row.old.boxes.blocks) (length (box_addresses row.old.boxes.blocks)) at.ptr }
     ensures rest { KeepsNodes row.old.boxes.blocks row.new.boxes.blocks }

@@ -1,5 +1,5 @@
-//! Tests of balanced trees: each call by a table, many calls beside a sorted vector, orders, heights, drops, searches by
-//! time, and what threads can share.
+//! Tests of balanced trees: each call by a table, many calls beside a sorted vector, orders, heights, drops, searches
+//! by time, and what threads can share.
 #![tactic(auto)]
 
 #[cfg(test)]
