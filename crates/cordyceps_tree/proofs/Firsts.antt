@@ -1,5 +1,6 @@
 -- Which node is the first once a node came or left.
 use Rattle.std.proofs.Common.{◌≡◌, inl, inr, Bool, true, false, if◌then◌else◌, List, [], ◌∷◌, ◌++◌, refl, sym, ap, ◌∙◌, subst, append_assoc}
+use Rattle.std.specs.Bool.{MatchBool}
 use denote.RawPtr.{Ptr, null_ptr, InBlock}
 use Rattle.cordyceps_base.specs.Spots.{IsNew, AreDistinct}
 use Rattle.cordyceps_base.proofs.SpotsMemory.{same_ptr_refl}
@@ -41,28 +42,35 @@ some_left f q h (node x p y) a w solid = go a (flat x) where
   go [] (z ∷ b) = refl
   go (z ∷ a) b = refl
 
--- where a node came in
-pub first_put : (is_first : Bool) (at old : Address) (a b : List Ptr) → is_first ≡ is_none a → old.ptr ≡ first_in (a ++ b) → (if is_first then at else old).ptr ≡ first_in (a ++ at.ptr ∷ b)
-first_put true at old [] b e o = refl
-first_put true at old (x ∷ a) b e o = absurd cc
-first_put false at old [] b e o = absurd cc
-first_put false at old (x ∷ a) b e o = o
+-- where a node came in between those at a and those at b; once the rest was c
+pub first_put : (is_first : Bool) (at old : Address) (a b c : List Ptr) → is_first ≡ is_none a → old.ptr ≡ first_in (a ++ c) → (if is_first then at else old).ptr ≡ first_in (a ++ at.ptr ∷ b)
+first_put true at old [] b c e o = refl
+first_put true at old (x ∷ a) b c e o = absurd cc
+first_put false at old [] b c e o = absurd cc
+first_put false at old (x ∷ a) b c e o = o
+
+not_none : (x : List Ptr) (q : Ptr) → is_none (x ++ q ∷ []) ≡ false
+not_none [] q = refl
+not_none (y ∷ x) q = refl
+
+empty : (a : List Ptr) → true ≡ is_none a → a ≡ []
+empty [] e = refl
+empty (x ∷ a) e = absurd cc
 
 module _ (ps : List Ptr) (p : Ptr) (distinct : AreDistinct ps) (a b : List Ptr) (is : ps ≡ a ++ p ∷ b) where
-  -- where a node is ahead of the one that leaves
-  pub first_stays : (r : Ptr) (x y : List Ptr) → r ≡ first_in ps → ps ≡ x ++ p ∷ y → is_none x ≡ false → r ≡ first_in (a ++ b)
-  first_stays r x y e o some =
-      let same = same_split a b x y p (subst AreDistinct is distinct) (sym is ∙ o) in
-      e ∙ ap first_in is ∙ some_first a (p ∷ b) b (ap is_none same.0 ∙ some)
+  -- whether a node is ahead of the one at p
+  pub some_ahead : (x y : List Ptr) → ps ≡ x ++ p ∷ y → is_none x ≡ false → false ≡ is_none a
+  some_ahead x y o some =
+      let same = same_split a b x y p (subst AreDistinct is distinct) (sym is ∙ o) in sym (ap is_none same.0 ∙ some)
 
-  not_none : (x : List Ptr) (q : Ptr) → is_none (x ++ q ∷ []) ≡ false
-  not_none [] q = refl
-  not_none (y ∷ x) q = refl
-
-  pub first_behind : (r q : Ptr) → r ≡ first_in ps → IsNeighbour false ps p q → InBlock q → r ≡ first_in (a ++ b)
-  first_behind r q e w solid = elim w [
-    | inl u ↦ first_stays r (u.0 ++ q ∷ []) u.1 e (u.2 ∙ sym (append_assoc u.0 (q ∷ []) (p ∷ u.1))) (not_none u.0 q)
-    | inr u ↦ absurd (subst InBlock u.2 solid)
+  pub none_ahead : (r : Bool) (q : Ptr) → IsNeighbour false ps p q → MatchBool r (q ≡ null_ptr) (InBlock q) → r ≡ is_none a
+  none_ahead true q w m = elim w [
+    | inl u ↦ absurd (subst InBlock m u.3)
+    | inr u ↦ (let same = same_split a b [] u.0 p (subst AreDistinct is distinct) (sym is ∙ u.1) in sym (ap is_none same.0))
+  ]
+  none_ahead false q w m = elim w [
+    | inl u ↦ some_ahead (u.0 ++ q ∷ []) u.1 (u.2 ∙ sym (append_assoc u.0 (q ∷ []) (p ∷ u.1))) (not_none u.0 q)
+    | inr u ↦ absurd (subst InBlock u.2 m)
   ]
 
   -- where the first one leaves
@@ -74,8 +82,9 @@ module _ (ps : List Ptr) (p : Ptr) (distinct : AreDistinct ps) (a b : List Ptr) 
         | inr u ↦ (let two = same_split a b u.0 [] p (subst AreDistinct is distinct) (sym is ∙ u.1) in u.2 ∙ sym (λ i. first_in (same.0 i ++ two.1 i)))
       ]
 
-  pub first_leaves : (r q : Ptr) → q ≡ null_ptr → IsNeighbour false ps p q → IsNeighbour true ps p r → r ≡ first_in (a ++ b)
-  first_leaves r q none w v = elim w [
-    | inl u ↦ absurd (subst InBlock none u.3)
-    | inr u ↦ first_next r u.0 u.1 v
-  ]
+  -- where one leaves that has none ahead, and one that has
+  pub first_leaves : (r : Ptr) → true ≡ is_none a → IsNeighbour true ps p r → r ≡ first_in (a ++ b)
+  first_leaves r none w = first_next r b (is ∙ ap (λ z. z ++ p ∷ b) (empty a none)) w
+
+  pub first_stays : (r : Ptr) → r ≡ first_in ps → false ≡ is_none a → r ≡ first_in (a ++ b)
+  first_stays r e some = e ∙ ap first_in is ∙ some_first a (p ∷ b) b (sym some)

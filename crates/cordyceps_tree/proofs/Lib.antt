@@ -2,6 +2,7 @@ mod Bounds
 mod Changing
 mod Climbing
 mod Descending
+mod Exchanging
 mod Firsts
 mod Heights
 mod HookRows
@@ -22,3 +23,4 @@ mod Searching
 mod Steps
 mod Trees
 mod Walks
+mod Written

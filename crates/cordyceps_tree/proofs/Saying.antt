@@ -8,11 +8,12 @@ use Rattle.cordyceps_base.specs.Nodes.{Nodes, spots}
 use Rattle.cordyceps_base.specs.Spots.{AreDistinct, AreNullComparable}
 use Rattle.cordyceps_base.specs.declared.boxes.Address.{Address}
 use Rattle.cordyceps_base.proofs.SpotsMemory.{same_ptr_refl}
+use Rattle.cordyceps_stable.specs.Replacing.{IsReplaced}
 use Rattle.cordyceps_tree.specs.Bounds.{first_spot, IsPutWhere, IsBoundWhere}
 use Rattle.cordyceps_tree.specs.Places.{IsPlace}
-use Rattle.cordyceps_tree.specs.Rows.{Held, hook_at, block_of, block_element, nodes_of, IsTree, IsWhole, IsGone, IsPutAt}
+use Rattle.cordyceps_tree.specs.Rows.{Held, hook_at, block_of, block_element, nodes_of, IsTree, IsWhole, IsGone, IsPutAt, IsSwapped}
 use Rattle.cordyceps_tree.specs.Heights.{least, IsAtMostLog}
-use Rattle.cordyceps_tree.specs.Trees.{is_in, Reaches, Shape, leaf, node, flat, Linked, height_at, before, after, IsDown, IsOutermost, IsNeighbour, first_in}
+use Rattle.cordyceps_tree.specs.Trees.{is_in, Reaches, Shape, leaf, node, flat, Linked, height_at, before, after, IsDown, IsOutermost, IsNeighbour, first_in, is_none}
 use Rattle.cordyceps_tree.specs.declared.finding.Place.{Place}
 use Rattle.cordyceps_tree.proofs.Descending.{all_down, same_place, sundered}
 use Rattle.cordyceps_tree.proofs.Firsts.{first_put, first_next}
@@ -190,7 +191,7 @@ module _ {X : Type 0} where
       let now : box_addresses ms ≡ a ++ at.ptr ∷ b = sym (spots_of ms) ∙ ap spots k.is ∙ spots_parts k.front at.ptr e k.back ∙ (λ i. k.ahead i ++ at.ptr ∷ k.behind i) in
       record {
         tree = t;
-        front = ap (λ (z : Address). z.ptr) is ∙ first_put w.is_first at first a b u.outer (whole.front ∙ ap first_in was) ∙ sym (ap first_in now);
+        front = ap (λ (z : Address). z.ptr) is ∙ first_put w.is_first at first a b b u.outer (whole.front ∙ ap first_in was) ∙ sym (ap first_in now);
         long =
             let l = whole.long in let x = long_nodes ns in let y = long_nodes ms in
             let m = ap length k.was ∙ length-append k.front k.back in let n = ap length k.is ∙ length-append k.front ((at.ptr, e) ∷ k.back) in
@@ -210,6 +211,25 @@ module _ {X : Type 0} where
             let m = ap length k.was ∙ length-append k.front ((p, block_element k.block) ∷ k.back) in let n = ap length k.is ∙ length-append k.front k.back in
             omega (arith, l, x, y, m, n);
       }
+
+  pub swapped_whole : (ns ms : List (Held X)) (root root2 first p : Ptr) (q r : Address) (old : Address) (is_first : Bool) (len : ℕ) (one : List (Held X)) (e : Element X) → IsWhole root old.ptr len ns → IsTree root2 ms → IsSwapped (nodes_of ns) p one q.ptr e (nodes_of ms)
+      → ((a b : List Ptr) → box_addresses ns ≡ a ++ p ∷ b → is_first ≡ is_none a) → r ≡ (if is_first then q else old) → IsWhole root2 r.ptr len ms
+  swapped_whole ns ms root root2 first p q r old is_first len one e whole t k ahead is =
+      let a = spots k.front in let b = spots k.back in
+      let was : box_addresses ns ≡ a ++ p ∷ b = sym (spots_of ns) ∙ ap spots k.was ∙ spots_parts k.front p (block_element k.block) k.back in
+      let now : box_addresses ms ≡ a ++ q.ptr ∷ b = sym (spots_of ms) ∙ ap spots k.is ∙ spots_parts k.front q.ptr e k.back in
+      record {
+        tree = t;
+        front = ap (λ (z : Address). z.ptr) is ∙ first_put is_first q old a b (p ∷ b) (ahead a b was) (whole.front ∙ ap first_in was) ∙ sym (ap first_in now);
+        long =
+            let l = whole.long in let x = long_nodes ns in let y = long_nodes ms in
+            let m = ap length k.was ∙ length-append k.front ((p, block_element k.block) ∷ k.back) in let n = ap length k.is ∙ length-append k.front ((q.ptr, e) ∷ k.back) in
+            omega (arith, l, x, y, m, n);
+      }
+
+  pub swapped_replaced : (c s d : Nodes X) (p o q : Ptr) (one : List (Held X)) (e : Element X) → c ≡ s → p ≡ o → IsSwapped c p one q e d → (w : Element X) × IsReplaced s o w q e d × (nodes_of one ≡ (o, w) ∷ [])
+  swapped_replaced c s d p o q one e view at k =
+      (block_element k.block, (k.front, k.back, sym view ∙ k.was ∙ (λ i. k.front ++ (at i, block_element k.block) ∷ k.back), k.is), ap nodes_of k.alone ∙ (λ i. (at i, block_element k.block) ∷ []))
 
   -- ---- the first node leaves
   -- the nodes as their first one and the others

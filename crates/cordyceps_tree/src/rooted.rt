@@ -1,20 +1,23 @@
 //! A whole tree of nodes in order, which knows no order of its own: its root, its first node and its length.
 ghost use Rattle.std.specs.Prelude.{ℕ, ◌≡◌, ◌≢◌, ◌+◌, ◌<◌, ◌≤◌, [], ◌∷◌, ◌++◌, length, List, if◌then◌else◌, true};
-ghost use Rattle.std.specs.Prelude.{IfSome, MatchOption};
+ghost use Rattle.std.specs.Prelude.{IfSome, MatchOption, Some, slice_get};
 ghost use denote.RawPtr.{Ptr, InBlock, Testable, null_ptr};
 ghost use Rattle.cordyceps_base.specs.Boxes.{box_addresses};
 ghost use Rattle.cordyceps_base.specs.BySpot.{HasSpot, HoldsAt, IsTaken, IsFirst, IsLast, AreNext};
-ghost use Rattle.cordyceps_base.specs.Element.{Element};
-ghost use Rattle.cordyceps_base.specs.Nodes.{Nodes, spots};
-ghost use Rattle.cordyceps_base.specs.Spots.{AreDistinct};
+ghost use Rattle.std.specs.Borrow.{sem};
+ghost use Rattle.cordyceps_base.specs.Element.{Element, values};
+ghost use Rattle.cordyceps_base.specs.Nodes.{Nodes, elements, spots};
+ghost use Rattle.cordyceps_base.specs.Spots.{index_of, AreDistinct};
+ghost use Rattle.cordyceps_tree.specs.TreeLends.{LendsAt};
 ghost use Rattle.cordyceps_tree.specs.Bounds.{IsPutWhere, IsBoundWhere, SaysAfterEquals};
 ghost use Rattle.cordyceps_tree.specs.Heights.{least, IsAtMostLog};
 ghost use Rattle.cordyceps_tree.specs.Rows.{nodes_of, IsTree};
-ghost use Rattle.cordyceps_tree.specs.Trees.{is_in, first_in};
+ghost use Rattle.cordyceps_stable.specs.Replacing.{IsReplaced};
+ghost use Rattle.cordyceps_tree.specs.Trees.{is_in, is_none, first_in};
 
 use crate::alone::Alone;
 use crate::block::Row;
-use crate::cutting::Departed;
+use crate::cutting::{Departed, replaced};
 use crate::finding::{AfterEquals, Guide, place_of};
 use crate::planting::put_in;
 use crate::removing::removed;
@@ -65,6 +68,19 @@ fn chosen(is_one: bool, one: Address, other: Address) -> Address
     if is_one { one } else { other }
 }
 
+/// Returns `true` if no node is before that at `at`.
+fn is_first<T>(row: &Row<T>, root: Address, at: Address) -> bool
+    requires tree { IsTree root.ptr row.now.boxes.blocks }
+    requires there { is_in at.ptr (box_addresses row.now.boxes.blocks) ≡ true }
+    ensures { (a b : List Ptr) → box_addresses row.now.boxes.blocks ≡ a ++ at.ptr ∷ b → result ≡ is_none a }
+{
+    let left = hook_of(row, at).left;
+    if left.is_not_null() {
+        return false;
+    }
+    climbed(row, root, at, false).is_null()
+}
+
 /// Returns the first node without that at `at`, or null if there is no other.
 fn first_without<T>(row: &Row<T>, root: Address, first: Address, at: Address) -> Address
     requires tree { IsTree root.ptr row.now.boxes.blocks }
@@ -74,15 +90,10 @@ fn first_without<T>(row: &Row<T>, root: Address, first: Address, at: Address) ->
         → box_addresses row.now.boxes.blocks ≡ a ++ at.ptr ∷ b
         → result.ptr ≡ first_in (a ++ b) }
 {
-    let left = hook_of(row, at).left;
-    if left.is_not_null() {
-        return first;
+    if is_first(row, root, at) {
+        return neighbour(row, root, at, true);
     }
-    let before = climbed(row, root, at, false);
-    if before.is_not_null() {
-        return first;
-    }
-    neighbour(row, root, at, true)
+    first
 }
 
 impl<T> Rooted<T> {
@@ -147,6 +158,27 @@ impl<T> Rooted<T> {
         }
     }
 
+    /// Puts a node into the place of that at `at`, which leaves.
+    pub(crate) fn replace(&mut self, at: Spot, one: Alone<T>) -> Alone<T>
+        requires there { HasSpot self.old at }
+        requires alone { (e : Element T) × (nodes_of one.row.boxes.blocks ≡ (one.at.ptr, e) ∷ []) }
+        ensures at { result.at.ptr ≡ at }
+        ensures replaced { (e : Element T) → nodes_of one.row.boxes.blocks ≡ (one.at.ptr, e) ∷ []
+            → (o : Element T) × IsReplaced self.old at o one.at.ptr e self.new
+            × (nodes_of result.row.boxes.blocks ≡ (at, o) ∷ []) }
+    {
+        let address = address_of(at);
+        let Alone { at: next, row } = one;
+        let is_first = is_first(&self.row, self.root, address);
+        let Departed { one: old, root } = replaced(&mut self.row, self.root, address, row, next);
+        self.root = root;
+        self.first = chosen(is_first, next, self.first);
+        Alone {
+            at: address,
+            row: old,
+        }
+    }
+
     /// Takes the first node out. Requires that there is one.
     pub(crate) fn take_first(&mut self) -> Alone<T>
         requires { 0 < length self.old }
@@ -192,6 +224,17 @@ impl<T> Rooted<T> {
     {
         let at = address_of(at);
         &self.row.boxes.from_address(at).get(at, 0).value
+    }
+
+    /// Returns a mutable reference to the value at `at`. The node keeps its number, its spot and its place.
+    pub(crate) fn get_mut(&mut self, at: Spot) -> &mut T
+        requires { HasSpot self.old at }
+        ensures* writes_back { sem 𝓛 (LendsAt T.row self.entry at result) }
+        ensures value { slice_get (values (elements self.old)) (index_of at (spots self.old)) ≡ Some result.now }
+    {
+        let at = address_of(at);
+        let block = self.row.boxes.at_mut(at);
+        &mut block.value
     }
 
     /// Returns the spot of the first node, or `None` if there is none.

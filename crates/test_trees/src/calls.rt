@@ -36,6 +36,8 @@ pub enum Call {
     Remove(usize),
     /// Changes a key.
     Update(usize, u64),
+    /// Replaces an element by one of this number and the same key.
+    Replace(usize, u64),
     /// Reads the keys around an element.
     Read(usize),
     LowerBound(u64),
@@ -60,7 +62,9 @@ pub enum Reply {
 }
 
 /// Returns a node of this number and key.
-pub fn make(rt: &impl Abort, alloc: Global, pair: Pair) -> TreeNode<u64> {
+pub fn make(rt: &impl Abort, alloc: Global, pair: Pair) -> TreeNode<u64>
+    ensures { result.value ≡ pair.1 }
+{
     made(rt, TreeNode::new(alloc, pair.0, pair.1))
 }
 
@@ -154,6 +158,24 @@ fn look(rt: &impl Abort, tree: &Keys, call: &Call) -> Reply {
     }
 }
 
+/// Replaces an element by one of this number and the same key. Returns what came out, and the new spot.
+fn exchanged(
+    rt: &impl Abort,
+    alloc: Global,
+    tree: &mut Keys,
+    spot: Spot,
+    number: u64,
+) -> (Pair, Spot)
+    requires { HasSpot tree.old.nodes spot }
+    ensures { HasSpot tree.new.nodes result.1 }
+{
+    // for the proof: the spot has one key
+    tree.spots_are_distinct();
+    let key = *tree.get(spot);
+    let (old, new) = tree.replace(spot, make(rt, alloc, (number, key)));
+    ((old.id(), old.into_value()), new)
+}
+
 /// Makes a call, and returns its reply.
 pub fn make_call(rt: &impl Abort, alloc: Global, tree: &mut Keys, call: &Call) -> Reply {
     at_most(rt, tree.len(), LARGEST);
@@ -177,6 +199,12 @@ pub fn make_call(rt: &impl Abort, alloc: Global, tree: &mut Keys, call: &Call) -
             let key = *key;
             let old = tree.update(spot, |value| mem::replace(value, key));
             Reply::Changed(old, around(tree, spot))
+        }
+        Call::Replace(at, number) => {
+            let spot = spot_at(rt, tree, *at);
+            let (old, new) = exchanged(rt, alloc, tree, spot, *number);
+            same(rt, *tree.get(new), old.1);
+            Reply::Out(Some(old))
         }
         Call::Clear => {
             tree.clear();

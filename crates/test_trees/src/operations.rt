@@ -26,7 +26,8 @@ fn drawn(draws: &mut Draws, len: usize, number: u64) -> Call {
         7 => Call::PopBack,
         8 => Call::TryInsert(pair),
         _ if len == 0 || grows => Call::Insert(pair),
-        9 | 10 | 11 => Call::Update(at, pair.1),
+        9 | 10 => Call::Update(at, pair.1),
+        11 => Call::Replace(at, number),
         12 => Call::Read(at),
         _ => Call::Remove(at),
     }
@@ -96,6 +97,12 @@ fn wanted(rt: &impl Abort, pairs: &mut Vec<Pair>, call: &Call) -> Reply {
             let (number, old) = taken(pairs, *at).expect(rt, "the place has a pair");
             let to = put_in_order(rt, pairs, (number, *key));
             return Reply::Changed(old, keys_around(pairs.as_slice(), to));
+        }
+        Call::Replace(at, number) => {
+            let old = taken(pairs, *at).expect(rt, "the place has a pair");
+            at_most(rt, *at, pairs.len());
+            made(rt, pairs.insert(*at, (*number, old.1)));
+            return Reply::Out(Some(old));
         }
         Call::Read(at) => *at,
         Call::LowerBound(key) | Call::PartitionPoint(key) => {

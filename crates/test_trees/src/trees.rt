@@ -54,8 +54,11 @@ const CALLS: &[(Call, Reply)] = &[
         Call::Update(0, 3),
         Reply::Changed(0, (Some(3), Some(3), Some(5))),
     ),
+    // replaced by one with the same key
+    (Call::Replace(0, 6), Reply::Out(Some((4, 1)))),
+    (Call::Replace(3, 7), Reply::Out(Some((1, 5)))),
     (Call::PopBack, Reply::Out(Some((3, 5)))),
-    (Call::PopFront, Reply::Out(Some((4, 1)))),
+    (Call::PopFront, Reply::Out(Some((6, 1)))),
     (Call::PopFront, Reply::Out(Some((5, 3)))),
     (Call::Remove(0), Reply::Out(Some((2, 3)))),
     (Call::Update(0, 7), Reply::Changed(5, (None, Some(7), None))),
