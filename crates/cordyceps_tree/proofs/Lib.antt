@@ -6,6 +6,7 @@ mod Exchanging
 mod Firsts
 mod Heights
 mod HookRows
+mod Keys
 mod Leaning
 mod Leaving
 mod Members
@@ -15,6 +16,7 @@ mod Parting
 mod Placing
 mod Putting
 mod Raising
+mod Ranges
 mod Reaching
 mod Replacing
 mod Rotations

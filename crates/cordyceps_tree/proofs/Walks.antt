@@ -1,18 +1,20 @@
 -- What is left of a walk, from one node to the next.
 use Rattle.std.proofs.Common.{◌≡◌, zero, suc, ◌≤◌, Bool, false, if◌then◌else◌, [], ◌∷◌, ◌++◌, length, drop, Option, Some, None, MatchOption, sym, ap, ◌∙◌, subst, arith, append_assoc}
 use Rattle.std.proofs.lemmas.List.{length-drop, length-map}
+use Rattle.std.specs.Prelude.{IfSome}
 use denote.RawPtr.{Ptr}
-use Rattle.cordyceps_base.specs.BySpot.{HoldsAt, IsFirst, IsLast, AreNext}
+use Rattle.cordyceps_base.specs.BySpot.{HasSpot, HoldsAt, IsFirst, IsLast, AreNext}
 use Rattle.cordyceps_base.specs.Element.{Element}
 use Rattle.cordyceps_base.specs.Nodes.{Nodes, spots, entries}
 use Rattle.cordyceps_base.specs.Spots.{same_ptr, index_of, IsNew, AreDistinct}
 use Rattle.cordyceps_base.proofs.SpotsMemory.{same_ptr_refl}
+use Rattle.cordyceps_stable.proofs.Reached.{first_has}
 use Rattle.cordyceps_tree.specs.Walks.{walk_from}
 use Rattle.cordyceps_tree.proofs.Descending.{same_place}
 use Rattle.cordyceps_tree.proofs.HookRows.{other_way}
 
 module _ {X : Type 0} where
-  differs : (q p : Ptr) (b a : Nodes X) (e : Element X) → IsNew q (spots (b ++ (p, e) ∷ a)) → same_ptr p q ≡ false
+  pub differs : (q p : Ptr) (b a : Nodes X) (e : Element X) → IsNew q (spots (b ++ (p, e) ∷ a)) → same_ptr p q ≡ false
   differs q p [] a e n = other_way q p n.0
   differs q p (x ∷ b) a e n = differs q p b a e n.1
 
@@ -28,6 +30,10 @@ module _ {X : Type 0} where
   pub from_first : (c : Nodes X) (o : Option Ptr) → AreDistinct (spots c) → MatchOption o (c ≡ []) (λ p. IsFirst c p) → walk_from c o ≡ entries c
   from_first c None d e = sym (ap entries e)
   from_first c (Some p) d (e, a, is) = from_here c [] a p e d is ∙ sym (ap entries is)
+
+  pub first_spot_has : (c : Nodes X) (o : Option Ptr) → MatchOption o (c ≡ []) (λ p. IsFirst c p) → IfSome o (λ p. HasSpot c p)
+  first_spot_has c None m = tt
+  first_spot_has c (Some p) m = first_has c p m
 
   pub from_next : (c : Nodes X) (p : Ptr) (w : X) (o : Option Ptr) → AreDistinct (spots c) → HoldsAt c p w → MatchOption o (IsLast c p) (λ q. AreNext c p q) → walk_from c (Some p) ≡ (p, w) ∷ walk_from c o
   from_next c p w None d (b, id, a, is) (l, e, last) =

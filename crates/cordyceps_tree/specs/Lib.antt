@@ -3,6 +3,8 @@ pub mod Heights
 pub mod Places
 pub mod Rows
 pub mod TreeLends
+pub mod TreeMapLends
+pub mod TreeMaps
 pub mod TreeNodeLends
 pub mod Trees
 pub mod Walks

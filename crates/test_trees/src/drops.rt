@@ -8,6 +8,7 @@ use crate::compared::{at_most, made, same};
 use cordyceps_single::sorted_list::Order;
 use cordyceps_tree::node::TreeNode;
 use cordyceps_tree::stable_tree::StableTree;
+use cordyceps_tree::tree_map::TreeMap;
 use std::alloc::Global;
 use std::cmp::Ordering;
 use std::process::Abort;
@@ -60,4 +61,40 @@ fn a_tree_drops_each_element_once(rt: HostRuntime) {
     same(&rt, drops.count(), 60);
     drop(tree);
     same(&rt, drops.count(), 90);
+}
+
+/// Puts a value at a key of a map, and returns whether the key was there.
+fn enter(
+    rt: &impl Abort,
+    alloc: Global,
+    map: &mut TreeMap<u64, Counted>,
+    key: u64,
+    drops: &Drops,
+) -> bool {
+    at_most(rt, map.len(), 100);
+    let value = made(rt, Counted::new(key, drops));
+    let node = made(rt, TreeNode::new(alloc, key, (key, value)));
+    map.insert(node).replaced.is_some()
+}
+
+#[test]
+fn a_map_drops_each_node_once(rt: HostRuntime) {
+    let drops = made(&rt, Drops::new(rt.alloc()));
+    let mut map = TreeMap::new();
+    let mut replaced = 0u64;
+    for number in 0..60u64 {
+        if enter(&rt, rt.alloc(), &mut map, number % 50, &drops) {
+            replaced = replaced.wrapping_add(1);
+        }
+    }
+    same(&rt, (map.len(), replaced, drops.count()), (50, 10, 10));
+    drop(map.remove(&7));
+    drop(map.pop_first());
+    drop(map.pop_last());
+    same(&rt, (map.len(), drops.count()), (47, 13));
+    map.clear();
+    same(&rt, (map.len(), drops.count()), (0, 60));
+    enter(&rt, rt.alloc(), &mut map, 1, &drops);
+    drop(map);
+    same(&rt, drops.count(), 61);
 }

@@ -11,6 +11,8 @@ mod compared;
 #[cfg(test)]
 mod drops;
 #[cfg(test)]
+mod maps;
+#[cfg(test)]
 mod operations;
 #[cfg(test)]
 mod travels;
