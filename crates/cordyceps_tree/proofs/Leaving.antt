@@ -10,7 +10,7 @@ use Rattle.cordyceps_base.specs.Spots.{AreDistinct, AreNullComparable}
 use Rattle.cordyceps_tree.specs.declared.hook.Hook.{Hook}
 use Rattle.cordyceps_tree.specs.Rows.{Held, hook_at, block_element, nodes_of, IsTree, IsJoined, IsLifted, IsGone}
 use Rattle.cordyceps_tree.specs.Trees.{is_in, Reaches, Shape, leaf, node, flat, height, In, Sole, Close, Balanced, Linked, Step, plug, InSteps, before, after, Around, IsUnder, IsHung, IsUnsettled, IsSingle}
-use Rattle.cordyceps_tree.proofs.Trees.{linked_keep, linked_under, under_keep}
+use Rattle.cordyceps_tree.proofs.Trees.{parted, weighed, linked_keep, linked_under, under_keep}
 use Rattle.cordyceps_tree.proofs.Members.{in_row, row_in, row_sole}
 use Rattle.cordyceps_tree.proofs.Steps.{flat_plug, in_plug, steps_plug, Within, within, Opened, opened, around_keep, stands_keep, hung_around, hung_others, hung_stands}
 use Rattle.cordyceps_tree.proofs.Raising.{sole_less}
@@ -42,24 +42,24 @@ only f p l r x wl wr b single which = elim which [
         side = false;
         t = l;
         linked = subst (λ (z : Address). Linked f p false z.ptr l) (sym u.1) wl;
-        balanced = b.1;
+        balanced = (weighed false l p r b).here;
         order = λ a c. sym (append_assoc a (flat l) c) ∙ sym (ap (λ z. (a ++ flat l) ++ (flat z ++ c)) is);
-        near = let c0 = b.0.0 in let hr = ap height is in (omega (arith, c0, hr), omega (arith, c0, hr));
+        near = let c0 = (weighed false l p r b).low in let hr = ap height is in (omega (arith, c0, hr), omega (arith, c0, hr));
         part = λ z i. inr (inl i);
-        out = λ o i. o.0 i;
-        sole = λ o. o.3;
+        out = λ o i. (parted false l p r o).not_here i;
+        sole = λ o. (parted false l p r o).here;
       })
   | inr u ↦ (let is : l ≡ leaf = leaf_of f p false (f p).left.ptr l wl u.0 in
       record {
         side = true;
         t = r;
         linked = subst (λ (z : Address). Linked f p true z.ptr r) (sym u.1) wr;
-        balanced = b.2;
+        balanced = (weighed false l p r b).there;
         order = λ a c. ap (λ z. z ++ (flat r ++ c)) (sym (append-nil a)) ∙ sym (ap (λ z. (a ++ flat z) ++ (flat r ++ c)) is);
-        near = let c1 = b.0.1 in let hl = ap height is in (omega (arith, c1, hl), omega (arith, c1, hl));
+        near = let c1 = (weighed false l p r b).high in let hl = ap height is in (omega (arith, c1, hl), omega (arith, c1, hl));
         part = λ z i. inr (inr i);
-        out = λ o i. o.1 i;
-        sole = λ o. o.4;
+        out = λ o i. (parted false l p r o).not_there i;
+        sole = λ o. (parted false l p r o).there;
       })
 ]
 

@@ -11,7 +11,7 @@ use Rattle.cordyceps_tree.specs.declared.block.Block.{Block}
 use Rattle.cordyceps_tree.specs.declared.hook.Hook.{Hook}
 use Rattle.cordyceps_tree.specs.Rows.{Held, hook_at, nodes_of, IsTree, IsTraded, IsSwapped}
 use Rattle.cordyceps_tree.specs.Trees.{is_in, Reaches, Shape, leaf, node, flat, height, In, Sole, Linked, Step, plug, InSteps, before, after, Around, Wrote, IsUnder, IsHung, IsSettled}
-use Rattle.cordyceps_tree.proofs.Trees.{linked_keep, linked_under, under_keep}
+use Rattle.cordyceps_tree.proofs.Trees.{Parted, parted, linked_keep, linked_under, under_keep}
 use Rattle.cordyceps_tree.proofs.Members.{in_row, row_sole}
 use Rattle.cordyceps_tree.proofs.Steps.{flat_plug, in_plug, steps_plug, Within, within, Opened, around_keep, stands_keep, close_up, hung_around, hung_others, hung_stands}
 use Rattle.cordyceps_tree.proofs.Raising.{sole_less}
@@ -48,6 +48,12 @@ module _ {X : Type 0} (ns ms old more : List (Held X)) (root p : Ptr) (next : Ad
   was_inner : Within u.steps (node u.left p u.right)
   was_inner = within u.steps (node u.left p u.right) was_whole
 
+  part : Parted u.left n u.right
+  part = parted false u.left n u.right inner.sole
+
+  was_part : Parted u.left p u.right
+  was_part = parted false u.left p u.right was_inner.sole
+
   same : (z : Ptr) → (z ≡ n → ⊥) → (z ≡ p → ⊥) → hook_at ms z ≡ f z
   same z x1 x2 = ap (λ l. hook_at l z) row_is ∙ hooks_joined k.front (n, a, x) k.back z x1 ∙ sym (hooks_joined k.front (p, k.alloc, k.block) k.back z x2) ∙ sym (ap (λ l. hook_at l z) k.was)
 
@@ -73,34 +79,34 @@ module _ {X : Type 0} (ns ms old more : List (Held X)) (root p : Ptr) (next : Ad
     first z x1 x2 = w1.others z x1 ∙ same z x1 x2
 
     in_left : (z : Ptr) → In z u.left → g1 z ≡ f z
-    in_left z i = first z (λ e. inner.sole.0 (subst (λ y. In y u.left) e i)) (λ e. was_inner.sole.0 (subst (λ y. In y u.left) e i))
+    in_left z i = first z (λ e. part.not_here (subst (λ y. In y u.left) e i)) (λ e. was_part.not_here (subst (λ y. In y u.left) e i))
 
     in_right : (z : Ptr) → In z u.right → g1 z ≡ f z
-    in_right z i = first z (λ e. inner.sole.1 (subst (λ y. In y u.right) e i)) (λ e. was_inner.sole.1 (subst (λ y. In y u.right) e i))
+    in_right z i = first z (λ e. part.not_there (subst (λ y. In y u.right) e i)) (λ e. was_part.not_there (subst (λ y. In y u.right) e i))
 
     left1 : Linked g1 p false (f p).left.ptr u.left
     left1 = linked_keep f g1 p false (f p).left.ptr u.left u.linked.left in_left
 
     left2 : Linked g2 n false (f p).left.ptr u.left
-    left2 = linked_under g1 g2 p false (f p).left.ptr u.left next false left1 inner.sole.3 w2
+    left2 = linked_under g1 g2 p false (f p).left.ptr u.left next false left1 part.here w2
 
     second : (z : Ptr) → (In z u.left → ⊥) → g2 z ≡ g1 z
     second z out = under_keep g1 g2 p false (f p).left.ptr u.left next false left1 w2 z out
 
     right2 : Linked g2 p true (f p).right.ptr u.right
-    right2 = linked_keep f g2 p true (f p).right.ptr u.right u.linked.right (λ z i. second z (λ j. inner.sole.2 z j i) ∙ in_right z i)
+    right2 = linked_keep f g2 p true (f p).right.ptr u.right u.linked.right (λ z i. second z (λ j. part.apart z j i) ∙ in_right z i)
 
     right3 : Linked g3 n true (f p).right.ptr u.right
-    right3 = linked_under g2 g3 p true (f p).right.ptr u.right next true right2 inner.sole.4 w3
+    right3 = linked_under g2 g3 p true (f p).right.ptr u.right next true right2 part.there w3
 
     third : (z : Ptr) → (In z u.right → ⊥) → g3 z ≡ g2 z
     third z out = under_keep g2 g3 p true (f p).right.ptr u.right next true right2 w3 z out
 
     left3 : Linked g3 n false (f p).left.ptr u.left
-    left3 = linked_keep g2 g3 n false (f p).left.ptr u.left left2 (λ z i. third z (λ j. inner.sole.2 z i j))
+    left3 = linked_keep g2 g3 n false (f p).left.ptr u.left left2 (λ z i. third z (λ j. part.apart z i j))
 
     here3 : g3 n ≡ f p
-    here3 = third n inner.sole.1 ∙ second n inner.sole.0 ∙ w1.here
+    here3 = third n part.not_there ∙ second n part.not_here ∙ w1.here
 
     steps3 : (z : Ptr) → InSteps z u.steps → g3 z ≡ f z
     steps3 z i = third z (λ j. inner.apart z (inr (inr j)) i) ∙ second z (λ j. inner.apart z (inr (inl j)) i) ∙ first z (λ e. inner.apart z (inl e) i) (λ e. was_inner.apart z (inl e) i)

@@ -11,7 +11,7 @@ use Rattle.cordyceps_tree.specs.Places.{below, content_at, IsSaidAt, IsPlace, Is
 use Rattle.cordyceps_tree.specs.declared.finding.Place.{Place}
 use Rattle.cordyceps_base.specs.declared.boxes.Address.{Address}
 use Rattle.cordyceps_tree.proofs.HookRows.{split}
-use Rattle.cordyceps_tree.proofs.Trees.{height_known}
+use Rattle.cordyceps_tree.proofs.Trees.{Weighed, weighed, height_known}
 use Rattle.cordyceps_tree.proofs.Members.{in_row}
 use Rattle.cordyceps_tree.proofs.Steps.{in_plug}
 use Rattle.cordyceps_tree.proofs.Reaching.{tree_reaches}
@@ -88,6 +88,9 @@ module _ {X : Type 0} where
         order_p : flat (plug u.steps (node x p y)) ≡ box_addresses ns
         order_p = subst (λ z. flat (plug u.steps (node x z y)) ≡ box_addresses ns) is o
 
+        w2 : Weighed x y
+        w2 = weighed false x q y b
+
         solid_p : InBlock p
         solid_p = solid
 
@@ -119,9 +122,9 @@ module _ {X : Type 0} where
             shape = x;
             order = order_p;
             linked = left_p;
-            balanced = b.1;
+            balanced = w2.here;
             around = record { at = refl; side = refl; solid = solid; leads = refl; other = right_p; above = around_p };
-            stands = (height_p, b.0, b.2, st);
+            stands = (height_p, (w2.low, w2.high), w2.there, st);
             goes = record { low = u.goes.low; high = inr (p, flat y ++ after u.steps, refl, said) };
             outer = u.outer;
             next = refl;
@@ -134,9 +137,9 @@ module _ {X : Type 0} where
             shape = y;
             order = order_p;
             linked = right_p;
-            balanced = b.2;
+            balanced = w2.there;
             around = record { at = refl; side = refl; solid = solid; leads = refl; other = left_p; above = around_p };
-            stands = (height_p ∙ ap suc (swap (height x) (height y)), (b.0.1, b.0.0), b.1, subst (λ z. Stands f (suc z) u.steps) (swap (height x) (height y)) st);
+            stands = (height_p ∙ ap suc (swap (height x) (height y)), (w2.high, w2.low), w2.here, subst (λ z. Stands f (suc z) u.steps) (swap (height x) (height y)) st);
             goes = record { low = inr (before u.steps ++ flat x, p, sym (append_assoc (before u.steps) (flat x) (p ∷ [])), said); high = u.goes.high };
             outer = not_none (before u.steps) (flat x) p;
             next = u.next;

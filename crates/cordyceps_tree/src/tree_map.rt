@@ -10,12 +10,12 @@
 //!
 //! It is a balanced tree of pairs (`rooted`), and no two pairs have equal keys. A search goes down once to the first
 //! pair whose key is not less than the one that is looked for (`keyed`), and compares that key once more. `insert`
-//! exchanges the node of an equal key for the new one, in the same place of the tree, and else hangs the new one into
-//! the tree.
+//! searches for the key of the new node: it exchanges the node that has the key for the new one, in the same place of
+//! the tree, and else goes down once more and hangs the new one into the tree.
 //!
 //! The names are those of std's `BTreeMap`. That has many pairs in a node, and moves them as it grows and shrinks: here
-//! each pair has a node of its own, which stays where it is in memory, so an insertion cannot be refused and no call
-//! takes longer than O(log n).
+//! each pair has a node of its own, which stays where it is in memory, so an insertion cannot be refused. An insertion,
+//! a removal and a search are O(log n) in the worst case.
 ghost use Rattle.std.specs.Prelude.{◌≡◌, ◌≢◌, ◌<◌, ◌==◌, List, [], ◌∷◌, ◌++◌, length, true, false};
 ghost use Rattle.std.specs.Prelude.{IfSome, MatchOption, option_copied, is_some, None, Some};
 ghost use Rattle.std.specs.Borrow.{sem};
@@ -93,7 +93,7 @@ impl<K: Ord + Drop, V: Drop> TreeMap<K, V> {
     /// to the new one, and is returned. All other spots stay valid. Requires fewer than `usize::MAX` nodes.
     ///
     /// # Complexity
-    /// O(log n), for n nodes.
+    /// O(log n), for n nodes: one search, and a second one if the key is new.
     pub fn insert(&mut self, node: TreeNode<(K, V)>) -> Inserted<K, V>
         requires fits { length self.old < usize.MAX }
         ensures inserted { IsInserted K.cmp self.old node result.spot result.replaced self.new }
