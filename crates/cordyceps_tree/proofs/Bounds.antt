@@ -60,9 +60,17 @@ three Less l e = absurd cc
 three Equal l e = absurd cc
 three Greater l e = refl
 
+pub some_one : (p q : Ptr) → Some p ≡ Some q → p ≡ q
+some_one p q e = cc
+
 module _ {X : Type 0} where
   pub has_front : (c front back : Nodes X) (n : Ptr × Element X) → c ≡ front ++ n ∷ back → HasSpot c n.0
   has_front c front back n is = spot_is_at c n.0 n.1 (front, back, is)
+
+  -- one value is at a spot
+  pub held_one : (c : Nodes X) (p : Ptr) (x w : X) → AreDistinct (spots c) → HoldsAt c p x → HoldsAt c p w → x ≡ w
+  held_one c p x w d (b, id, a, is) (f, number, z, has) =
+      ap (λ (e : Element X). e.value) (same_place b a f z p (record { id = id; value = x }) (record { id = number; value = w }) (subst (λ l. AreDistinct (spots l)) is d) (sym is ∙ has)).here
 
   -- the bound of a guide is the spot of a node
   pub bound_has : (says : X → Bool → Type 0) (c : Nodes X) (o : Option Ptr) → IsBoundWhere says c o → IfSome o (λ p. HasSpot c p)

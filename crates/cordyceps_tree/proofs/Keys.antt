@@ -1,9 +1,9 @@
 -- Nodes in order of their keys, and where a key is among them.
-use Rattle.std.proofs.Common.{◌≡◌, zero, suc, Bool, true, false, not, if◌then◌else◌, cond, List, [], ◌∷◌, ◌++◌, length, slice_get, Option, Some, None, MatchOption, is_some, refl, sym, ap, ◌∙◌, subst}
+use Rattle.std.proofs.Common.{◌≡◌, zero, suc, Bool, true, false, if◌then◌else◌, cond, List, [], ◌∷◌, ◌++◌, length, slice_get, Option, Some, None, MatchOption, is_some, refl, sym, ap, ◌∙◌, subst}
 use Rattle.std.specs.Cmp.{IsTotalOrder}
 use Rattle.std.specs.List.{AllByRecursion}
 use Rattle.std.specs.Map.{lookup}
-use Rattle.std.specs.Ordering.{is_lt, is_gt, is_eq, ordering_reverse}
+use Rattle.std.specs.Ordering.{is_gt, is_eq, ordering_reverse}
 use Rattle.std.specs.declared.cmp.Ordering.{Ordering}
 use Rattle.std.specs.declared.cmp.Ordering.TheVariants.{Less, Equal, Greater}
 use denote.RawPtr.{Ptr}
@@ -16,8 +16,7 @@ use Rattle.cordyceps_single.specs.ByKey.{by_key}
 use Rattle.cordyceps_single.proofs.Arrangement.{all_append, all_front, all_back, all_weaker}
 use Rattle.cordyceps_stable.proofs.Holding.{unique}
 use Rattle.cordyceps_stable.proofs.Valid.{put_keeps, taken_keeps}
-use Rattle.cordyceps_stable.specs.Replacing.{IsReplaced}
-use Rattle.cordyceps_tree.specs.Bounds.{first_spot, LastSaid, FirstSaid, IsBoundWhere, IsPutWhere, SaysAfterEquals}
+use Rattle.cordyceps_tree.specs.Bounds.{first_spot, LastSaid, FirstSaid, IsBoundWhere, SaysBeforeEquals, AnswersAt, IsPutApart, IsPutOver}
 use Rattle.cordyceps_tree.specs.TreeMaps.{pairs, key_of, is_key, value_of, with_value_of, Rises, IsFound, IsRemoved, IsInserted}
 use Rattle.cordyceps_tree.proofs.Bounds.{has_front}
 use Rattle.cordyceps_tree.proofs.Walks.{differs}
@@ -32,25 +31,10 @@ as_less Less e g = refl
 as_less Equal e g = absurd cc
 as_less Greater e g = absurd cc
 
-by_lt : (r : Ordering) → is_lt r ≡ true → r ≡ Less
-by_lt Less e = refl
-by_lt Equal e = absurd cc
-by_lt Greater e = absurd cc
-
 as_greater : (r : Ordering) → true ≡ is_gt r → r ≡ Greater
 as_greater Less e = absurd cc
 as_greater Equal e = absurd cc
 as_greater Greater e = refl
-
-more : (r : Ordering) → is_eq r ≡ false → true ≡ not (is_lt r) → r ≡ Greater
-more Less e l = absurd cc
-more Equal e l = absurd cc
-more Greater e l = refl
-
-less : (r : Ordering) → false ≡ not (is_lt r) → r ≡ Less
-less Less l = refl
-less Equal l = absurd cc
-less Greater l = absurd cc
 
 module _ {K : Type 0} (cmp : K → K → Ordering) (t : IsTotalOrder cmp) where
   turned : (x y : K) (r : Ordering) → cmp x y ≡ r → cmp y x ≡ ordering_reverse r
@@ -267,53 +251,74 @@ module _ {K V : Type 0} (cmp : K → K → Ordering) (t : IsTotalOrder cmp) wher
           ap (value_of cmp k) parts ∙ none_between k w.front (n ∷ s) w.low (first, above_on k (key_of n) s first up.0)
 
   -- ---- a node comes in
-  low_of : (k : K) (a b : Nodes (K × V)) → LastSaid (λ x b. b ≡ not (is_lt (cmp k x.0))) a → AllByRecursion (λ n. is_key cmp k (key_of n) ≡ false) a → Rises cmp (a ++ b) → Below k a
-  low_of k [] b l e r = tt
-  low_of k (n ∷ []) b l e r = (turned cmp t k (key_of n) Greater (more (cmp k (key_of n)) e.0 l), tt)
-  low_of k (n ∷ m ∷ a) b l e r =
-      let rest = low_of k (m ∷ a) b l e.1 r.1 in (t.trans (key_of n) (key_of m) k r.0.0 rest.0, rest)
+  abbrev By : (K × V → K × V → Ordering) → Type 0
+  By f = f ≡ by_key cmp (λ x. x.0)
 
-  high_of : (k : K) (a b : Nodes (K × V)) → FirstSaid (λ x b. b ≡ not (is_lt (cmp k x.0))) b → Rises cmp (a ++ b) → Above k b
-  high_of k a [] f r = tt
-  high_of k a (n ∷ b) f r = let first = less (cmp k (key_of n)) f in (first, above_on k (key_of n) b first (rises_back a (n ∷ b) r).0)
-
-  last_plain : (v : K × V) (a : Nodes (K × V)) → LastSaid (SaysAfterEquals (λ f. f ≡ by_key cmp (λ x. x.0)) v) a → LastSaid (λ x b. b ≡ not (is_lt (cmp v.0 x.0))) a
+  last_plain : (v : K × V) (a : Nodes (K × V)) → LastSaid (SaysBeforeEquals By v) a → LastSaid (λ x b. b ≡ is_gt (cmp v.0 x.0)) a
   last_plain v [] l = tt
   last_plain v (n ∷ []) l = l (by_key cmp (λ x. x.0)) refl
   last_plain v (n ∷ m ∷ a) l = last_plain v (m ∷ a) l
 
-  first_plain : (v : K × V) (a : Nodes (K × V)) → FirstSaid (SaysAfterEquals (λ f. f ≡ by_key cmp (λ x. x.0)) v) a → FirstSaid (λ x b. b ≡ not (is_lt (cmp v.0 x.0))) a
+  first_plain : (v : K × V) (a : Nodes (K × V)) → FirstSaid (SaysBeforeEquals By v) a → FirstSaid (λ x b. b ≡ is_gt (cmp v.0 x.0)) a
   first_plain v [] l = tt
   first_plain v (n ∷ a) l = l (by_key cmp (λ x. x.0)) refl
 
-  pub new_rises : (c d : Nodes (K × V)) (p : Ptr) (e : Element (K × V)) → Rises cmp c → value_of cmp e.value.0 c ≡ None → IsPutWhere (SaysAfterEquals (λ f. f ≡ by_key cmp (λ x. x.0)) e.value) c p e d → Rises cmp d
-  new_rises c d p e r none u =
-      let k = e.value.0 in let whole = subst (Rises cmp) u.was r in
-      let apart = none_equal k (u.front ++ u.back) (ap (value_of cmp k) (sym u.was) ∙ none) in
-      let low = low_of k u.front u.back (last_plain e.value u.front u.between.low) (all_front (λ n. is_key cmp k (key_of n) ≡ false) u.front u.back apart) whole in
-      subst (Rises cmp) (sym u.is) (rises_put u.front u.back (p, e) low (high_of k u.front u.back (first_plain e.value u.back u.between.high) whole) whole)
+  none_apart : (c : Nodes (K × V)) (v : K × V) (o : Option Ptr) → Rises cmp c → IsBoundWhere (SaysBeforeEquals By v) c o → ((q : Ptr) → o ≡ Some q → AnswersAt By v c q false) → value_of cmp v.0 c ≡ None
+  none_apart c v o r u differs = go w.back w.was w.at w.high w.rises where
+    w : Bound c v.0 o
+    w = bound c v.0 o r (record { front = u.front; back = u.back; was = u.was; at = u.at; between = record { low = last_plain v u.front u.between.low; high = first_plain v u.back u.between.high } })
 
-  pub new_inserted : (c s d : Nodes (K × V)) (p : Ptr) (e : Element (K × V)) → c ≡ s → Rises cmp c → value_of cmp e.value.0 s ≡ None → IsPutWhere (SaysAfterEquals (λ f. f ≡ by_key cmp (λ x. x.0)) e.value) c p e d → IsInserted cmp s e p None d
-  new_inserted c s d p e view r none u = record {
-    rest = s;
-    replaced = (none, refl);
-    added = (u.front, u.back, u.is, sym view ∙ u.was);
-    rises = new_rises c d p e r (ap (value_of cmp e.value.0) view ∙ none) u;
-  }
+    go : (s : Nodes (K × V)) → c ≡ w.front ++ s → o ≡ first_spot s → FirstSaid (λ x b. b ≡ is_gt (cmp v.0 x.0)) s → Rises cmp s → value_of cmp v.0 c ≡ None
+    go [] parts at high up = ap (value_of cmp v.0) parts ∙ none_between v.0 w.front [] w.low tt
+    go (n ∷ s) parts at high up =
+        let other : is_key cmp v.0 (key_of n) ≡ false = differs n.0 at n.1.value (by_key cmp (λ x. x.0)) refl (w.front, n.1.id, s, parts) in
+        let first = as_less (cmp v.0 (key_of n)) other (sym high) in
+        ap (value_of cmp v.0) parts ∙ none_between v.0 w.front (n ∷ s) w.low (first, above_on v.0 (key_of n) s first up.0)
 
-  pub swapped_rises : (c d : Nodes (K × V)) (q p : Ptr) (o e : Element (K × V)) → Rises cmp c → AreDistinct (spots c) → IsFound cmp c e.value.0 q → IsReplaced c q o p e d → Rises cmp d
-  swapped_rises c d q p o e r distinct f (a, b, was, is) =
-      let same = unique a b f.front f.back q o f.element (sym was ∙ f.parts) (subst (λ z. AreDistinct (spots z)) was distinct) in
-      let equal : cmp e.value.0 o.value.0 ≡ Equal = subst (λ (z : Element (K × V)). cmp e.value.0 z.value.0 ≡ Equal) (sym same.1) (as_equal (cmp e.value.0 f.element.value.0) f.equal) in
-      subst (Rises cmp) (sym is) (rises_same a b (q, o) (p, e) (turned cmp t e.value.0 o.value.0 Equal equal) (subst (Rises cmp) was r))
+  high_of : (k : K) (a b : Nodes (K × V)) → FirstSaid (λ x b. b ≡ is_gt (cmp k x.0)) b → AllByRecursion (λ n. is_key cmp k (key_of n) ≡ false) b → Rises cmp (a ++ b) → Above k b
+  high_of k a [] f e r = tt
+  high_of k a (n ∷ b) f e r = let first = as_less (cmp k (key_of n)) e.0 (sym f) in (first, above_on k (key_of n) b first (rises_back a (n ∷ b) r).0)
 
-  pub swapped_inserted : (c s d : Nodes (K × V)) (q p : Ptr) (o e : Element (K × V)) → c ≡ s → Rises cmp c → AreDistinct (spots c) → IsFound cmp s e.value.0 q → IsReplaced c q o p e d → IsInserted cmp s e p (Some o) d
-  swapped_inserted c s d q p o e view r distinct f (a, b, was, is) = record {
-    rest = a ++ b;
-    replaced = record { spot = q; found = f; taken = (a, b, sym view ∙ was, refl) };
-    added = (a, b, is, refl);
-    rises = swapped_rises c d q p o e r distinct (subst (λ z. IsFound cmp z e.value.0 q) (sym view) f) (a, b, was, is);
-  }
+  pub apart_rises : (c d : Nodes (K × V)) (p : Ptr) (e : Element (K × V)) → Rises cmp c → IsPutApart By c p e d → Rises cmp d
+  apart_rises c d p e r w =
+      let k = e.value.0 in let u = w.put in let whole = subst (Rises cmp) u.was r in
+      let apart = none_equal k (u.front ++ u.back) (ap (value_of cmp k) (sym u.was) ∙ none_apart c e.value w.next r w.bound w.differs) in
+      let low = low_from k u.front u.back (last_plain e.value u.front u.between.low) whole in
+      let high = high_of k u.front u.back (first_plain e.value u.back u.between.high) (all_back (λ n. is_key cmp k (key_of n) ≡ false) u.front u.back apart) whole in
+      subst (Rises cmp) (sym u.is) (rises_put u.front u.back (p, e) low high whole)
+
+  pub apart_inserted : (c s d : Nodes (K × V)) (p : Ptr) (e : Element (K × V)) → c ≡ s → Rises cmp c → IsPutApart By c p e d → IsInserted cmp s e p None d
+  apart_inserted c s d p e view r w =
+      let u = w.put in
+      record {
+        rest = s;
+        replaced = (ap (value_of cmp e.value.0) (sym view) ∙ none_apart c e.value w.next r w.bound w.differs, refl);
+        added = (u.front, u.back, u.is, sym view ∙ u.was);
+        rises = apart_rises c d p e r w;
+      }
+
+  equal_over : (c d : Nodes (K × V)) (p : Ptr) (o e : Element (K × V)) → IsPutOver By c p o e d → is_key cmp e.value.0 o.value.0 ≡ true
+  equal_over c d p o e w = let (a, b, was, is) = w.replaced in w.equal o.value (by_key cmp (λ x. x.0)) refl (a, o.id, b, was)
+
+  pub over_rises : (c d : Nodes (K × V)) (p : Ptr) (o e : Element (K × V)) → Rises cmp c → IsPutOver By c p o e d → Rises cmp d
+  over_rises c d p o e r w =
+      let (a, b, was, is) = w.replaced in
+      subst (Rises cmp) (sym is) (rises_same a b (w.spot, o) (p, e) (turned cmp t e.value.0 o.value.0 Equal (as_equal (cmp e.value.0 o.value.0) (equal_over c d p o e w))) (subst (Rises cmp) was r))
+
+  pub over_inserted : (c s d : Nodes (K × V)) (p : Ptr) (o e : Element (K × V)) → c ≡ s → Rises cmp c → IsPutOver By c p o e d → IsInserted cmp s e p (Some o) d
+  over_inserted c s d p o e view r w =
+      let (a, b, was, is) = w.replaced in let here = sym view ∙ was in
+      record {
+        rest = a ++ b;
+        replaced = record { spot = w.spot; found = record { front = a; element = o; back = b; parts = here; equal = equal_over c d p o e w }; taken = (a, b, here, refl) };
+        added = (a, b, is, refl);
+        rises = over_rises c d p o e r w;
+      }
+
+  -- either of these
+  pub either_rises : {A : Type 0} (Q : A → Element (K × V) → Type 0) (c d : Nodes (K × V)) (p : Ptr) (e : Element (K × V)) (left : Option A) → Rises cmp c → MatchOption left (IsPutApart By c p e d) (λ x. (o : Element (K × V)) × IsPutOver By c p o e d × Q x o) → Rises cmp d
+  either_rises Q c d p e None r m = apart_rises c d p e r m
+  either_rises Q c d p e (Some x) r (o, over, q) = over_rises c d p o e r over
 
   -- the key of a node that was taken out is gone
   pub taken_gone : (c d : Nodes (K × V)) (p : Ptr) (e : Element (K × V)) → Rises cmp c → IsTaken c p e d → value_of cmp e.value.0 d ≡ None

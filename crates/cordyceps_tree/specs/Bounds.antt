@@ -1,11 +1,13 @@
 -- Where a search ends among nodes in order.
 use Rattle.std.specs.Prelude.{◌≡◌, Bool, true, false, not, [], ◌∷◌, ◌++◌, Option, Some, None, MatchOption}
 use Rattle.std.specs.List.{AllByRecursion}
-use Rattle.std.specs.Ordering.{is_lt, is_gt}
+use Rattle.std.specs.Ordering.{is_lt, is_gt, is_eq}
 use Rattle.std.specs.declared.cmp.Ordering.{Ordering}
 use denote.RawPtr.{Ptr}
+use Rattle.cordyceps_base.specs.BySpot.{HoldsAt}
 use Rattle.cordyceps_base.specs.Element.{Element}
 use Rattle.cordyceps_base.specs.Nodes.{Nodes}
+use Rattle.cordyceps_stable.specs.Replacing.{IsReplaced}
 
 module _ {X : Type 0} where
   -- the spot of the first node, if there is one
@@ -43,6 +45,10 @@ module _ {X : Type 0} where
   abbrev pub SaysBeforeEquals : ((X → X → Ordering) → Type 0) → X → X → Bool → Type 0
   SaysBeforeEquals by v x b = (cmp : X → X → Ordering) → by cmp → b ≡ is_gt (cmp v x)
 
+  -- whether v is equal to the value at p
+  abbrev pub AnswersAt : ((X → X → Ordering) → Type 0) → X → Nodes X → Ptr → Bool → Type 0
+  AnswersAt by v c p b = (x : X) (cmp : X → X → Ordering) → by cmp → HoldsAt c p x → is_eq (cmp v x) ≡ b
+
   -- a guide said that its place is after the last value, if there is one
   abbrev pub LastSaid : (X → Bool → Type 0) → Nodes X → Type 0
   LastSaid says [] = Unit {0}
@@ -74,3 +80,18 @@ module _ {X : Type 0} where
     pub was : c ≡ front ++ back
     pub at : o ≡ first_spot back
     pub between : LeadsBetween says front back
+
+  -- the node e came to p, before all values that are not less; the first of these, if there is one, is not equal
+  pub record IsPutApart (by : (X → X → Ordering) → Type 0) (c : Nodes X) (p : Ptr) (e : Element X) (d : Nodes X)
+      : Type 0 where
+    pub put : IsPutWhere (SaysBeforeEquals by e.value) c p e d
+    pub next : Option Ptr
+    pub bound : IsBoundWhere (SaysBeforeEquals by e.value) c next
+    pub differs : (q : Ptr) → next ≡ Some q → AnswersAt by e.value c q false
+
+  -- the node e came to p, in the place of o, which is equal
+  pub record IsPutOver (by : (X → X → Ordering) → Type 0) (c : Nodes X) (p : Ptr) (o e : Element X) (d : Nodes X)
+      : Type 0 where
+    pub spot : Ptr
+    pub replaced : IsReplaced c spot o p e d
+    pub equal : AnswersAt by e.value c spot true

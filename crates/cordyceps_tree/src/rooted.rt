@@ -1,6 +1,6 @@
 //! A whole tree of nodes in order, which knows no order of its own: its root, its first node and its length.
 ghost use Rattle.std.specs.Prelude.{ℕ, ◌≡◌, ◌≢◌, ◌+◌, ◌<◌, ◌≤◌, [], ◌∷◌, ◌++◌, length, List, if◌then◌else◌, true};
-ghost use Rattle.std.specs.Prelude.{IfSome, MatchOption, Some, slice_get};
+ghost use Rattle.std.specs.Prelude.{IfSome, MatchOption, Some, false, slice_get};
 ghost use denote.RawPtr.{Ptr, InBlock, Testable, null_ptr};
 ghost use Rattle.cordyceps_base.specs.Boxes.{box_addresses};
 ghost use Rattle.cordyceps_base.specs.BySpot.{HasSpot, HoldsAt, IsTaken, IsFirst, IsLast, AreNext};
@@ -9,7 +9,7 @@ ghost use Rattle.cordyceps_base.specs.Element.{Element, values};
 ghost use Rattle.cordyceps_base.specs.Nodes.{Nodes, elements, spots};
 ghost use Rattle.cordyceps_base.specs.Spots.{index_of, AreDistinct};
 ghost use Rattle.cordyceps_tree.specs.TreeLends.{LendsAt};
-ghost use Rattle.cordyceps_tree.specs.Bounds.{IsPutWhere, IsBoundWhere, SaysAfterEquals};
+ghost use Rattle.cordyceps_tree.specs.Bounds.{IsPutWhere, IsBoundWhere, SaysAfterEquals, AnswersAt, IsPutApart, IsPutOver};
 ghost use Rattle.cordyceps_tree.specs.Heights.{least, IsAtMostLog};
 ghost use Rattle.cordyceps_tree.specs.Rows.{nodes_of, IsTree};
 ghost use Rattle.cordyceps_stable.specs.Replacing.{IsReplaced};
@@ -18,7 +18,7 @@ ghost use Rattle.cordyceps_tree.specs.Trees.{is_in, is_none, first_in};
 use crate::alone::Alone;
 use crate::block::Row;
 use crate::cutting::{Departed, replaced};
-use crate::finding::{AfterEquals, Guide, place_of};
+use crate::finding::{AfterEquals, BeforeEquals, Guide, place_of};
 use crate::planting::put_in;
 use crate::removing::removed;
 use crate::rows::{height_of, hook_of};
@@ -135,6 +135,52 @@ impl<T> Rooted<T> {
         self.first = chosen(place.is_first, at, self.first);
         self.len += 1;
         spot_at(at)
+    }
+
+    /// Puts a node in before all that are not less by an order, or into the place of the first of these, which leaves,
+    /// if that is equal.
+    pub(crate) fn put_apart<O: Order<T>>(&mut self, order: &O, one: Alone<T>) -> Option<Alone<T>>
+        requires order { O.can_compare order.now }
+        requires fits { length self.old < usize.MAX }
+        requires alone { (e : Element T) × (nodes_of one.row.boxes.blocks ≡ (one.at.ptr, e) ∷ []) }
+        ensures { (e : Element T) → nodes_of one.row.boxes.blocks ≡ (one.at.ptr, e) ∷ []
+            → MatchOption result (IsPutApart (O.compares_by order.now) self.old one.at.ptr e self.new)
+            (λ left. (o : Element T) × IsPutOver (O.compares_by order.now) self.old one.at.ptr o e self.new
+            × (nodes_of left.row.boxes.blocks ≡ (left.at.ptr, o) ∷ [])) }
+    {
+        let value = one.value();
+        let guide = BeforeEquals { order, value };
+        let place = place_of(&self.row, self.root, &guide, &mut Uncounted);
+        let next = spot_unless_null(place.next);
+        match self.equal_at(next, order, value) {
+            Some(at) => Some(self.replace(at, one)),
+            None => {
+                let at = one.at;
+                let root = put_in(&mut self.row, self.root, place, one);
+                self.root = root;
+                let new_first = chosen(place.is_first, at, self.first);
+                self.first = new_first;
+                self.len += 1;
+                None
+            }
+        }
+    }
+
+    /// Returns a spot, if there is one and the value there is equal to another by an order.
+    fn equal_at<O: Order<T>>(&self, next: Option<Spot>, order: &O, value: &T) -> Option<Spot>
+        requires order { O.can_compare order.now }
+        requires there { IfSome next (λ p. HasSpot self.now p) }
+        ensures { MatchOption result
+            ((p : Ptr) → next ≡ Some p → AnswersAt (O.compares_by order.now) value.now self.now p false)
+            (λ p. (next ≡ Some p) × AnswersAt (O.compares_by order.now) value.now self.now p true) }
+    {
+        let Some(at) = next else {
+            return None;
+        };
+        // for the proof: the spot has one value
+        self.spots_are_distinct();
+        let is_equal = order.compare(value, self.get(at)).is_eq();
+        if is_equal { Some(at) } else { None }
     }
 
     /// Takes the node at `at` out.

@@ -9,9 +9,9 @@
 //! ```
 //!
 //! It is a balanced tree of pairs (`rooted`), and no two pairs have equal keys. A search goes down once to the first
-//! pair whose key is not less than the one that is looked for (`keyed`), and compares that key once more. `insert`
-//! searches for the key of the new node: it exchanges the node that has the key for the new one, in the same place of
-//! the tree, and else goes down once more and hangs the new one into the tree.
+//! pair whose key is not less than the one that is looked for (`keyed`), and compares that key once more. `insert` does
+//! so too: it exchanges the node of an equal key for the new one, in the same place of the tree, and else hangs the new
+//! one in where the search ended.
 //!
 //! The names are those of std's `BTreeMap`. That has many pairs in a node, and moves them as it grows and shrinks: here
 //! each pair has a node of its own, which stays where it is in memory, so an insertion cannot be refused. An insertion,
@@ -39,7 +39,6 @@ use crate::map_range::Range;
 use crate::node::TreeNode;
 use crate::rooted::Rooted;
 use crate::{iter, map_range};
-use cordyceps_single::counter::Uncounted;
 use cordyceps_stable::addresses::spot_at;
 use cordyceps_stable::stable_list::Spot;
 use std::marker::Model;
@@ -93,7 +92,7 @@ impl<K: Ord + Drop, V: Drop> TreeMap<K, V> {
     /// to the new one, and is returned. All other spots stay valid. Requires fewer than `usize::MAX` nodes.
     ///
     /// # Complexity
-    /// O(log n), for n nodes: one search, and a second one if the key is new.
+    /// O(log n), for n nodes: at most one comparison more than the tree is high.
     pub fn insert(&mut self, node: TreeNode<(K, V)>) -> Inserted<K, V>
         requires fits { length self.old < usize.MAX }
         ensures inserted { IsInserted K.cmp self.old node result.spot result.replaced self.new }
@@ -105,8 +104,7 @@ impl<K: Ord + Drop, V: Drop> TreeMap<K, V> {
     {
         let one = Alone::new(node);
         let spot = spot_at(one.at);
-        let found = self.find(&one.value().0);
-        let replaced = self.put(found, one);
+        let replaced = self.put(one);
         self.nodes.spots_are_distinct();
         Inserted { spot, replaced }
     }
@@ -192,24 +190,16 @@ impl<K: Ord + Drop, V: Drop> TreeMap<K, V> {
         drop(mem::replace(&mut self.nodes, Rooted::empty()));
     }
 
-    /// Puts a node in, in the place of the one at a spot, which is that of its key, if there is one.
-    fn put(&mut self, found: Option<Spot>, one: Alone<(K, V)>) -> Option<TreeNode<(K, V)>>
+    /// Puts a node in. Returns the one that had its key.
+    fn put(&mut self, one: Alone<(K, V)>) -> Option<TreeNode<(K, V)>>
         requires fits { length self.old < usize.MAX }
         requires alone { (e : Element (K × V)) × (nodes_of one.row.boxes.blocks ≡ (one.at.ptr, e) ∷ []) }
-        requires found { (e : Element (K × V)) → nodes_of one.row.boxes.blocks ≡ (one.at.ptr, e) ∷ []
-            → MatchOption found (value_of K.cmp e.value.0 self.old ≡ None)
-            (λ p. IsFound K.cmp self.old e.value.0 p) }
         ensures { (e : Element (K × V)) → nodes_of one.row.boxes.blocks ≡ (one.at.ptr, e) ∷ []
             → IsInserted K.cmp self.old e one.at.ptr result self.new }
     {
-        // for the proof: no two nodes are at one spot
-        self.nodes.spots_are_distinct();
-        match found {
-            Some(at) => Some(self.nodes.replace(at, one).into_node()),
-            None => {
-                self.nodes.put(&ByFirst, one, &mut Uncounted);
-                None
-            }
+        match self.nodes.put_apart(&ByFirst, one) {
+            Some(left) => Some(left.into_node()),
+            None => None,
         }
     }
 }
