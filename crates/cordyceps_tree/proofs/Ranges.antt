@@ -1,5 +1,5 @@
 -- The nodes of a range of keys.
-use Rattle.std.proofs.Common.{◌≡◌, ℕ, suc, ◌≤◌, Bool, true, false, if◌then◌else◌, List, [], ◌∷◌, ◌++◌, length, Option, Some, None, refl, sym, ap, ◌∙◌, subst, arith}
+use Rattle.std.proofs.Common.{◌≡◌, ◌≤◌, Bool, true, false, if◌then◌else◌, List, [], ◌∷◌, ◌++◌, length, Option, Some, None, refl, sym, ap, ◌∙◌, arith}
 use Rattle.std.specs.Cmp.{IsTotalOrder}
 use Rattle.std.specs.List.{AllByRecursion, filter}
 use Rattle.std.specs.Ordering.{is_lt, is_gt, ordering_reverse}
@@ -14,7 +14,7 @@ use Rattle.cordyceps_single.proofs.Arrangement.{in_class, out_of_class, none_in,
 use Rattle.cordyceps_tree.specs.Bounds.{first_spot, FirstSaid, IsBoundWhere}
 use Rattle.cordyceps_tree.specs.TreeMaps.{key_of, Rises, between, until}
 use Rattle.cordyceps_tree.specs.Walks.{walk_from}
-use Rattle.cordyceps_tree.proofs.Keys.{Bound, bound, by_test, Above}
+use Rattle.cordyceps_tree.proofs.Keys.{bound, by_test, Above}
 use Rattle.cordyceps_tree.proofs.Walks.{from_here}
 
 gt_turned : (o : Ordering) → is_lt (ordering_reverse o) ≡ is_gt o

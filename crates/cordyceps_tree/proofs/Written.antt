@@ -7,7 +7,7 @@ use Rattle.cordyceps_base.specs.Nodes.{Nodes, spots, elements, with_item}
 use Rattle.cordyceps_base.specs.Spots.{same_ptr, index_of, AreDistinct, AreNullComparable}
 use Rattle.cordyceps_tree.specs.declared.block.Block.{Block}
 use Rattle.cordyceps_tree.specs.declared.hook.Hook.{Hook}
-use Rattle.cordyceps_tree.specs.Rows.{Held, block_of, block_element, nodes_of, hook_at, IsTree, IsWhole}
+use Rattle.cordyceps_tree.specs.Rows.{Held, block_of, block_element, nodes_of, hook_at, IsWhole}
 use Rattle.cordyceps_tree.specs.Trees.{IsSettled, first_in}
 use Rattle.cordyceps_tree.proofs.HookRows.{addresses_set}
 use Rattle.cordyceps_tree.proofs.Placing.{spots_of}

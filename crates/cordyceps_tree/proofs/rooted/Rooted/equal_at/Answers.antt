@@ -1,4 +1,4 @@
-use Rattle.std.proofs.Common.{◌≡◌, Some, sym, ap, ◌∙◌, subst}
+use Rattle.std.proofs.Common.{◌≡◌, sym, ap, ◌∙◌, subst}
 use Rattle.std.specs.Ordering.{is_eq}
 use Rattle.cordyceps_base.specs.BySpot.{HoldsAt}
 use Rattle.cordyceps_tree.proofs.Bounds.{held_one, some_one}

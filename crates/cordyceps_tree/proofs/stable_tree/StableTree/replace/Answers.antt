@@ -1,6 +1,4 @@
-use Rattle.std.proofs.Common.{◌≡◌, [], ◌∷◌, true, ap, sym, ◌∙◌, subst}
-use Rattle.std.specs.Ordering.{is_eq}
-use Rattle.cordyceps_base.specs.BySpot.{HoldsAt}
+use Rattle.std.proofs.Common.{◌≡◌, [], ◌∷◌, ap, sym, ◌∙◌, subst}
 use Rattle.cordyceps_base.specs.Element.{Element}
 use Rattle.cordyceps_base.specs.Nodes.{Nodes}
 use Rattle.cordyceps_stable.specs.Arranged.{Sorted}

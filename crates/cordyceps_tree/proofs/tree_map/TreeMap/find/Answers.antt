@@ -1,4 +1,4 @@
-use Rattle.std.proofs.Common.{◌≡◌, Bool, Some, None, sym, subst}
+use Rattle.std.proofs.Common.{◌≡◌, Bool, Some, None, subst}
 use Rattle.std.specs.Ordering.{is_gt}
 use Rattle.cordyceps_base.specs.BySpot.{HasSpot}
 use Rattle.cordyceps_base.specs.Nodes.{Nodes}

@@ -1,7 +1,5 @@
 use Rattle.cordyceps_stable.proofs.Valid.{first_out_keeps}
-use Rattle.std.proofs.Common.{◌≡◌, [], ◌∷◌, ap, sym, ◌∙◌}
-use Rattle.cordyceps_base.specs.Element.{Element}
-use Rattle.cordyceps_tree.proofs.Ones.{element_same}
+use Rattle.std.proofs.Common.{sym, ◌∙◌}
 use Rattle.cordyceps_tree.proofs.tree_map.TreeMap.pop_first.Goals as goal
 
 pub returns-clause-kept : goal.returns-clause-kept
