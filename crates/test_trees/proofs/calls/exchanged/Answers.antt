@@ -9,9 +9,9 @@ use Rattle.cordyceps_base.specs.Spots.{AreDistinct}
 use Rattle.cordyceps_stable.proofs.Holding.{unique}
 use Rattle.test_trees.proofs.calls.exchanged.Goals as goal
 
-pub replace-requires-clause-equal : goal.replace-requires-clause-equal
-replace-requires-clause-equal g c = λ cmp v by (b, id, a, is).
-    let (d, number, z, has) = c.get.ensures in let key = c.get.result.now in
+pub replace-old-requires-clause-equal : goal.replace-old-requires-clause-equal
+replace-old-requires-clause-equal g c = λ cmp v by (b, id, a, is).
+    let (d, number, z, has) = c.get-key.ensures in let key = c.get-key.result.now in
     let same = unique b a d z c.args.spot (record { id = id; value = v }) (record { id = number; value = key }) (sym is ∙ has) (subst (λ n. AreDistinct (spots n)) is c.spots_are_distinct.ensures) in
     let value : v ≡ key = ap (λ (e : Element ℕ). e.value) same.1 in
     (λ i. is_eq ((by i) (value i) (c.make.ensures i))) ∙ self key
