@@ -18,5 +18,7 @@ pub use Rattle.cordyceps_stable.specs.StableLending
 pub use Rattle.cordyceps_stable.specs.Walk
 pub use Rattle.cordyceps_tree.specs.Bounds
 pub use Rattle.cordyceps_tree.specs.Heights
+pub use Rattle.cordyceps_tree.specs.TreeMapLends
+pub use Rattle.cordyceps_tree.specs.TreeMaps
 pub use Rattle.cordyceps_tree.specs.TreeNodeLends
 pub use Rattle.cordyceps_tree.specs.Walks

@@ -44,6 +44,7 @@ pub mod stable_map;
 pub mod stable_sorted_list;
 pub mod stable_tree;
 pub mod stack;
+pub mod tree_map;
 
 pub use cordyceps_base::linked::Linked;
 pub use cordyceps_base::node::{Kind, Node, Refused};
@@ -62,4 +63,5 @@ pub use cordyceps_stack::sorted_list::{SortedList, SortedListIter};
 pub use cordyceps_stack::stack::{Stack, TransferStack};
 pub use cordyceps_tree::node::TreeNode;
 pub use cordyceps_tree::stable_tree::StableTree;
+pub use cordyceps_tree::tree_map::TreeMap;
 pub use replay::Item;
